@@ -1,0 +1,2 @@
+-- The theorems over the model's definitions.
+pub mod Instances

@@ -1,0 +1,38 @@
+-- Document 01's limits and constants, each named once. A change request that moves one moves it here.
+use Prim.Native.Nat.{ℕ, _+_, _*_}
+
+-- "Decks k 1 to 32": the records that a `Sites` value holds.
+abbrev pub mostSites : ℕ
+mostSites = 32
+
+-- "Volume classes run from 0 to 1023": the greatest value. The histogram's length stays shut, so that
+-- no proof unfolds a list of 1024 places; `valueCount` opens it where a number is wanted.
+abbrev pub topValue : ℕ
+topValue = 1023
+
+unfoldable pub valueCount : ℕ
+valueCount = 1024
+
+-- "A deck takes at most 1,000,000,000 draws"; also the largest amount of kinds 6 and 7 and the
+-- largest threshold of a site.
+abbrev pub siteLimit : ℕ
+siteLimit = 1000000000
+
+-- "a number of the desk's memory or record, or the sum in its phase, above 100,000,000,000"
+abbrev pub coordinatorLimit : ℕ
+coordinatorLimit = 100000000000
+
+-- "the bench's message count above 100,000,000,000,000"
+abbrev pub messageLimit : ℕ
+messageLimit = 100000000000000
+
+-- "At most 23 × k + 2 messages follow one draw."
+abbrev pub mostMessages : ℕ → ℕ
+mostMessages sites = 23 * sites + 2
+
+-- Demand 3: "messages ≤ 25 × n", and the factor of "e × messages ≤ 150,000 × k × (digits + 1)".
+abbrev pub messagesPerArrival : ℕ
+messagesPerArrival = 25
+
+abbrev pub allowanceFactor : ℕ
+allowanceFactor = 150000

@@ -1,0 +1,68 @@
+-- Messages: document 01's table of kinds, one maker for each row.
+--
+--   kind  maker                            way
+--   1     itemReport site item amount      to the coordinator
+--   2     countReport site amount value    to the coordinator
+--   3     poll site                        to a site
+--   4     pollAnswer site pending          to the coordinator
+--   5     probe site value                 to a site
+--   6     probeAnswer site value count     to the coordinator
+--   7     announcement site threshold base to a site
+use mathlib.Core.Bool.{Bool, _||_}
+use Prim.Native.Nat.{ℕ}
+use lib.Dec.{eqb}
+use Rattle.model.specs.declared.Message.{Message}
+
+abbrev pub message : ℕ → ℕ → ℕ → ℕ → Message
+message kind site a b = record { kind = kind; site = site; a = a; b = b }
+
+-- Where no message is handed back, the place of one holds zeros.
+abbrev pub noMessage : Message
+noMessage = message 0 0 0 0
+
+abbrev pub itemReport : ℕ → ℕ → ℕ → Message
+itemReport site item amount = message 1 site item amount
+
+abbrev pub countReport : ℕ → ℕ → ℕ → Message
+countReport site amount value = message 2 site amount value
+
+abbrev pub poll : ℕ → Message
+poll site = message 3 site 0 0
+
+abbrev pub pollAnswer : ℕ → ℕ → Message
+pollAnswer site pending = message 4 site pending 0
+
+abbrev pub probe : ℕ → ℕ → Message
+probe site value = message 5 site value 0
+
+abbrev pub probeAnswer : ℕ → ℕ → ℕ → Message
+probeAnswer site value count = message 6 site value count
+
+abbrev pub announcement : ℕ → ℕ → ℕ → Message
+announcement site threshold base = message 7 site threshold base
+
+-- The kind of a message, by its row.
+abbrev pub isItemReport : Message → Bool
+isItemReport m = eqb (m .kind) 1
+
+abbrev pub isCountReport : Message → Bool
+isCountReport m = eqb (m .kind) 2
+
+abbrev pub isPoll : Message → Bool
+isPoll m = eqb (m .kind) 3
+
+abbrev pub isPollAnswer : Message → Bool
+isPollAnswer m = eqb (m .kind) 4
+
+abbrev pub isProbe : Message → Bool
+isProbe m = eqb (m .kind) 5
+
+abbrev pub isProbeAnswer : Message → Bool
+isProbeAnswer m = eqb (m .kind) 6
+
+abbrev pub isAnnouncement : Message → Bool
+isAnnouncement m = eqb (m .kind) 7
+
+-- "way: to desk", the kinds 1, 2, 4 and 6.
+abbrev pub toCoordinator : Message → Bool
+toCoordinator m = isItemReport m || isCountReport m || isPollAnswer m || isProbeAnswer m

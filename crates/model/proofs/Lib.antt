@@ -1,2 +1,3 @@
 -- The theorems over the model's definitions.
+pub mod RefusalLaws
 pub mod Instances

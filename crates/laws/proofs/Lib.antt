@@ -1,0 +1,2 @@
+-- The lemma library: facts on tests, numbers and lists that know nothing of the tracker.
+pub mod Tests

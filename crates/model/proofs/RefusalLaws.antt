@@ -1,0 +1,30 @@
+-- Laws of refusal chains: how a chain that refuses nothing is taken apart.
+--
+--   passed          a row's test failed, and no later row refuses
+--   both-accepted   neither the first part of a chain nor the later refuses
+use mathlib.Core.Path.{_≡_, refl}
+use mathlib.Core.Bool.{Bool, true, false}
+use Prim.Native.Nat.{ℕ, zero, suc, _≤_, _<_}
+use native.Mathlib.Omega.{arith}
+use Rattle.model.specs.Refusals.{when, _orElse_, accepted}
+
+pub record BothAccepted (first later : ℕ) : Type 0 where
+  pub first-accepted : first ≡ accepted
+  pub later-accepted : later ≡ accepted
+
+pub both-accepted : (first later : ℕ) → (first orElse later) ≡ accepted → BothAccepted first later
+both-accepted zero later none = record { first-accepted = refl; later-accepted = none }
+both-accepted (suc first) later none = absurd (omega arith)
+
+pub record Passed (test : Bool) (later : ℕ) : Type 0 where
+  pub test-failed : test ≡ false
+  pub later-accepted : later ≡ accepted
+
+-- A row of a chain with a number of its own: were its test true, the chain would give that number.
+pub passed : (test : Bool) (refusal later : ℕ)
+    → 0 < refusal
+    → (when test refusal orElse later) ≡ accepted
+    → Passed test later
+passed true refusal later positive none =
+    absurd (omega (arith, both-accepted refusal later none .first-accepted))
+passed false refusal later positive none = record { test-failed = refl; later-accepted = none }

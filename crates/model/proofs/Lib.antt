@@ -1,3 +1,8 @@
 -- The theorems over the model's definitions.
 pub mod RefusalLaws
 pub mod Instances
+pub mod Halving
+pub mod DeliverySteps
+pub mod DeliveryMessages
+pub mod DeliveryLoops
+pub mod DeliveryHalvings

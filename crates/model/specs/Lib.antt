@@ -17,3 +17,4 @@ pub mod NetworkMemory
 pub mod Runs
 pub mod Transcript
 pub mod Instances
+pub mod DeliveryClaims

@@ -115,3 +115,100 @@ module _ (settings : Settings) (final : Network) (sites : List Site) (c : Coordi
       (probe-step (n + 2 * r) (probeMessages sites (middle low high) (suc j) (suc r) ++ sent)
       low high j (sumBelow (upToAt (middle low high) sites) j) (omega arith)
       (probes low high n l sent last end r (suc j) (omega arith)))
+
+  -- All sites are asked: from the probe of site 0 on.
+  pub all-probes : (low high n l : ℕ) (sent : List Message)
+      → suc l ≡ settings .sites
+      → Delivers settings final n
+      (probe l (middle low high)
+      ∷ (probeAnswer l (middle low high) (upToAt (middle low high) sites l) ∷ sent))
+      (probeState low high l) (probe l (middle low high) ∷ [])
+      → Delivers settings final (n + 2 * l)
+      (probeMessages sites (middle low high) 0 (settings .sites) ++ sent)
+      (probeState low high 0) (probe 0 (middle low high) ∷ [])
+  all-probes low high n l sent last end =
+      subst
+      (λ (k : ℕ). Delivers settings final (n + 2 * l)
+      (probeMessages sites (middle low high) 0 k ++ sent)
+      (probeState low high 0) (probe 0 (middle low high) ∷ []))
+      last (probes low high n l sent last end l 0 (omega arith))
+
+-- ---- All halvings
+
+module _ (settings : Settings) (final : Network) (sites : List Site) (c : Coordinator)
+  (test : ℕ → Bool)
+  (tests : (v : ℕ)
+    → enough (settings .rank) (c .base) (countUpTo settings sites v) ≡ test v)
+  (n l : ℕ) (sent : List Message) (last : suc l ≡ settings .sites) where
+  -- What is left of the interval low to high, and that its delivery ends as it should.
+  abbrev Halves : ℕ → ℕ → ℕ → Type 0
+  Halves h low high =
+      Delivers settings final n sent
+      (networkOf sites (withQuantile c (halve test h low high) (Announcing 0))) []
+      → Delivers settings final (n + 2 * (settings .sites * h))
+      (halvingMessages sites (settings .sites) test h low high ++ sent)
+      (networkOf sites (narrowed c low high .coordinator))
+      (narrowed c low high .messages)
+
+  -- One value is left: it is the quantile, and the announcements follow.
+  one-left : (h low high : ℕ) → low ≡ high → Halves h low high
+  one-left h low high done later =
+      rw (halvingMessages-done sites (settings .sites) test h low high done, eq-eqb low high done)
+      (more-steps (omega arith) (rw (halve-done test h low high done) at later))
+
+  -- The sum over the sites up to the last is the count that the test asks for.
+  tested : (v : ℕ) (b : Bool) → test v ≡ b
+      → enough (settings .rank) (c .base) (sumBelow (upToAt v sites) (suc l)) ≡ b
+  tested v b is =
+      ap (λ (k : ℕ). enough (settings .rank) (c .base) (sumBelow (upToAt v sites) k)) last
+      ∙ tests v ∙ is
+
+  half-left : (h low high : ℕ)
+      → low < high
+      → (b : Bool) → test (middle low high) ≡ b
+      → Halves h low (middle low high)
+      → Halves h (middle low high + 1) high
+      → Halves (suc h) low high
+  half-left h low high wide true holds in-lower in-upper later =
+      let k : ℕ = settings .sites in
+      let messages : List Message = halvingMessages sites k test h low (middle low high) ++ sent in
+      let rest = in-lower (rw (halve-lower test h low high wide holds) at later) in
+      let answer = probe-lower settings final sites c (n + 2 * (k * h)) messages low high l _ last
+      (tested (middle low high) true holds) rest in
+      rw (halvingMessages-lower sites k test h low high wide holds, append-assoc,
+      ne-eqb low high (λ done. omega arith))
+      (more-steps (omega (arith, ap (λ (x : ℕ). x * h) last))
+      (all-probes settings final sites c low high (n + 2 * (k * h) + 2) l messages last answer))
+  half-left h low high wide false fails in-lower in-upper later =
+      let k : ℕ = settings .sites in
+      let messages : List Message =
+      halvingMessages sites k test h (middle low high + 1) high ++ sent in
+      let rest = in-upper (rw (halve-upper test h low high wide fails) at later) in
+      let answer = probe-upper settings final sites c (n + 2 * (k * h)) messages low high l _ last
+      (tested (middle low high) false fails) rest in
+      rw (halvingMessages-upper sites k test h low high wide fails, append-assoc,
+      ne-eqb low high (λ done. omega arith))
+      (more-steps (omega (arith, ap (λ (x : ℕ). x * h) last))
+      (all-probes settings final sites c low high (n + 2 * (k * h) + 2) l messages last answer))
+
+  -- From any interval of at most 2 ^ h values: what remains is the quantile.
+  pub halvings-end : (h low high : ℕ)
+      → low ≤ high
+      → high < low + 2 ^ h
+      → Halves h low high
+  halvings-end zero low high ordered narrow = one-left zero low high (omega arith)
+  halvings-end (suc h) low high ordered narrow =
+      by-width (eqb low high) refl
+      (halvings-end h low (middle low high)) (halvings-end h (middle low high + 1) high)
+    where
+      by-width : (done : Bool) → eqb low high ≡ done
+          → (low ≤ middle low high → middle low high < low + 2 ^ h
+              → Halves h low (middle low high))
+          → (middle low high + 1 ≤ high → high < middle low high + 1 + 2 ^ h
+              → Halves h (middle low high + 1) high)
+          → Halves (suc h) low high
+      by-width true same in-lower in-upper = one-left (suc h) low high (eqb-true low high same)
+      by-width false differ in-lower in-upper =
+          let wide : low < high = omega (arith, eqb-false low high differ) in
+          half-left h low high wide (test (middle low high)) refl
+          (in-lower (omega arith) (omega arith)) (in-upper (omega arith) (omega arith))

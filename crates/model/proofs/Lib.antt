@@ -6,3 +6,5 @@ pub mod DeliverySteps
 pub mod DeliveryMessages
 pub mod DeliveryLoops
 pub mod DeliveryHalvings
+pub mod DeliveryClose
+pub mod AfterArrival

@@ -74,14 +74,19 @@ length-closeMessagesOne settings sites base =
 pub length-closeMessagesMore : (settings : Settings) (sites : List Site) (base : ℕ)
     → length (closeMessagesMore settings sites base) ≡ 23 * settings .sites
 length-closeMessagesMore settings sites base =
-    rw (length-append, length-append, length-exchanges, length-announcements,
-    length-halvingMessages (sitesPolled settings sites) (settings .sites)
-    (enoughAt settings sites base) 10 0 topValue refl) (omega arith)
+    rw (
+      length-append,
+      length-append,
+      length-exchanges,
+      length-announcements,
+      length-halvingMessages (sitesPolled settings sites) (settings .sites)
+          (enoughAt settings sites base) 10 0 topValue refl,
+    ) (omega arith)
 
 -- ---- The close's delivery
 
 module _ (settings : Settings) (sites : List Site) (c : Coordinator) (total l : ℕ)
-  (last : suc l ≡ settings .sites) where
+    (last : suc l ≡ settings .sites) where
   abbrev base : ℕ
   base = baseOf settings sites total
 

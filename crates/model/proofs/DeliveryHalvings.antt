@@ -136,10 +136,10 @@ module _ (settings : Settings) (final : Network) (sites : List Site) (c : Coordi
 -- ---- All halvings
 
 module _ (settings : Settings) (final : Network) (sites : List Site) (c : Coordinator)
-  (test : ℕ → Bool)
-  (tests : (v : ℕ)
+    (test : ℕ → Bool)
+    (tests : (v : ℕ)
     → enough (settings .rank) (c .base) (countUpTo settings sites v) ≡ test v)
-  (n l : ℕ) (sent : List Message) (last : suc l ≡ settings .sites) where
+    (n l : ℕ) (sent : List Message) (last : suc l ≡ settings .sites) where
   -- What is left of the interval low to high, and that its delivery ends as it should.
   abbrev Halves : ℕ → ℕ → ℕ → Type 0
   Halves h low high =
@@ -175,8 +175,11 @@ module _ (settings : Settings) (final : Network) (sites : List Site) (c : Coordi
       let rest = in-lower (rw (halve-lower test h low high wide holds) at later) in
       let answer = probe-lower settings final sites c (n + 2 * (k * h)) messages low high l _ last
       (tested (middle low high) true holds) rest in
-      rw (halvingMessages-lower sites k test h low high wide holds, append-assoc,
-      ne-eqb low high (λ done. omega arith))
+      rw (
+        halvingMessages-lower sites k test h low high wide holds,
+        append-assoc,
+        ne-eqb low high (λ done. omega arith),
+      )
       (more-steps (omega (arith, ap (λ (x : ℕ). x * h) last))
       (all-probes settings final sites c low high (n + 2 * (k * h) + 2) l messages last answer))
   half-left h low high wide false fails in-lower in-upper later =
@@ -186,8 +189,11 @@ module _ (settings : Settings) (final : Network) (sites : List Site) (c : Coordi
       let rest = in-upper (rw (halve-upper test h low high wide fails) at later) in
       let answer = probe-upper settings final sites c (n + 2 * (k * h)) messages low high l _ last
       (tested (middle low high) false fails) rest in
-      rw (halvingMessages-upper sites k test h low high wide fails, append-assoc,
-      ne-eqb low high (λ done. omega arith))
+      rw (
+        halvingMessages-upper sites k test h low high wide fails,
+        append-assoc,
+        ne-eqb low high (λ done. omega arith),
+      )
       (more-steps (omega (arith, ap (λ (x : ℕ). x * h) last))
       (all-probes settings final sites c low high (n + 2 * (k * h) + 2) l messages last answer))
 
@@ -203,9 +209,9 @@ module _ (settings : Settings) (final : Network) (sites : List Site) (c : Coordi
     where
       by-width : (done : Bool) → eqb low high ≡ done
           → (low ≤ middle low high → middle low high < low + 2 ^ h
-              → Halves h low (middle low high))
+          → Halves h low (middle low high))
           → (middle low high + 1 ≤ high → high < middle low high + 1 + 2 ^ h
-              → Halves h (middle low high + 1) high)
+          → Halves h (middle low high + 1) high)
           → Halves (suc h) low high
       by-width true same in-lower in-upper = one-left (suc h) low high (eqb-true low high same)
       by-width false differ in-lower in-upper =

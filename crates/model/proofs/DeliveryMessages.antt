@@ -54,10 +54,10 @@ halvingMessages sites k test (suc h) low high =
     elim (eqb low high) [
       | true ↦ []
       | false ↦ probeMessages sites (middle low high) 0 k
-      ++ elim (test (middle low high)) [
-        | true ↦ halvingMessages sites k test h low (middle low high)
-        | false ↦ halvingMessages sites k test h (middle low high + 1) high
-      ]
+          ++ elim (test (middle low high)) [
+            | true ↦ halvingMessages sites k test h low (middle low high)
+            | false ↦ halvingMessages sites k test h (middle low high + 1) high
+          ]
     ]
 
 module _ (sites : List Site) (k : ℕ) (test : ℕ → Bool) where

@@ -7,4 +7,6 @@ pub mod DeliveryMessages
 pub mod DeliveryLoops
 pub mod DeliveryHalvings
 pub mod DeliveryClose
+pub mod ArrivalParts
 pub mod AfterArrival
+pub mod ClosedSites

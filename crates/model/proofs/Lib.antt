@@ -1,3 +1,4 @@
 -- The theorems over the model's definitions.
 pub mod RefusalLaws
+pub mod Halving
 pub mod Instances

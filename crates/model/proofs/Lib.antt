@@ -1,4 +1,6 @@
 -- The theorems over the model's definitions.
 pub mod RefusalLaws
 pub mod Halving
+pub mod Digits
+pub mod Threshold
 pub mod Instances

@@ -3,4 +3,5 @@ pub mod RefusalLaws
 pub mod Halving
 pub mod Digits
 pub mod Threshold
+pub mod Rounds
 pub mod Instances

@@ -4,4 +4,6 @@ pub mod Halving
 pub mod Digits
 pub mod Threshold
 pub mod Rounds
+pub mod CounterLaws
+pub mod DistinctItems
 pub mod Instances

@@ -6,4 +6,5 @@ pub mod Threshold
 pub mod Rounds
 pub mod CounterLaws
 pub mod DistinctItems
+pub mod SpaceSaving
 pub mod Instances

@@ -7,4 +7,6 @@ pub mod Rounds
 pub mod CounterLaws
 pub mod DistinctItems
 pub mod SpaceSaving
+pub mod Counting
+pub mod Reporting
 pub mod Instances

@@ -22,7 +22,8 @@ pub mul-gap : {a c t t′ : ℕ} → a ≤ c → t ≤ t′ → a * t′ + c * t
 mul-gap {a} {c} {t} {t′} a≤c t≤t′ =
     let c-is : a + (c - a) ≡ c = omega arith in
     let t′-is : t + (t′ - t) ≡ t′ = omega arith in
-    subst₂ (λ (x y : ℕ). a * y + x * t ≤ a * t + x * y) c-is t′-is (gap-of-sums a (c - a) t (t′ - t))
+    subst₂ (λ (x y : ℕ). a * y + x * t ≤ a * t + x * y) c-is t′-is
+    (gap-of-sums a (c - a) t (t′ - t))
 
 -- From a * t + u ≤ c * t follows a ≤ c, and then u ≤ (c - a) * t ≤ (c - a) * t′.
 pub bound-of-larger : (a u c t t′ : ℕ)

@@ -1,5 +1,14 @@
 -- The theorems over the model's definitions.
 pub mod RefusalLaws
+pub mod Halving
+pub mod Digits
+pub mod Threshold
+pub mod Rounds
+pub mod CounterLaws
+pub mod DistinctItems
+pub mod SpaceSaving
+pub mod Counting
+pub mod Reporting
 pub mod Instances
 pub mod Halving
 pub mod DeliverySteps

@@ -9,8 +9,6 @@ pub mod DistinctItems
 pub mod SpaceSaving
 pub mod Counting
 pub mod Reporting
-pub mod Instances
-pub mod Halving
 pub mod DeliverySteps
 pub mod DeliveryMessages
 pub mod DeliveryLoops
@@ -19,3 +17,4 @@ pub mod DeliveryClose
 pub mod ArrivalParts
 pub mod AfterArrival
 pub mod ClosedSites
+pub mod Instances

@@ -17,4 +17,5 @@ pub mod DeliveryClose
 pub mod ArrivalParts
 pub mod AfterArrival
 pub mod ClosedSites
+pub mod DeliveryTheorem
 pub mod Instances

@@ -15,5 +15,6 @@ pub mod Reading
 pub mod Network
 pub mod NetworkMemory
 pub mod Runs
+pub mod Claims
 pub mod Transcript
 pub mod Instances

@@ -9,4 +9,6 @@ pub mod DistinctItems
 pub mod SpaceSaving
 pub mod Counting
 pub mod Reporting
+pub mod ArrivalLaws
+pub mod SiteInvariant
 pub mod Instances

@@ -3,3 +3,4 @@ pub mod Tests
 pub mod Arithmetic
 pub mod Lists
 pub mod Sums
+pub mod Updates

@@ -11,4 +11,12 @@ pub mod Counting
 pub mod Reporting
 pub mod ArrivalLaws
 pub mod SiteInvariant
+pub mod DeliverySteps
+pub mod DeliveryMessages
+pub mod DeliveryLoops
+pub mod DeliveryHalvings
+pub mod DeliveryClose
+pub mod ArrivalParts
+pub mod AfterArrival
+pub mod ClosedSites
 pub mod Instances

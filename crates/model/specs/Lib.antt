@@ -18,3 +18,4 @@ pub mod Runs
 pub mod Claims
 pub mod Transcript
 pub mod Instances
+pub mod DeliveryClaims

@@ -19,4 +19,5 @@ pub mod DeliveryClose
 pub mod ArrivalParts
 pub mod AfterArrival
 pub mod ClosedSites
+pub mod SitesInvariant
 pub mod Instances

@@ -20,4 +20,5 @@ pub mod ArrivalParts
 pub mod AfterArrival
 pub mod ClosedSites
 pub mod SitesInvariant
+pub mod QuantileLaws
 pub mod Instances

@@ -2,4 +2,6 @@
 pub mod RefusalLaws
 pub mod SettingsLaws
 pub mod Digits
+pub mod DecimalLaws
+pub mod LineLaws
 pub mod Instances

@@ -1,7 +1,10 @@
 -- The theorems over the model's definitions.
 pub mod RefusalLaws
-pub mod Halving
+pub mod SettingsLaws
 pub mod Digits
+pub mod DecimalLaws
+pub mod LineLaws
+pub mod Halving
 pub mod Threshold
 pub mod Rounds
 pub mod CounterLaws

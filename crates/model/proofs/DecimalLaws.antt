@@ -22,7 +22,7 @@ digit-within byte digit = within-of-between 48 byte 57 digit
 pub more-digits-on : (more value byte : ℕ) (rest : List ℕ)
     → isDigit byte ≡ true
     → moreDigits (suc more) value (byte ∷ rest)
-      ≡ moreDigits more (10 * value + digitValue byte) rest
+    ≡ moreDigits more (10 * value + digitValue byte) rest
 more-digits-on more value byte rest digit = rw (digit, moreDigits)
 
 pub more-digits-stop : (more value byte : ℕ) (rest : List ℕ)
@@ -72,4 +72,4 @@ pub decimal-large : (n : ℕ)
 decimal-large n large =
     decimal-within-large n n large
     ∙ ap (λ (digits : List ℕ). digits ++ (digitByte (n % 10) ∷ []))
-      (decimal-within-enough n (suc (n / 10)) (n / 10) (omega arith) (omega arith))
+    (decimal-within-enough n (suc (n / 10)) (n / 10) (omega arith) (omega arith))

@@ -24,4 +24,6 @@ pub mod AfterArrival
 pub mod ClosedSites
 pub mod SitesInvariant
 pub mod QuantileLaws
+pub mod NetworkInvariant
+pub mod NetworkArrival
 pub mod Instances

@@ -1,68 +1,70 @@
--- Binary digits (document 01: "as many as the halvings, each rounded down, that bring n to 0").
+-- Binary digits: "as many as the halvings, each rounded down, that bring n to 0" (PROOF.md, 6).
 --
---   digits-mono      a larger number has no fewer digits
---   digits-half      one digit more than the half
---   digits-twice     twice a number, or more: at least one digit more
-use mathlib.Core.Path.{_≡_, refl, sym, ap, _∙_}
-use Prim.Native.Nat.{ℕ, zero, suc, _+_, _-_, _*_, _/_, _≤_, _<_}
+--   digits-half      a positive number has one digit more than its half
+--   digits-double    twice a positive number has one digit more
+--   digits-le        a greater number has no fewer digits
+--   digits-twice     a number at least twice another has a digit more than that
+--   digits-bound     a number below 2 ^ m has at most m digits
+use mathlib.Core.Path.{_≡_, refl, ap, _∙_}
+use Prim.Native.Nat.{ℕ, zero, suc, _+_, _*_, _/_, _^_, _≤_, _<_}
+use native.Mathlib.Nat.{pow-suc}
 use native.Mathlib.Omega.{arith}
-use lib.Dec.{eqb, eqb·suc-zero}
+use lib.Dec.{eqb·suc-zero}
 use Rattle.model.specs.Settings.{digits, digitsWithin}
 
--- ---- The halvings that are allowed
+-- ---- Within a number of halvings
 
-digitsWithin-zero : (allowed : ℕ) → digitsWithin allowed 0 ≡ 0
-digitsWithin-zero zero = refl
-digitsWithin-zero (suc allowed) = refl
+digits-within-suc : (more n : ℕ)
+    → digitsWithin (suc more) (suc n) ≡ suc (digitsWithin more (suc n / 2))
+digits-within-suc more n = rw (eqb·suc-zero n, digitsWithin)
 
-digitsWithin-suc : (allowed n : ℕ)
-    → digitsWithin (suc allowed) (suc n) ≡ suc (digitsWithin allowed (suc n / 2))
-digitsWithin-suc allowed n = rw (eqb·suc-zero n, digitsWithin)
+digits-within-zero : (more : ℕ) → digitsWithin more 0 ≡ 0
+digits-within-zero zero = refl
+digits-within-zero (suc more) = refl
 
--- More halvings allowed and a larger number: no fewer digits.
-digitsWithin-mono : (allowed allowed′ m n : ℕ)
-    → allowed ≤ allowed′
-    → m ≤ n
-    → digitsWithin allowed m ≤ digitsWithin allowed′ n
-digitsWithin-mono zero allowed′ m n more m≤n = omega arith
-digitsWithin-mono (suc allowed) zero m n more m≤n = absurd (omega arith)
-digitsWithin-mono (suc allowed) (suc allowed′) zero n more m≤n = omega arith
-digitsWithin-mono (suc allowed) (suc allowed′) (suc m) zero more m≤n = absurd (omega arith)
-digitsWithin-mono (suc allowed) (suc allowed′) (suc m) (suc n) more m≤n =
-    rw (digitsWithin-suc allowed m, digitsWithin-suc allowed′ n)
-    (omega (
-      arith,
-      digitsWithin-mono allowed allowed′ (suc m / 2) (suc n / 2) (omega arith) (omega arith),
-    ))
+-- More halvings allowed, or a greater number: no fewer digits.
+digits-within-le : (l l′ m n : ℕ) → l ≤ l′ → m ≤ n → digitsWithin l m ≤ digitsWithin l′ n
+digits-within-le zero l′ m n h k = omega arith
+digits-within-le (suc l) zero m n h k = absurd (omega arith)
+digits-within-le (suc l) (suc l′) zero n h k = omega arith
+digits-within-le (suc l) (suc l′) (suc m) zero h k = absurd (omega arith)
+digits-within-le (suc l) (suc l′) (suc m) (suc n) h k =
+    rw (digits-within-suc l m, digits-within-suc l′ n)
+    (omega (arith, digits-within-le l l′ (suc m / 2) (suc n / 2) (omega arith) (omega arith)))
 
--- Once n halvings are allowed, the number alone decides.
-digitsWithin-enough : (allowed allowed′ n : ℕ)
-    → n ≤ allowed
-    → n ≤ allowed′
-    → digitsWithin allowed n ≡ digitsWithin allowed′ n
-digitsWithin-enough zero allowed′ zero enough enough′ = sym (digitsWithin-zero allowed′)
-digitsWithin-enough zero allowed′ (suc n) enough enough′ = absurd (omega arith)
-digitsWithin-enough (suc allowed) allowed′ zero enough enough′ = sym (digitsWithin-zero allowed′)
-digitsWithin-enough (suc allowed) zero (suc n) enough enough′ = absurd (omega arith)
-digitsWithin-enough (suc allowed) (suc allowed′) (suc n) enough enough′ =
-    rw (digitsWithin-suc allowed n, digitsWithin-suc allowed′ n)
-    (ap suc (digitsWithin-enough allowed allowed′ (suc n / 2) (omega arith) (omega arith)))
+-- With n halvings or more the number alone decides.
+digits-within-enough : (l l′ n : ℕ) → n ≤ l → n ≤ l′ → digitsWithin l n ≡ digitsWithin l′ n
+digits-within-enough zero l′ zero h k = rw (digits-within-zero l′)
+digits-within-enough zero l′ (suc n) h k = absurd (omega arith)
+digits-within-enough (suc l) l′ zero h k = rw (digits-within-zero l′)
+digits-within-enough (suc l) zero (suc n) h k = absurd (omega arith)
+digits-within-enough (suc l) (suc l′) (suc n) h k =
+    rw (digits-within-suc l n, digits-within-suc l′ n)
+    (ap suc (digits-within-enough l l′ (suc n / 2) (omega arith) (omega arith)))
 
 -- ---- Digits
 
-pub digits-mono : {m n : ℕ} → m ≤ n → digits m ≤ digits n
-digits-mono {m} {n} m≤n = digitsWithin-mono m n m n m≤n m≤n
+pub digits-le : {m n : ℕ} → m ≤ n → digits m ≤ digits n
+digits-le {m} {n} h = digits-within-le m n m n h h
 
-pub digits-half : (n : ℕ) → 1 ≤ n → digits n ≡ digits (n / 2) + 1
-digits-half zero positive = absurd (omega arith)
-digits-half (suc n) positive =
-    omega (
-      arith,
-      digitsWithin-suc n n,
-      digitsWithin-enough n (suc n / 2) (suc n / 2) (omega arith) (omega arith),
-    )
+pub digits-half : (n : ℕ) → 1 ≤ n → digits n ≡ suc (digits (n / 2))
+digits-half zero h = absurd (omega arith)
+digits-half (suc n) h =
+    digits-within-suc n n
+    ∙ ap suc (digits-within-enough n (suc n / 2) (suc n / 2) (omega arith) (omega arith))
 
-pub digits-twice : {a n : ℕ} → 1 ≤ a → 2 * a ≤ n → digits a + 1 ≤ digits n
-digits-twice {a} {n} positive twice =
-    let half : a ≤ n / 2 = omega arith in
-    omega (arith, digits-half n (omega arith), digits-mono half)
+pub digits-double : (n : ℕ) → 1 ≤ n → digits (2 * n) ≡ suc (digits n)
+digits-double n h =
+    let half : 2 * n / 2 ≡ n = omega arith in
+    digits-half (2 * n) (omega arith) ∙ ap (λ (x : ℕ). suc (digits x)) half
+
+pub digits-twice : {m n : ℕ} → 1 ≤ m → 2 * m ≤ n → suc (digits m) ≤ digits n
+digits-twice {m} {n} h k = omega (arith, digits-double m h, digits-le k)
+
+pub digits-bound : (m n : ℕ) → n < 2 ^ m → digits n ≤ m
+digits-bound zero zero h = omega arith
+digits-bound zero (suc n) h = absurd (omega arith)
+digits-bound (suc m) zero h = omega arith
+digits-bound (suc m) (suc n) h =
+    let half : suc n / 2 < 2 ^ m = omega (arith, pow-suc 2 m) in
+    omega (arith, digits-half (suc n) (omega arith), digits-bound m (suc n / 2) half)

@@ -1,7 +1,10 @@
 -- The theorems over the model's definitions.
 pub mod RefusalLaws
-pub mod Halving
+pub mod SettingsLaws
 pub mod Digits
+pub mod DecimalLaws
+pub mod LineLaws
+pub mod Halving
 pub mod Threshold
 pub mod Rounds
 pub mod CounterLaws
@@ -9,6 +12,8 @@ pub mod DistinctItems
 pub mod SpaceSaving
 pub mod Counting
 pub mod Reporting
+pub mod ArrivalLaws
+pub mod SiteInvariant
 pub mod DeliverySteps
 pub mod DeliveryMessages
 pub mod DeliveryLoops
@@ -18,4 +23,8 @@ pub mod ArrivalParts
 pub mod AfterArrival
 pub mod ClosedSites
 pub mod DeliveryTheorem
+pub mod SitesInvariant
+pub mod QuantileLaws
+pub mod NetworkInvariant
+pub mod NetworkArrival
 pub mod Instances

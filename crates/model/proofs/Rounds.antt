@@ -17,7 +17,7 @@ use native.Mathlib.Omega.{arith}
 use native.Mathlib.Decide.{decLt}
 use Rattle.laws.proofs.Arithmetic.{mul-gap, bound-of-larger}
 use Rattle.model.specs.Settings.{digits}
-use Rattle.model.proofs.Digits.{digits-mono, digits-twice}
+use Rattle.model.proofs.Digits.{digits-le, digits-twice}
 
 -- ---- The account
 
@@ -147,7 +147,7 @@ stage-first : (k e t b : ℕ)
     → Stage k e t b 1
 stage-first k e t b some-site e-le two low high =
     let six : 6 ≤ b = omega (arith, mul-le-mul some-site two, mul-le-mul-right b e-le) in
-    late b 0 two high (omega arith) (omega arith) (omega arith) (digits-mono {m = 6} {n = b} six)
+    late b 0 two high (omega arith) (omega arith) (omega arith) (digits-le {m = 6} {n = b} six)
     (omega arith)
 
 -- A later close, from base b to base n with 4500 × (n - b) ≥ 4500 × k × t ≥ e × b ≥ e × a. While
@@ -172,7 +172,7 @@ stage-next {k} {e} {t} {b} {closes} t′ n e-le grows two′ high two
     by-anchor (yes below) =
         late a g two′ high some (omega arith) below long (omega (arith, mul-le-mul-left e a≤b))
     by-anchor (no doubled) =
-        let longer : digits a + 1 ≤ digits n =
+        let longer : suc (digits a) ≤ digits n =
         digits-twice {n = n} some (omega arith) in
         late n (g + 1) two′ high (omega arith) (omega arith) (omega arith) (omega arith)
         (omega (arith, mul-le-mul-right n few, mul-le-mul-right n e-le))
@@ -284,7 +284,7 @@ module _ {k e ρ : ℕ} {x : Figures}
   probing-few (late a g two top some a≤b b<2a long paid) =
       let few : e * account .closesProbing ≤ 5500 * g + e + 4500 =
       le-of-mul-le-mul-right {k = a} (omega arith) some in
-      omega (arith, digits-mono {m = a} {n = x .arrivals} (omega arith))
+      omega (arith, digits-le {m = a} {n = x .arrivals} (omega arith))
 
   -- messages ≤ 6 × k × quiet + (6 + ρ) × k × probing + 3 × k, times e: at most
   -- 36,000 × k + (6 + ρ) × 5500 × k × digits + 3000 × k.

@@ -28,3 +28,5 @@ pub mod QuantileLaws
 pub mod NetworkInvariant
 pub mod NetworkArrival
 pub mod Instances
+pub mod SoundCounters
+pub mod SoundSites

@@ -30,3 +30,7 @@ pub mod NetworkArrival
 pub mod Instances
 pub mod SoundCounters
 pub mod SoundSites
+pub mod CoordinatorSound
+pub mod Together
+pub mod Stages
+pub mod AcceptedMessages

@@ -3,7 +3,7 @@
 --
 --   ArrivalTaken           what an accepted arrival is known to be, at a site with room
 --   sound-fresh            a fresh site
---   sound-observed         an arrival; its amounts: item-report-amount, count-report-amount
+--   sound-observed         an arrival; what moves then: pending-moves, unreported-moves
 --   sound-polled           kind 3; sound-told kind 7 (kind 5 changes nothing)
 --   upTo-within            kind 6 never counts more than the site's arrivals
 use mathlib.Core.Path.{_≡_, refl, sym, ap, _∙_}

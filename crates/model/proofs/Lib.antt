@@ -34,3 +34,5 @@ pub mod CoordinatorSound
 pub mod Together
 pub mod Stages
 pub mod AcceptedMessages
+pub mod ReportStage
+pub mod PollStage

@@ -8,12 +8,14 @@
 --   Announces    some kinds 7 wait, in order; per site: it has the new threshold or its kind 7 is
 --                still to come
 --   Stage        one of them
+--   StageAfter   a stage after a call on the coordinator
+--   HandedOn     the head is accepted, and what follows is a stage again
 -- Letters: k the sites, j the site that the phase names, i the first site whose kind 7 waits, w how
 -- many wait, h halvings.
 use mathlib.Core.Path.{_≡_}
 use mathlib.Core.Bool.{Bool, true, false}
 use mathlib.Core.List.{List, [], _∷_, _++_}
-use Prim.Native.Nat.{ℕ, _+_, _*_, _^_, _≤_, _<_}
+use Prim.Native.Nat.{ℕ, _+_, _-_, _*_, _^_, _≤_, _<_}
 use lib.Dec.{ltb}
 use Rattle.model.specs.declared.Settings.{Settings}
 use Rattle.model.specs.declared.Message.{Message}
@@ -22,8 +24,10 @@ use Rattle.model.specs.declared.Phase.the-variants.{Idle, Collecting, Pr
 use Rattle.model.specs.Choice.{if_then_else_}
 use Rattle.model.specs.Limits.{topValue, siteLimit}
 use Rattle.model.specs.Messages.{itemReport, countReport, poll, pollAnswer, probe, probeAnswer}
-use Rattle.model.specs.Coordinator.{middle}
-use Rattle.model.specs.Network.{Network}
+use Rattle.model.specs.Coordinator.{CoordinatorStep, middle}
+use Rattle.model.specs.Refusals.{accepted}
+use Rattle.model.specs.Network.{Network, withCoordinator, handOver}
+use Rattle.model.specs.DeliveryClaims.{messageRefusal}
 use Rattle.model.specs.SoundNetwork.{ClosingAt, HalvingAt}
 use Rattle.model.proofs.DeliveryMessages.{announcements}
 use Rattle.model.proofs.Together.{Together}
@@ -120,3 +124,18 @@ pub data Stage (settings : Settings) (network : Network) (waiting : List Message
   polling : Polls settings network waiting left → Stage settings network waiting left
   halving : Probes settings network waiting left → Stage settings network waiting left
   announcing : Announces settings network waiting left → Stage settings network waiting left
+
+-- ---- A step
+
+-- The stage when the coordinator is as a call left it, and the call's messages wait last.
+abbrev pub StageAfter : Settings → Network → List Message → ℕ → CoordinatorStep → Type 0
+StageAfter settings network waiting left after =
+    Stage settings (withCoordinator network (after .coordinator)) (waiting ++ after .messages) left
+
+-- The head of the queue is accepted by whom it is for, and the delivery goes on to another stage.
+pub record HandedOn (settings : Settings) (network : Network) (m : Message)
+    (waiting : List Message) (left : ℕ) : Type 0 where
+  pub some-left : 1 ≤ left
+  pub head-accepted : messageRefusal settings network m ≡ accepted
+  pub next : Stage settings (handOver settings network m .network)
+      (waiting ++ handOver settings network m .messages) (left - 1)

@@ -36,3 +36,4 @@ pub mod Stages
 pub mod AcceptedMessages
 pub mod ReportStage
 pub mod PollStage
+pub mod ProbeStage

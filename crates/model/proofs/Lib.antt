@@ -37,3 +37,4 @@ pub mod AcceptedMessages
 pub mod ReportStage
 pub mod PollStage
 pub mod ProbeStage
+pub mod AnnounceStage

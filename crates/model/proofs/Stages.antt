@@ -10,6 +10,7 @@
 --   Stage        one of them
 --   StageAfter   a stage after a call on the coordinator
 --   HandedOn     the head is accepted, and what follows is a stage again
+--   AskedOn      the same for a kind 7 that is asked for
 -- Letters: k the sites, j the site that the phase names, i the first site whose kind 7 waits, w how
 -- many wait, h halvings.
 use mathlib.Core.Path.{_≡_}
@@ -26,7 +27,7 @@ use Rattle.model.specs.Limits.{topValue, siteLimit}
 use Rattle.model.specs.Messages.{itemReport, countReport, poll, pollAnswer, probe, probeAnswer}
 use Rattle.model.specs.Coordinator.{CoordinatorStep, middle}
 use Rattle.model.specs.Refusals.{accepted}
-use Rattle.model.specs.Network.{Network, withCoordinator, handOver}
+use Rattle.model.specs.Network.{Network, withCoordinator, handOver, askAnnouncement}
 use Rattle.model.specs.DeliveryClaims.{messageRefusal}
 use Rattle.model.specs.SoundNetwork.{ClosingAt, HalvingAt}
 use Rattle.model.proofs.DeliveryMessages.{announcements}
@@ -139,3 +140,10 @@ pub record HandedOn (settings : Settings) (network : Network) (m : Message)
   pub head-accepted : messageRefusal settings network m ≡ accepted
   pub next : Stage settings (handOver settings network m .network)
       (waiting ++ handOver settings network m .messages) (left - 1)
+
+-- The next kind 7 is asked for: it waits last.
+pub record AskedOn (settings : Settings) (network : Network) (waiting : List Message) (left : ℕ)
+    : Type 0 where
+  pub some-left : 1 ≤ left
+  pub next : Stage settings (askAnnouncement settings network .network)
+      (waiting ++ askAnnouncement settings network .messages) (left - 1)

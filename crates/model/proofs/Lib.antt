@@ -38,3 +38,5 @@ pub mod ReportStage
 pub mod PollStage
 pub mod ProbeStage
 pub mod AnnounceStage
+pub mod MidDelivery
+pub mod SoundStages

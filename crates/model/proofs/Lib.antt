@@ -40,3 +40,4 @@ pub mod ProbeStage
 pub mod AnnounceStage
 pub mod MidDelivery
 pub mod SoundStages
+pub mod SoundTheorem

@@ -45,9 +45,12 @@ together-of-sound {settings} {network} sound = record {
   numbers = sound .coordinator-sound .numbers;
   informed-same = sound .same-threshold;
   thresholds-below = λ j j<. omega (arith, sound .same-threshold j j<);
-  all-counted = omega (arith, sound .all-counted,
-      sumBelow-allPending settings (network .sites) (sound .all-sites),
-      sumBelow-allArrivals settings (network .sites) (sound .all-sites));
+  all-counted = omega (
+    arith,
+    sound .all-counted,
+    sumBelow-allPending settings (network .sites) (sound .all-sites),
+    sumBelow-allArrivals settings (network .sites) (sound .all-sites),
+  );
 }
 
 pub sound-of-together : {settings : Settings} {network : Network}
@@ -61,9 +64,12 @@ sound-of-together {settings} {network} together idle few = record {
   coordinator-sound = record { numbers = together .numbers; phase-sound = rw idle few };
   idle = idle;
   same-threshold = together .informed-same;
-  all-counted = omega (arith, together .all-counted,
-      sumBelow-allPending settings (network .sites) (together .all-sites),
-      sumBelow-allArrivals settings (network .sites) (together .all-sites));
+  all-counted = omega (
+    arith,
+    together .all-counted,
+    sumBelow-allPending settings (network .sites) (together .all-sites),
+    sumBelow-allArrivals settings (network .sites) (together .all-sites),
+  );
 }
 
 pub few-signals : {settings : Settings} {network : Network}
@@ -74,8 +80,8 @@ few-signals sound = rw (sound .idle) at (sound .coordinator-sound .phase-sound)
 -- ---- The stage that an arrival begins
 
 module _ {settings : Settings} {network : Network} {arrival : Arrival}
-  (fit : Settled settings) (sound : Sound settings network)
-  (taken : ArrivalTaken settings (siteAt network (arrival .site)) arrival) where
+    (fit : Settled settings) (sound : Sound settings network)
+    (taken : ArrivalTaken settings (siteAt network (arrival .site)) arrival) where
   abbrev site : Site
   site = siteAt network (arrival .site)
 

@@ -26,4 +26,5 @@ pub mod SitesInvariant
 pub mod QuantileLaws
 pub mod NetworkInvariant
 pub mod NetworkArrival
+pub mod NetworkClose
 pub mod Instances

@@ -1,10 +1,9 @@
 -- An accepted arrival keeps what holds of a network between arrivals (PROOF.md sections 3 and 6), as far
 -- as the arrival's own messages go; NetworkClose has the close.
 --
---   Arriving             a network at rest and an arrival that is known
 --   sites-then           the sites when the arrival is observed
 --   estimates-then       N3 after the item report, if one is due
---   figures-silent, account-signal   the account with no count report, or with one
+--   account-then         the account with no count report, or with one
 --   kept-silent, kept-signal         the whole, where the round is not closed
 use mathlib.Core.Path.{_≡_, refl, sym, ap, _∙_}
 use mathlib.Core.Bool.{Bool, true, false}
@@ -177,7 +176,7 @@ module _ {settings : Settings} {network : Network}
       )
 
   -- The figures after the arrival, with these signals.
-  abbrev figuresThen : ℕ → Figures
+  abbrev pub figuresThen : ℕ → Figures
   figuresThen signals = record {
     threshold = network .coordinator .threshold;
     base = network .coordinator .base;
@@ -188,7 +187,7 @@ module _ {settings : Settings} {network : Network}
     messages = length messagesThen;
   }
 
-  account-then : (countDue : Bool) → reportsCount site ≡ countDue
+  pub account-then : (countDue : Bool) → reportsCount site ≡ countDue
       → Account (settings .sites) (settings .epsilon) probingMessages
       (figuresThen (network .coordinator .signals + when countDue 1))
   account-then countDue is-due =
@@ -214,3 +213,62 @@ module _ {settings : Settings} {network : Network}
         messages-move =
             omega (arith, messages-length, ap (λ (due : Bool). when due 1) is-due);
       })
+
+  -- ---- The round goes on
+
+  -- At threshold 1 every arrival has a count report, with its value.
+  pub early-then : reportsCount site ≡ true
+      → network .coordinator .threshold ≡ 1
+      → EarlyValues (afterCountReport settings network arrival Idle .histogram) acceptedThen
+  early-then due one =
+      rw (
+        eq-eqb (network .coordinator .threshold) 1 one,
+        eq-eqb (site .threshold) 1 (same-threshold ∙ one),
+      )
+      (early-arrival (network .coordinator .histogram) accepted arrival value-inside
+      (ok .early-values one))
+
+  pub kept-silent : reportsCount site ≡ false
+      → NetworkOk settings (networkOf sites (afterItemReport settings network arrival))
+      acceptedThen messagesThen
+  kept-silent silent = record {
+    arrived = arrivedThen;
+    reported = reportedThen;
+    idle = refl;
+    few-signals = ok .few-signals;
+    threshold-is = ok .threshold-is;
+    sites-ok = sites-then;
+    total-is = ok .total-is;
+    estimates-long = estimates-long-then;
+    estimates-are = estimates-then;
+    early-values = λ one.
+        absurd (omega (arith, same-threshold, leb-false (site .threshold) (site .pending + 1) silent));
+    late-quantile = λ two. late-arrival arrival (ok .late-quantile two);
+    account = rw no-more at (account-then false silent);
+  }
+    where
+      no-more : network .coordinator .signals + when false 1 ≡ network .coordinator .signals
+      no-more = omega arith
+
+  pub total-then : network .coordinator .total + site .threshold
+      ≡ network .coordinator .base + (network .coordinator .signals + 1) * threshold
+  total-then = omega (arith, ok .total-is, same-threshold)
+
+  pub kept-signal : reportsCount site ≡ true
+      → (network .coordinator .signals + 1 ≡ settings .sites → ⊥)
+      → NetworkOk settings (networkOf sites (afterCountReport settings network arrival Idle))
+      acceptedThen messagesThen
+  kept-signal due not-last = record {
+    arrived = arrivedThen;
+    reported = reportedThen;
+    idle = refl;
+    few-signals = omega (arith, ok .few-signals);
+    threshold-is = ok .threshold-is;
+    sites-ok = sites-then;
+    total-is = total-then;
+    estimates-long = estimates-long-then;
+    estimates-are = estimates-then;
+    early-values = early-then due;
+    late-quantile = λ two. late-arrival arrival (ok .late-quantile two);
+    account = account-then true due;
+  }

@@ -27,4 +27,5 @@ pub mod QuantileLaws
 pub mod NetworkInvariant
 pub mod NetworkArrival
 pub mod NetworkClose
+pub mod EstimateBounds
 pub mod Instances

@@ -28,4 +28,5 @@ pub mod NetworkInvariant
 pub mod NetworkArrival
 pub mod NetworkClose
 pub mod EstimateBounds
+pub mod QuantileBounds
 pub mod Instances

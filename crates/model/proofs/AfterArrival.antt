@@ -1,11 +1,9 @@
 -- An arrival with full delivery, in closed form: the four cases of `afterArrival`, for every network
 -- whose coordinator is idle, arisen or not, with any list of sites. PROOF.md section 4.
 --
---   after-no-count-report   no kind 2 goes out
---   after-count-report      kind 2 goes out, and is not the k-th signal
---   after-close-one         the round is closed; the new threshold is 1
---   after-close-more        the round is closed; the new threshold is 2 or more
--- The names of their parts are in ArrivalParts.antt.
+--   after-arrival     the network and the messages, in each of the four cases
+--   delivers-after    the same as a delivery: it comes to rest there, and more fuel changes nothing
+-- The cases and the names of their parts are in ArrivalParts.antt.
 use mathlib.Core.Path.{_≡_, refl, sym, ap, _∙_, subst}
 use mathlib.Core.Bool.{Bool, true, false}
 use mathlib.Core.List.{List, [], _∷_, _++_, append-nil, append-assoc}
@@ -19,15 +17,14 @@ use Rattle.model.specs.declared.Message.{Message}
 use Rattle.model.specs.declared.Phase.{Phase}
 use Rattle.model.specs.declared.Phase.the-variants.{Idle, Collecting, Probing, Announcing}
 use Rattle.model.specs.Choice.{if_then_else_}
-use Rattle.model.specs.Settings.{thresholdOf}
 use Rattle.model.specs.Messages.{itemReport, countReport, poll}
 use Rattle.model.specs.Site.{Site, reportsItem, reportsCount, reportedValue}
 use Rattle.model.specs.Coordinator.{Coordinator, withPhase}
 use Rattle.model.specs.Network.{Network, siteAt, deliveryFuel, afterArrival}
 use Rattle.model.proofs.DeliverySteps.{Delivers, hands, rests, more-steps, delivered-of}
 use Rattle.model.proofs.DeliveryLoops.{networkOf}
-use Rattle.model.proofs.DeliveryClose.{closeMessagesOne, closeMessagesMore, closeOne, closeMore}
-use Rattle.model.proofs.ArrivalParts.{withItemReport, withCountReport, observedSites, firstMessages, afterItemReport, afterCountReport, baseAfter, closedOneAfter, closedMoreAfter}
+use Rattle.model.proofs.DeliveryClose.{closeOne, closeMore}
+use Rattle.model.proofs.ArrivalParts.{withItemReport, withCountReport, observedSites, firstMessages, afterItemReport, afterCountReport, ArrivalCase, noCountReport, countReported, closesOne, closesMore, networkThen, messagesThen}
 
 -- ---- Handing over the messages of an arrival
 
@@ -66,7 +63,14 @@ module _ (settings : Settings) (sites : List Site) (c : Coordinator) (j amount :
       eq-eqb (c .signals + 1) (settings .sites) all in
       more-steps (omega arith) (hands n sent _ _ [] (rw closes later))
 
--- ---- The four cases
+-- ---- Deliveries after an arrival
+
+-- The delivery that an arrival sets off ends at this network, with these messages in all.
+abbrev pub DeliversAfter : Settings → Network → Arrival → Network → List Message → Type 0
+DeliversAfter settings network arrival final sent =
+    Delivers settings final (deliveryFuel settings) sent
+    (networkOf (observedSites settings network arrival) (network .coordinator))
+    (firstMessages settings network arrival)
 
 module _ {settings : Settings} {final network : Network} {n : ℕ} (items : List Message)
     (m : Message) (countDue : Bool) where
@@ -100,26 +104,24 @@ module _ (settings : Settings) (network : Network) (arrival : Arrival)
   abbrev report : Message
   report = countReport (arrival .site) (site .threshold) (reportedValue site arrival)
 
-  -- What delivery does from the idle coordinator, `afterArrival` does.
+  -- A delivery from the idle coordinator, as the network has it, with the fuel of the model.
   from-idle : (final : Network) (n : ℕ) (sent : List Message)
       → n ≤ deliveryFuel settings
       → Delivers settings final n sent
       (networkOf sites (withPhase (network .coordinator) Idle))
       (firstMessages settings network arrival)
-      → afterArrival settings network arrival ≡ record { network = final; messages = sent }
+      → DeliversAfter settings network arrival final sent
   from-idle final n sent fits there =
-      delivered-of (deliveryFuel settings) fits
-      (subst
-      (λ (c : Coordinator). Delivers settings final n sent (networkOf sites c)
-      (firstMessages settings network arrival))
-      (sym (ap (withPhase (network .coordinator)) idle)) there)
+      subst
+      (λ (c : Coordinator). Delivers settings final (deliveryFuel settings) sent
+      (networkOf sites c) (firstMessages settings network arrival))
+      (sym (ap (withPhase (network .coordinator)) idle)) (more-steps fits there)
 
-  pub after-no-count-report : reportsCount site ≡ false
-      → afterArrival settings network arrival ≡ record {
-        network = networkOf sites (afterItemReport settings network arrival);
-        messages = firstMessages settings network arrival;
-      }
-  after-no-count-report none =
+  delivers-no-count-report : reportsCount site ≡ false
+      → DeliversAfter settings network arrival
+      (networkOf sites (afterItemReport settings network arrival))
+      (firstMessages settings network arrival)
+  delivers-no-count-report none =
       from-idle _ 1 _ (omega arith)
       (without-count-report items report (reportsCount site) none
       (item-report-handed settings sites (network .coordinator) (arrival .site) (site .threshold)
@@ -135,13 +137,12 @@ module _ (settings : Settings) (network : Network) (arrival : Arrival)
       item-report-handed settings sites (network .coordinator) (arrival .site) (site .threshold)
       final n sent (report ∷ []) (arrival .item) itemDue later
 
-  pub after-count-report : reportsCount site ≡ true
+  delivers-count-report : reportsCount site ≡ true
       → (network .coordinator .signals + 1 ≡ settings .sites → ⊥)
-      → afterArrival settings network arrival ≡ record {
-        network = networkOf sites (afterCountReport settings network arrival Idle);
-        messages = firstMessages settings network arrival;
-      }
-  after-count-report due few =
+      → DeliversAfter settings network arrival
+      (networkOf sites (afterCountReport settings network arrival Idle))
+      (firstMessages settings network arrival)
+  delivers-count-report due few =
       from-idle _ 2 _ (omega arith)
       (rw append-nil at
       (with-count-report items report (reportsCount site) [] due
@@ -150,49 +151,39 @@ module _ (settings : Settings) (network : Network) (arrival : Arrival)
       (arrival .site) (site .threshold) (reportedValue site arrival) few))))
 
   -- The count report is the k-th signal; the close that follows it is known.
-  closes : (final : Network) (n : ℕ) (sent : List Message)
+  delivers-close : (final : Network) (n : ℕ) (sent : List Message)
       → n + 2 ≤ deliveryFuel settings
       → reportsCount site ≡ true
       → network .coordinator .signals + 1 ≡ settings .sites
       → Delivers settings final n sent
       (networkOf sites (afterCountReport settings network arrival (Collecting 0))) (poll 0 ∷ [])
-      → afterArrival settings network arrival ≡ record {
-        network = final;
-        messages = firstMessages settings network arrival ++ sent;
-      }
-  closes final n sent fits due all later =
+      → DeliversAfter settings network arrival final
+      (firstMessages settings network arrival ++ sent)
+  delivers-close final n sent fits due all later =
       from-idle final (n + 1 + 1) _ (omega arith)
       (with-count-report items report (reportsCount site) sent due
       (reported final (n + 1) (report ∷ sent)
       (closing-report-handed settings sites (afterItemReport settings network arrival)
       (arrival .site) (site .threshold) final n sent (reportedValue site arrival) all later)))
 
-  pub after-close-one : reportsCount site ≡ true
-      → network .coordinator .signals + 1 ≡ settings .sites
-      → thresholdOf settings (baseAfter settings network arrival) < 2
-      → afterArrival settings network arrival ≡ record {
-        network = closedOneAfter settings network arrival;
-        messages =
-            firstMessages settings network arrival
-            ++ closeMessagesOne settings sites (baseAfter settings network arrival);
-      }
-  after-close-one due all one =
-      closes _ (4 * settings .sites) _ (omega arith) due all
+  -- In each case the delivery ends at that case's network, with that case's messages.
+  pub delivers-after : (which : ArrivalCase settings network arrival)
+      → DeliversAfter settings network arrival (networkThen which) (messagesThen which)
+  delivers-after (noCountReport none) = delivers-no-count-report none
+  delivers-after (countReported due few) = delivers-count-report due few
+  delivers-after (closesOne due all one) =
+      delivers-close _ (4 * settings .sites) _ (omega arith) due all
       (closeOne settings sites (afterCountReport settings network arrival (Collecting 0))
-      (network .coordinator .total + site .threshold) (network .coordinator .signals) (omega arith)
-      one)
-
-  pub after-close-more : reportsCount site ≡ true
-      → network .coordinator .signals + 1 ≡ settings .sites
-      → 2 ≤ thresholdOf settings (baseAfter settings network arrival)
-      → afterArrival settings network arrival ≡ record {
-        network = closedMoreAfter settings network arrival;
-        messages =
-            firstMessages settings network arrival
-            ++ closeMessagesMore settings sites (baseAfter settings network arrival);
-      }
-  after-close-more due all more =
-      closes _ (24 * settings .sites) _ (omega arith) due all
+      (network .coordinator .total + site .threshold) (network .coordinator .signals)
+      (omega arith) one)
+  delivers-after (closesMore due all more) =
+      delivers-close _ (24 * settings .sites) _ (omega arith) due all
       (closeMore settings sites (afterCountReport settings network arrival (Collecting 0))
-      (network .coordinator .total + site .threshold) (network .coordinator .signals) (omega arith)
-      more)
+      (network .coordinator .total + site .threshold) (network .coordinator .signals)
+      (omega arith) more)
+
+  -- The closed form: an arrival with full delivery.
+  pub after-arrival : (which : ArrivalCase settings network arrival)
+      → afterArrival settings network arrival
+      ≡ record { network = networkThen which; messages = messagesThen which }
+  after-arrival which = delivered-of (deliveryFuel settings) (omega arith) (delivers-after which)

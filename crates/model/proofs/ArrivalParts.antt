@@ -6,13 +6,19 @@
 --   afterItemReport, afterCountReport   the coordinator after these messages
 --   baseAfter                           the base that a close after this arrival gives
 --   closedOneAfter, closedMoreAfter     the network after a close: new threshold 1, or 2 and more
+--   ArrivalCase, arrival-case           the four cases: noCountReport, countReported, closesOne,
+--                                       closesMore
+--   networkThen, messagesThen, closeCount  what each of them leaves and sends
 --   length-firstMessages                0, 1 or 2
-use mathlib.Core.Path.{_≡_, refl}
+--   length-messagesThen                 these, and closeCount more
+use mathlib.Core.Path.{_≡_, refl, ap, _∙_}
 use mathlib.Core.Bool.{Bool, true, false}
 use mathlib.Core.List.{List, [], _∷_, _++_}
-use Prim.Native.Nat.{ℕ, _+_}
+use Prim.Native.Nat.{ℕ, _+_, _*_, _≤_, _<_}
+use native.Mathlib.Omega.{arith}
+use native.Mathlib.Decide.{ℕ-discrete, decLt}
 use lib.Dec.{eqb}
-use lib.ListN.{length, getD, set}
+use lib.ListN.{length, getD, set, length-append}
 use Rattle.model.specs.declared.Settings.{Settings}
 use Rattle.model.specs.declared.Arrival.{Arrival}
 use Rattle.model.specs.declared.Message.{Message}
@@ -25,7 +31,7 @@ use Rattle.model.specs.Site.{Site, oneMoreAt, observed, reportsItem, rep
 use Rattle.model.specs.Coordinator.{Coordinator, withBase, withQuantile, atRest}
 use Rattle.model.specs.Network.{Network, siteAt}
 use Rattle.model.proofs.DeliveryLoops.{networkOf}
-use Rattle.model.proofs.DeliveryClose.{baseOf, quantileFound, sitesClosed}
+use Rattle.model.proofs.DeliveryClose.{baseOf, quantileFound, sitesClosed, closeMessagesOne, closeMessagesMore, length-closeMessagesOne, length-closeMessagesMore}
 
 -- ---- The coordinator after kinds 1 and 2
 
@@ -104,6 +110,72 @@ closedMoreAfter settings network arrival =
     (withBase (afterCountReport settings network arrival Idle) base threshold Idle)
     (quantileFound settings sites base) Idle))
 
+-- ---- The four cases
+
+-- No kind 2 goes out; it goes out and is not the k-th signal; it is, and the round is closed, with a
+-- new threshold of 1, or of 2 and more.
+pub data ArrivalCase (settings : Settings) (network : Network) (arrival : Arrival) : Type 0 where
+  noCountReport : reportsCount (siteAt network (arrival .site)) ≡ false
+      → ArrivalCase settings network arrival
+  countReported : reportsCount (siteAt network (arrival .site)) ≡ true
+      → (network .coordinator .signals + 1 ≡ settings .sites → ⊥)
+      → ArrivalCase settings network arrival
+  closesOne : reportsCount (siteAt network (arrival .site)) ≡ true
+      → network .coordinator .signals + 1 ≡ settings .sites
+      → thresholdOf settings (baseAfter settings network arrival) < 2
+      → ArrivalCase settings network arrival
+  closesMore : reportsCount (siteAt network (arrival .site)) ≡ true
+      → network .coordinator .signals + 1 ≡ settings .sites
+      → 2 ≤ thresholdOf settings (baseAfter settings network arrival)
+      → ArrivalCase settings network arrival
+
+-- One of them always holds.
+pub arrival-case : (settings : Settings) (network : Network) (arrival : Arrival)
+    → ArrivalCase settings network arrival
+arrival-case settings network arrival =
+    by-tests (reportsCount (siteAt network (arrival .site))) refl
+    (ℕ-discrete (network .coordinator .signals + 1) (settings .sites))
+    (decLt (thresholdOf settings (baseAfter settings network arrival)) 2)
+  where
+    by-tests : (due : Bool) → reportsCount (siteAt network (arrival .site)) ≡ due
+        → Dec (network .coordinator .signals + 1 ≡ settings .sites)
+        → Dec (thresholdOf settings (baseAfter settings network arrival) < 2)
+        → ArrivalCase settings network arrival
+    by-tests false none last low = noCountReport none
+    by-tests true due (no few) low = countReported due few
+    by-tests true due (yes all) (yes one) = closesOne due all one
+    by-tests true due (yes all) (no more) = closesMore due all (omega arith)
+
+module _ {settings : Settings} {network : Network} {arrival : Arrival} where
+  -- The network and all messages in each case.
+  abbrev pub networkThen : ArrivalCase settings network arrival → Network
+  networkThen (noCountReport none) =
+      networkOf (observedSites settings network arrival) (afterItemReport settings network arrival)
+  networkThen (countReported due few) =
+      networkOf (observedSites settings network arrival)
+      (afterCountReport settings network arrival Idle)
+  networkThen (closesOne due all one) = closedOneAfter settings network arrival
+  networkThen (closesMore due all more) = closedMoreAfter settings network arrival
+
+  abbrev pub messagesThen : ArrivalCase settings network arrival → List Message
+  messagesThen (noCountReport none) = firstMessages settings network arrival
+  messagesThen (countReported due few) = firstMessages settings network arrival
+  messagesThen (closesOne due all one) =
+      firstMessages settings network arrival
+      ++ closeMessagesOne settings (observedSites settings network arrival)
+      (baseAfter settings network arrival)
+  messagesThen (closesMore due all more) =
+      firstMessages settings network arrival
+      ++ closeMessagesMore settings (observedSites settings network arrival)
+      (baseAfter settings network arrival)
+
+  -- How many messages: those of the arrival itself, and 3 * k or 23 * k of a close.
+  abbrev pub closeCount : ArrivalCase settings network arrival → ℕ
+  closeCount (noCountReport none) = 0
+  closeCount (countReported due few) = 0
+  closeCount (closesOne due all one) = 3 * settings .sites
+  closeCount (closesMore due all more) = 23 * settings .sites
+
 pub length-firstMessages : (settings : Settings) (network : Network) (arrival : Arrival)
     → length (firstMessages settings network arrival)
     ≡ when (reportsItem settings (siteAt network (arrival .site)) arrival) 1
@@ -119,3 +191,20 @@ length-firstMessages settings network arrival =
     by-reports true false m m′ = refl
     by-reports false true m m′ = refl
     by-reports false false m m′ = refl
+
+pub length-messagesThen : (settings : Settings) (network : Network) (arrival : Arrival)
+    (which : ArrivalCase settings network arrival)
+    → length (messagesThen which)
+    ≡ length (firstMessages settings network arrival) + closeCount which
+length-messagesThen settings network arrival (noCountReport none) = omega arith
+length-messagesThen settings network arrival (countReported due few) = omega arith
+length-messagesThen settings network arrival (closesOne due all one) =
+    length-append (firstMessages settings network arrival) _
+    ∙ ap (λ (n : ℕ). length (firstMessages settings network arrival) + n)
+    (length-closeMessagesOne settings (observedSites settings network arrival)
+    (baseAfter settings network arrival))
+length-messagesThen settings network arrival (closesMore due all more) =
+    length-append (firstMessages settings network arrival) _
+    ∙ ap (λ (n : ℕ). length (firstMessages settings network arrival) + n)
+    (length-closeMessagesMore settings (observedSites settings network arrival)
+    (baseAfter settings network arrival))

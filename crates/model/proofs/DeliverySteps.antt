@@ -16,7 +16,7 @@ use Rattle.model.specs.declared.Settings.{Settings}
 use Rattle.model.specs.declared.Message.{Message}
 use Rattle.model.specs.Coordinator.{isAnnouncing}
 use Rattle.model.specs.Network.{Network, Delivered, delivered, handOver, askAnnouncement}
-use Rattle.model.specs.DeliveryClaims.{Delivery, delivery, joining, deliveryStep, deliverySteps}
+use Rattle.model.specs.DeliveryClaims.{Delivery, delivery, joining, deliveryStep, deliverySteps, outcome}
 
 -- ---- The model's delivery as steps
 
@@ -34,9 +34,6 @@ steps-asked : (fuel : ℕ) (settings : Settings) (network : Network) (log : List
     → deliverySteps (suc fuel) settings (delivery network [] log)
     ≡ deliverySteps fuel settings (joining (askAnnouncement settings network) [] log)
 steps-asked fuel settings network log announcing = rw announcing
-
-abbrev pub outcome : Delivery → Delivered
-outcome d = record { network = d .network; messages = d .log }
 
 pub delivered-is-steps : (fuel : ℕ) (settings : Settings) (network : Network)
     (waiting log : List Message)

@@ -22,6 +22,7 @@ pub mod DeliveryClose
 pub mod ArrivalParts
 pub mod AfterArrival
 pub mod ClosedSites
+pub mod DeliveryTheorem
 pub mod SitesInvariant
 pub mod QuantileLaws
 pub mod NetworkInvariant

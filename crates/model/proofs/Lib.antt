@@ -30,4 +30,5 @@ pub mod NetworkArrival
 pub mod NetworkClose
 pub mod EstimateBounds
 pub mod QuantileBounds
+pub mod ListLaws
 pub mod Instances

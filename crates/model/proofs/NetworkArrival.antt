@@ -105,17 +105,17 @@ module _ {settings : Settings} {network : Network}
   abbrev sites : List Site
   sites = observedSites settings network arrival
 
-  abbrev pub acceptedThen : List Arrival
-  acceptedThen = accepted ++ (arrival ∷ [])
+  abbrev pub acceptedWith : List Arrival
+  acceptedWith = accepted ++ (arrival ∷ [])
 
-  abbrev pub messagesThen : List Message
-  messagesThen = messages ++ firstMessages settings network arrival
+  abbrev pub messagesWith : List Message
+  messagesWith = messages ++ firstMessages settings network arrival
 
-  abbrev pub arrivedThen : ℕ → ℕ → ℕ
-  arrivedThen = growAt (ok .arrived) (arrival .site) (arrival .item) 1
+  abbrev pub arrivedWith : ℕ → ℕ → ℕ
+  arrivedWith = growAt (ok .arrived) (arrival .site) (arrival .item) 1
 
-  abbrev pub reportedThen : ℕ → ℕ → ℕ
-  reportedThen =
+  abbrev pub reportedWith : ℕ → ℕ → ℕ
+  reportedWith =
       growAt (ok .reported) (arrival .site) (arrival .item)
       (if reportsItem settings (siteAt network (arrival .site)) arrival
       then network .coordinator .threshold else 0)
@@ -135,12 +135,12 @@ module _ {settings : Settings} {network : Network}
       site arrival (fit .capacity .at-least) (ok .account .threshold-positive) value-inside
       (ok .sites-ok .each-ok (arrival .site) (known .site-known))
 
-  pub sites-then : SitesOk settings threshold sites arrivedThen reportedThen acceptedThen
+  pub sites-then : SitesOk settings threshold sites arrivedWith reportedWith acceptedWith
   sites-then = sites-arrival (ok .sites-ok) (known .site-known) (known .value-known) observed-here
 
   pub estimates-then : (item : ℕ)
       → getD (afterItemReport settings network arrival .estimates) item 0
-      ≡ sumBelow (λ j. reportedThen j item) (settings .sites)
+      ≡ sumBelow (λ j. reportedWith j item) (settings .sites)
   estimates-then item =
       let inside : arrival .item < length (network .coordinator .estimates) =
       omega (arith, ok .estimates-long, known .item-known) in
@@ -166,7 +166,7 @@ module _ {settings : Settings} {network : Network}
 
   -- ---- The account
 
-  messages-length : length messagesThen
+  messages-length : length messagesWith
       ≡ length messages + when itemDue 1 + when (reportsCount site) 1
   messages-length =
       omega (
@@ -176,20 +176,20 @@ module _ {settings : Settings} {network : Network}
       )
 
   -- The figures after the arrival, with these signals.
-  abbrev pub figuresThen : ℕ → Figures
-  figuresThen signals = record {
+  abbrev pub figuresWith : ℕ → Figures
+  figuresWith signals = record {
     threshold = network .coordinator .threshold;
     base = network .coordinator .base;
-    arrivals = counted acceptedThen;
+    arrivals = counted acceptedWith;
     pending = sumBelow (pendingAt sites) (settings .sites);
     signals = signals;
     unreported = sumBelow (unreportedAt sites) (settings .sites);
-    messages = length messagesThen;
+    messages = length messagesWith;
   }
 
   pub account-then : (countDue : Bool) → reportsCount site ≡ countDue
       → Account (settings .sites) (settings .epsilon) probingMessages
-      (figuresThen (network .coordinator .signals + when countDue 1))
+      (figuresWith (network .coordinator .signals + when countDue 1))
   account-then countDue is-due =
       account-arrival {items = when itemDue 1} {counts = when countDue 1} (ok .account) (record {
         same-threshold = refl;
@@ -219,7 +219,7 @@ module _ {settings : Settings} {network : Network}
   -- At threshold 1 every arrival has a count report, with its value.
   pub early-then : reportsCount site ≡ true
       → network .coordinator .threshold ≡ 1
-      → EarlyValues (afterCountReport settings network arrival Idle .histogram) acceptedThen
+      → EarlyValues (afterCountReport settings network arrival Idle .histogram) acceptedWith
   early-then due one =
       rw (
         eq-eqb (network .coordinator .threshold) 1 one,
@@ -230,10 +230,10 @@ module _ {settings : Settings} {network : Network}
 
   pub kept-silent : reportsCount site ≡ false
       → NetworkOk settings (networkOf sites (afterItemReport settings network arrival))
-      acceptedThen messagesThen
+      acceptedWith messagesWith
   kept-silent silent = record {
-    arrived = arrivedThen;
-    reported = reportedThen;
+    arrived = arrivedWith;
+    reported = reportedWith;
     idle = refl;
     few-signals = ok .few-signals;
     threshold-is = ok .threshold-is;
@@ -257,10 +257,10 @@ module _ {settings : Settings} {network : Network}
   pub kept-signal : reportsCount site ≡ true
       → (network .coordinator .signals + 1 ≡ settings .sites → ⊥)
       → NetworkOk settings (networkOf sites (afterCountReport settings network arrival Idle))
-      acceptedThen messagesThen
+      acceptedWith messagesWith
   kept-signal due not-last = record {
-    arrived = arrivedThen;
-    reported = reportedThen;
+    arrived = arrivedWith;
+    reported = reportedWith;
     idle = refl;
     few-signals = omega (arith, ok .few-signals);
     threshold-is = ok .threshold-is;

@@ -10,7 +10,6 @@ use mathlib.Core.Bool.{Bool, true, false}
 use mathlib.Core.List.{List, [], _∷_, _++_}
 use Prim.Native.Nat.{ℕ, zero, suc, _+_, _*_, _^_, _≤_, _<_}
 use native.Mathlib.Omega.{arith}
-use native.Mathlib.Decide.{ℕ-discrete, decLt}
 use lib.Dec.{eqb}
 use lib.ListN.{length, length-append}
 use Rattle.laws.proofs.Sums.{sumBelow, sumBelow-const, sumOf}
@@ -23,7 +22,7 @@ use Rattle.model.specs.Settings.{thresholdOf}
 use Rattle.model.specs.Counters.{unreported}
 use Rattle.model.specs.Site.{Site, reportsCount}
 use Rattle.model.specs.Coordinator.{enough}
-use Rattle.model.specs.Network.{Network, siteAt, Delivered, afterArrival}
+use Rattle.model.specs.Network.{Network, siteAt, afterArrival}
 use Rattle.model.specs.Claims.{counted, below}
 use Rattle.model.proofs.SettingsLaws.{Settled}
 use Rattle.model.proofs.Threshold.{threshold-positive, threshold-mono, threshold-low, threshold-high, base-of-threshold-one}
@@ -31,12 +30,12 @@ use Rattle.model.proofs.Rounds.{Figures, Account, CloseIn, account-clos
 use Rattle.model.proofs.DeliveryMessages.{pendingAt}
 use Rattle.model.proofs.DeliveryHalvings.{countUpTo}
 use Rattle.model.proofs.DeliveryClose.{enoughAt, quantileFound, sitesClosed, closeMessagesOne, closeMessagesMore, length-closeMessagesOne, length-closeMessagesMore}
-use Rattle.model.proofs.ArrivalParts.{observedSites, firstMessages, baseAfter, closedOneAfter, closedMoreAfter}
-use Rattle.model.proofs.AfterArrival.{after-no-count-report, after-count-report, after-close-one, after-close-more}
+use Rattle.model.proofs.ArrivalParts.{observedSites, firstMessages, baseAfter, closedOneAfter, closedMoreAfter, ArrivalCase, noCountReport, countReported, closesOne, closesMore, arrival-case, networkThen, messagesThen}
+use Rattle.model.proofs.AfterArrival.{after-arrival}
 use Rattle.model.proofs.SitesInvariant.{SitesOk, unreportedAt, few-pending, sum-closed, sites-close}
 use Rattle.model.proofs.QuantileLaws.{LateQuantile, late-of-halving}
 use Rattle.model.proofs.NetworkInvariant.{probingMessages, NetworkOk, ArrivalKnown}
-use Rattle.model.proofs.NetworkArrival.{arrivedThen, reportedThen, figuresThen, sites-then, estimates-then, estimates-long-then, account-then, early-then, total-then, kept-silent, kept-signal}
+use Rattle.model.proofs.NetworkArrival.{arrivedWith, reportedWith, figuresWith, sites-then, estimates-then, estimates-long-then, account-then, early-then, total-then, kept-silent, kept-signal}
 
 module _ {settings : Settings} {network : Network}
     {accepted : List Arrival} {messages : List Message}
@@ -64,11 +63,11 @@ module _ {settings : Settings} {network : Network}
   threshold′ = thresholdOf settings (baseAfter settings network arrival)
 
   then-ok : SitesOk settings (network .coordinator .threshold) sites
-      (arrivedThen fit ok arrival known) (reportedThen fit ok arrival known) accepted′
+      (arrivedWith fit ok arrival known) (reportedWith fit ok arrival known) accepted′
   then-ok = sites-then fit ok arrival known
 
   account-signalled : Account k (settings .epsilon) probingMessages
-      (figuresThen fit ok arrival known (network .coordinator .signals + 1))
+      (figuresWith fit ok arrival known (network .coordinator .signals + 1))
   account-signalled = account-then fit ok arrival known true due
 
   -- The total and all pendings: every arrival is counted.
@@ -83,7 +82,7 @@ module _ {settings : Settings} {network : Network}
       (omega (arith, base-is-counted, account-signalled .arrivals-are)))
 
   closed-ok : SitesOk settings threshold′ (sitesClosed settings sites threshold′)
-      (arrivedThen fit ok arrival known) (reportedThen fit ok arrival known) accepted′
+      (arrivedWith fit ok arrival known) (reportedWith fit ok arrival known) accepted′
   closed-ok = sites-close then-ok threshold′ rises
 
   -- ---- The account
@@ -101,7 +100,7 @@ module _ {settings : Settings} {network : Network}
 
   close-in : (closing : List Message) (cost : ℕ)
       → length closing ≡ cost
-      → CloseIn k cost (figuresThen fit ok arrival known (network .coordinator .signals + 1))
+      → CloseIn k cost (figuresWith fit ok arrival known (network .coordinator .signals + 1))
       (figuresClosed closing)
   close-in closing cost is-cost = record {
     all-signals = last;
@@ -167,8 +166,8 @@ module _ {settings : Settings} {network : Network}
       → NetworkOk settings (closedOneAfter settings network arrival) accepted′
       (messages ++ (first ++ closeMessagesOne settings sites base))
   kept-close-one less = record {
-    arrived = arrivedThen fit ok arrival known;
-    reported = reportedThen fit ok arrival known;
+    arrived = arrivedWith fit ok arrival known;
+    reported = reportedWith fit ok arrival known;
     idle = refl;
     few-signals = fit .sites .at-least;
     threshold-is = refl;
@@ -186,8 +185,8 @@ module _ {settings : Settings} {network : Network}
       → NetworkOk settings (closedMoreAfter settings network arrival) accepted′
       (messages ++ (first ++ closeMessagesMore settings sites base))
   kept-close-more two = record {
-    arrived = arrivedThen fit ok arrival known;
-    reported = reportedThen fit ok arrival known;
+    arrived = arrivedWith fit ok arrival known;
+    reported = reportedWith fit ok arrival known;
     idle = refl;
     few-signals = fit .sites .at-least;
     threshold-is = refl;
@@ -202,13 +201,22 @@ module _ {settings : Settings} {network : Network}
 
 -- ---- Every accepted arrival
 
--- The network and messages of a delivery, when both are known.
-kept-by : {settings : Settings} {accepted : List Arrival} (messages : List Message)
-    {network : Network} {sent : List Message} {after : Delivered}
-    → after ≡ record { network = network; messages = sent }
-    → NetworkOk settings network accepted (messages ++ sent)
-    → NetworkOk settings (after .network) accepted (messages ++ after .messages)
-kept-by messages is-after ok = rw is-after ok
+kept-case : {settings : Settings} {network : Network}
+    {accepted : List Arrival} {messages : List Message}
+    → Settled settings
+    → NetworkOk settings network accepted messages
+    → (arrival : Arrival)
+    → ArrivalKnown settings arrival
+    → (which : ArrivalCase settings network arrival)
+    → NetworkOk settings (networkThen which) (accepted ++ (arrival ∷ []))
+    (messages ++ messagesThen which)
+kept-case fit ok arrival known (noCountReport silent) = kept-silent fit ok arrival known silent
+kept-case fit ok arrival known (countReported due not-last) =
+    kept-signal fit ok arrival known due not-last
+kept-case fit ok arrival known (closesOne due last one) =
+    kept-close-one fit ok arrival known due last one
+kept-case fit ok arrival known (closesMore due last more) =
+    kept-close-more fit ok arrival known due last more
 
 pub network-ok-arrival : {settings : Settings} {network : Network}
     {accepted : List Arrival} {messages : List Message}
@@ -218,26 +226,7 @@ pub network-ok-arrival : {settings : Settings} {network : Network}
     → ArrivalKnown settings arrival
     → NetworkOk settings (afterArrival settings network arrival .network)
     (accepted ++ (arrival ∷ [])) (messages ++ afterArrival settings network arrival .messages)
-network-ok-arrival {settings} {network} {accepted} {messages} fit ok arrival known =
-    by-report (reportsCount (siteAt network (arrival .site))) refl
-    (ℕ-discrete (network .coordinator .signals + 1) (settings .sites))
-    (decLt (thresholdOf settings (baseAfter settings network arrival)) 2)
-  where
-    by-report : (due : Bool) → reportsCount (siteAt network (arrival .site)) ≡ due
-        → Dec (network .coordinator .signals + 1 ≡ settings .sites)
-        → Dec (thresholdOf settings (baseAfter settings network arrival) < 2)
-        → NetworkOk settings (afterArrival settings network arrival .network)
-        (accepted ++ (arrival ∷ [])) (messages ++ afterArrival settings network arrival .messages)
-    by-report false silent _ _ =
-        kept-by messages (after-no-count-report settings network arrival (ok .idle) silent)
-        (kept-silent fit ok arrival known silent)
-    by-report true due (no not-last) _ =
-        kept-by messages (after-count-report settings network arrival (ok .idle) due not-last)
-        (kept-signal fit ok arrival known due not-last)
-    by-report true due (yes last) (yes one) =
-        kept-by messages (after-close-one settings network arrival (ok .idle) due last one)
-        (kept-close-one fit ok arrival known due last one)
-    by-report true due (yes last) (no more) =
-        let two : 2 ≤ thresholdOf settings (baseAfter settings network arrival) = omega arith in
-        kept-by messages (after-close-more settings network arrival (ok .idle) due last two)
-        (kept-close-more fit ok arrival known due last two)
+network-ok-arrival {settings} {network} fit ok arrival known =
+    let which : ArrivalCase settings network arrival = arrival-case settings network arrival in
+    rw (after-arrival settings network arrival (ok .idle) which)
+    (kept-case fit ok arrival known which)

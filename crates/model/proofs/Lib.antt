@@ -31,4 +31,5 @@ pub mod NetworkClose
 pub mod EstimateBounds
 pub mod QuantileBounds
 pub mod ListLaws
+pub mod RunLaws
 pub mod Instances

@@ -32,4 +32,6 @@ pub mod EstimateBounds
 pub mod QuantileBounds
 pub mod ListLaws
 pub mod RunLaws
+pub mod RunInvariant
+pub mod Theorem
 pub mod Instances

@@ -22,7 +22,8 @@ use Rattle.laws.proofs.Sums.{sumOf, sumOf-set, sumOf-snoc, sumOf-least}
 use Rattle.model.specs.Counters.{Counter, noCounter, counterAt, unreported, find, leastPlace, Placement, own, unused, replaced, placementFor, placeOf, oneMoreOf, firstOf, replacing, countersAfter, lostBy, afterReport}
 use Rattle.model.proofs.CounterLaws.{Found, find-is, LeastAt, leastPlace-is}
 use Rattle.model.proofs.DistinctItems.{Absent, apart-set, absent-of-set, absent-before-set}
-use Rattle.model.proofs.SpaceSaving.{CounterOk, NotHeld, Saved, GrowsAt, saved-own, saved-unused, saved-replaced}
+use Rattle.model.proofs.SpaceSaving.{Saved, GrowsAt, saved-own, saved-unused}
+use Rattle.model.proofs.Replacement.{saved-replaced}
 
 -- ---- Placements
 

@@ -1,10 +1,9 @@
--- The coordinator's numbers against the arrivals (PROOF.md L1, L2), and what follows for the list.
+-- The coordinator's numbers against the arrivals (PROOF.md L1, L2).
 --
 -- Letters: k sites, e epsilon, p phi, n all arrivals, t the threshold and w = t - 1.
 --
 --   RunOk                what holds of a network between arrivals, of a run's
 --   estimates-of-ok      L1 and L2, and that a listed item has (6p - 5e) / 6000 of all arrivals
---   heavy-of-estimates, light-of-estimates   what the list promises follows from these alone
 use mathlib.Core.Path.{_≡_, refl, sym, ap, _∙_}
 use mathlib.Core.Bool.{Bool, true, false, _&&_}
 use mathlib.Core.List.{List}
@@ -14,7 +13,7 @@ use native.Mathlib.Omega.{arith}
 use native.Mathlib.Decide.{decLt}
 use lib.Dec.{leb}
 use lib.ListN.{length, getD}
-use borrow.Author.Tests.{leb-true, le-leb}
+use borrow.Author.Tests.{leb-true}
 use Rattle.laws.proofs.Tests.{both-true}
 use Rattle.laws.proofs.Arithmetic.{bound-rescaled}
 use Rattle.laws.proofs.Sums.{sumBelow, sumBelow-le, sumBelow-const, sumBelow-add, sumBelow-mul}
@@ -23,7 +22,7 @@ use Rattle.model.specs.declared.Arrival.{Arrival}
 use Rattle.model.specs.declared.Message.{Message}
 use Rattle.model.specs.Site.{freshSite}
 use Rattle.model.specs.Network.{Network}
-use Rattle.model.specs.Reading.{isListed, heldSide, neededSide}
+use Rattle.model.specs.Reading.{isListed}
 use Rattle.model.specs.Runs.{Run}
 use Rattle.model.specs.Claims.{counted, countOf, Estimates}
 use Rattle.model.proofs.SettingsLaws.{Settled}
@@ -202,51 +201,3 @@ module _ {settings : Settings} {run : Run} (fit : Settled settings) (ok : RunOk 
     total-positive = some-total;
     listed-firm = listed-firm;
   }
-
--- ---- The list
-
-module _ {settings : Settings} {run : Run} (fit : Settled settings)
-    (near : Estimates settings run) (item : ℕ) where
-  -- 2p × n ≤ 2000 × f ≤ 2000 × estimate + e × n, and the total is at most n.
-  pub heavy-of-estimates : 1 ≤ counted (run .accepted)
-      → settings .phi * counted (run .accepted) ≤ 1000 * countOf item (run .accepted)
-      → isListed settings (run .network .coordinator) item ≡ true
-  heavy-of-estimates some heavy =
-      rw (
-        le-leb 1 (run .network .coordinator .total) (near .total-positive some),
-        le-leb (neededSide settings (run .network .coordinator))
-            (heldSide (run .network .coordinator) item) held,
-      )
-    where
-      held : neededSide settings (run .network .coordinator)
-          ≤ heldSide (run .network .coordinator) item
-      held =
-          let split : (2 * settings .phi - settings .epsilon) + settings .epsilon
-          ≡ 2 * settings .phi = omega (arith, fit .phi-epsilon) in
-          omega (
-            arith,
-            heavy,
-            near .estimate-near item,
-            ap (λ (z : ℕ). z * counted (run .accepted)) split,
-            mul-le-mul-left (2 * settings .phi - settings .epsilon) (near .total-le),
-          )
-
-  -- Were it listed, it would have 6000 × f ≥ (6p - 5e) × n ≥ 6 × (p - e) × n.
-  pub light-of-estimates : 1000 * countOf item (run .accepted)
-      < (settings .phi - settings .epsilon) * counted (run .accepted)
-      → isListed settings (run .network .coordinator) item ≡ false
-  light-of-estimates light = by-list (isListed settings (run .network .coordinator) item) refl
-    where
-      less : 6 * (settings .phi - settings .epsilon) ≤ 6 * settings .phi - 5 * settings .epsilon
-      less = omega (arith, fit .phi-epsilon)
-
-      by-list : (listed : Bool) → isListed settings (run .network .coordinator) item ≡ listed
-          → isListed settings (run .network .coordinator) item ≡ false
-      by-list true listed =
-          absurd (omega (
-            arith,
-            light,
-            near .listed-firm item listed,
-            mul-le-mul-right (counted (run .accepted)) less,
-          ))
-      by-list false unlisted = unlisted

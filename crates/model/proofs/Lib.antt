@@ -7,9 +7,12 @@ pub mod LineLaws
 pub mod Halving
 pub mod Threshold
 pub mod Rounds
+pub mod RoundBounds
+pub mod ListBounds
 pub mod CounterLaws
 pub mod DistinctItems
 pub mod SpaceSaving
+pub mod Replacement
 pub mod Counting
 pub mod Reporting
 pub mod ArrivalLaws
@@ -25,6 +28,7 @@ pub mod ClosedSites
 pub mod DeliveryTheorem
 pub mod SitesInvariant
 pub mod QuantileLaws
+pub mod ReportLaws
 pub mod NetworkInvariant
 pub mod NetworkArrival
 pub mod NetworkClose

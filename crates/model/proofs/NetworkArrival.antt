@@ -10,11 +10,9 @@ use mathlib.Core.Bool.{Bool, true, false}
 use mathlib.Core.List.{List, [], _∷_, _++_}
 use Prim.Native.Nat.{ℕ, zero, suc, _+_, _*_, _≤_, _<_}
 use native.Mathlib.Omega.{arith}
-use native.Mathlib.Decide.{ℕ-discrete}
-use lib.Dec.{eqb, ltb, leb}
-use lib.ListN.{length, getD, set, length-set, length-append}
-use lib.Seq.{getD-set-same, getD-set-other}
-use borrow.Author.Tests.{leb-false, eq-eqb, ne-eqb}
+use lib.Dec.{eqb}
+use lib.ListN.{length, getD, length-append}
+use borrow.Author.Tests.{leb-false, eq-eqb}
 use Rattle.laws.proofs.Sums.{sumBelow}
 use Rattle.model.specs.declared.Settings.{Settings}
 use Rattle.model.specs.declared.Arrival.{Arrival}
@@ -22,12 +20,13 @@ use Rattle.model.specs.declared.Message.{Message}
 use Rattle.model.specs.declared.Phase.the-variants.{Idle}
 use Rattle.model.specs.Choice.{if_then_else_}
 use Rattle.model.specs.Refusals.{when}
-use Rattle.model.specs.Limits.{topValue, valueCount}
+use Rattle.model.specs.Limits.{valueCount}
 use Rattle.model.specs.Counters.{lostBy}
 use Rattle.model.specs.Site.{Site, freshSite, placementIn, reportsItem, reportsCount, observed}
 use Rattle.model.specs.Network.{Network, siteAt}
 use Rattle.model.specs.Claims.{counted}
 use Rattle.model.proofs.SettingsLaws.{Settled}
+use Rattle.model.proofs.ReportLaws.{when-times, when-le, value-counted, estimates-reported, length-reported}
 use Rattle.model.proofs.ArrivalLaws.{counted-snoc}
 use Rattle.model.proofs.SiteInvariant.{ObservedOk, observed-ok}
 use Rattle.model.proofs.DeliveryLoops.{networkOf}
@@ -37,54 +36,6 @@ use Rattle.model.proofs.SitesInvariant.{growAt, sum-growAt, SitesOk, un
 use Rattle.model.proofs.QuantileLaws.{EarlyValues, early-arrival, late-arrival}
 use Rattle.model.proofs.Rounds.{Figures, Account, ArrivalIn, account-arrival}
 use Rattle.model.proofs.NetworkInvariant.{probingMessages, figuresOf, NetworkOk, ArrivalKnown}
-
--- ---- Choices as numbers
-
-when-times : (due : Bool) (amount : ℕ) → when due 1 * amount ≡ (if due then amount else 0)
-when-times true amount = omega arith
-when-times false amount = omega arith
-
-when-le : (due : Bool) → when due 1 ≤ 1
-when-le true = omega arith
-when-le false = omega arith
-
--- Values up to the top value have a place in the histogram.
-value-counted : (value : ℕ) → value ≤ topValue → value < valueCount
-unfolding valueCount
-value-counted value known = omega arith
-
--- The estimates after an item report of so much, if it is due.
-estimates-reported : (estimates : List ℕ) (item amount x : ℕ) (due : Bool)
-    → item < length estimates
-    → getD (if due then set estimates item (getD estimates item 0 + amount) else estimates) x 0
-    ≡ getD estimates x 0 + (if eqb x item then (if due then amount else 0) else 0)
-estimates-reported estimates item amount x true inside = by-item (ℕ-discrete x item)
-  where
-    by-item : Dec (x ≡ item)
-        → getD (set estimates item (getD estimates item 0 + amount)) x 0
-        ≡ getD estimates x 0 + (if eqb x item then amount else 0)
-    by-item (yes same) =
-        rw (
-          same,
-          eq-eqb item item refl,
-          getD-set-same estimates item (getD estimates item 0 + amount) 0 inside,
-        )
-    by-item (no differ) =
-        rw (
-          ne-eqb x item differ,
-          getD-set-other estimates item x (getD estimates item 0 + amount) 0 differ,
-        ) (omega arith)
-estimates-reported estimates item amount x false inside = by-test (eqb x item)
-  where
-    by-test : (same : Bool)
-        → getD estimates x 0 ≡ getD estimates x 0 + (if same then 0 else 0)
-    by-test true = omega arith
-    by-test false = omega arith
-
-length-reported : (estimates : List ℕ) (item amount : ℕ) (due : Bool)
-    → length (if due then set estimates item amount else estimates) ≡ length estimates
-length-reported estimates item amount true = length-set estimates item amount
-length-reported estimates item amount false = refl
 
 -- ---- The arrival observed
 

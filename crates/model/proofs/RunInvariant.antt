@@ -20,7 +20,7 @@ use Rattle.model.specs.Network.{siteAt}
 use Rattle.model.specs.Runs.{refusalIn, Run, freshRun, runOne, runFrom, runOf}
 use Rattle.model.specs.Claims.{counted, FewMessages}
 use Rattle.model.proofs.SettingsLaws.{Settled}
-use Rattle.model.proofs.Rounds.{messages-few, messages-per-arrival}
+use Rattle.model.proofs.RoundBounds.{messages-few, messages-per-arrival}
 use Rattle.model.proofs.SitesInvariant.{few-pending}
 use Rattle.model.proofs.NetworkInvariant.{network-fresh, known-of-no-refusal}
 use Rattle.model.proofs.NetworkClose.{network-ok-arrival}
@@ -60,14 +60,20 @@ module _ {settings : Settings} {run : Run} (fit : Settled settings) (ok : RunOk 
   within-digits : settings .epsilon * length (run .messages)
       ≤ allowanceFactor * (settings .sites * (digits (counted (run .accepted)) + 1))
   within-digits =
-      messages-few (fit .epsilon .at-most) (ok .account) signals-le (few-pending (ok .sites-ok))
+      omega (
+        arith,
+        messages-few (fit .epsilon .at-most) (ok .account) signals-le (few-pending (ok .sites-ok)),
+      )
 
   pub messages-of-ok : FewMessages settings run
   messages-of-ok = record {
     within-digits = within-digits;
     per-arrival =
-        messages-per-arrival (fit .epsilon .at-most) (ok .account) signals-le
-        (few-pending (ok .sites-ok));
+        omega (
+          arith,
+          messages-per-arrival (fit .epsilon .at-most) (ok .account) signals-le
+              (few-pending (ok .sites-ok)),
+        );
     within-allowance =
         le-div-iff-mul-le {k = settings .epsilon} (omega (arith, fit .epsilon .at-least)) .1
         (omega (arith, within-digits));

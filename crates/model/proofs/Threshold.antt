@@ -9,7 +9,7 @@
 --   threshold-limit    (T5)      a third of a site's limit at most, if b ≤ k × limit
 use mathlib.Core.Path.{_≡_, refl, sym, ap, _∙_}
 use Prim.Native.Nat.{ℕ, zero, suc, _+_, _-_, _*_, _/_, _≤_, _<_, max}
-use native.Mathlib.Nat.{mul-le-mul-left, mul-le-mul-right, mul-le-mul, lt-div-mul-add, div-mul-le-self, le-of-mul-le-mul-left, div-le-self}
+use native.Mathlib.Nat.{mul-le-mul-left, mul-le-mul-right, mul-le-mul, lt-div-mul-add, div-mul-le-self, le-of-mul-le-mul-left, mul-zero, zero-div}
 use native.Mathlib.Omega.{arith}
 use native.Mathlib.Decide.{decLt}
 use Rattle.laws.proofs.Arithmetic.{two-thirds-of-div, div-mono}
@@ -21,7 +21,7 @@ module _ (settings : Settings) where
   threshold-positive base = omega arith
 
   pub threshold-of-zero : thresholdOf settings 0 ≡ 1
-  threshold-of-zero = omega (arith, div-le-self (settings .epsilon * 0) (3000 * settings .sites))
+  threshold-of-zero = rw (mul-zero, zero-div)
 
   module _ (some-site : 1 ≤ settings .sites) where
     abbrev unrounded : ℕ → ℕ

@@ -8,7 +8,7 @@ pub mod Halving
 pub mod Threshold
 pub mod Rounds
 pub mod RoundBounds
-pub mod ListBounds
+pub mod HeavyHitters
 pub mod CounterLaws
 pub mod DistinctItems
 pub mod SpaceSaving

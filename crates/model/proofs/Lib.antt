@@ -4,4 +4,5 @@ pub mod SettingsLaws
 pub mod Digits
 pub mod DecimalLaws
 pub mod LineLaws
+pub mod ReadBack
 pub mod Instances

@@ -38,4 +38,5 @@ pub mod ListLaws
 pub mod RunLaws
 pub mod RunInvariant
 pub mod Theorem
+pub mod ReadBack
 pub mod Instances

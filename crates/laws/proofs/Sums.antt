@@ -6,7 +6,7 @@
 --   sumOf f xs              f of each element, summed; 0 of no element
 --   sumOf-set, sumOf-snoc   one element changed or added
 --   sumOf-least             as many times the least as there are elements
-use mathlib.Core.Path.{_≡_, refl, ap, sym, _∙_}
+use mathlib.Core.Path.{_≡_, refl, ap}
 use mathlib.Core.List.{List, [], _∷_, _++_}
 use Prim.Native.Nat.{ℕ, zero, suc, _+_, _*_, _≤_, _<_}
 use native.Mathlib.Omega.{arith}

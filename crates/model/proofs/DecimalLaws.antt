@@ -4,12 +4,14 @@
 --   more-digits-on, -stop, -long    a digit is taken into the number; another byte ends it; a digit
 --                                   too many makes it no number
 --   decimal-small, decimal-large    the digits of a number below ten, and of another by its tenth
+--   length-decimal-large            how many they are
 use mathlib.Core.Path.{_≡_, refl, ap, _∙_}
 use mathlib.Core.Bool.{true, false}
 use mathlib.Core.List.{List, [], _∷_, _++_}
 use Prim.Native.Nat.{ℕ, zero, suc, _+_, _*_, _/_, _%_, _≤_, _<_}
 use native.Mathlib.Omega.{arith}
 use native.Mathlib.Decide.{decLt}
+use lib.ListN.{length, length-append}
 use borrow.Author.Tests.{lt-ltb, le-ltb}
 use Rattle.model.specs.Decimal.{isDigit, digitValue, digitByte, Number, noNumber, number, moreDigits, decimalWithin, decimal}
 use Rattle.model.proofs.SettingsLaws.{Within, within-of-between}
@@ -64,12 +66,20 @@ decimal-within-enough (suc m) (suc m′) n few few′ =
         (ap (λ (digits : List ℕ). digits ++ (digitByte (n % 10) ∷ [])) (tenth at-least))
 
 pub decimal-small : (n : ℕ) → n < 10 → decimal n ≡ digitByte n ∷ []
+unfolding decimal
 decimal-small n small = decimal-within-small n n small
 
 pub decimal-large : (n : ℕ)
     → 10 ≤ n
     → decimal n ≡ decimal (n / 10) ++ (digitByte (n % 10) ∷ [])
+unfolding decimal
 decimal-large n large =
     decimal-within-large n n large
     ∙ ap (λ (digits : List ℕ). digits ++ (digitByte (n % 10) ∷ []))
     (decimal-within-enough n (suc (n / 10)) (n / 10) (omega arith) (omega arith))
+
+pub length-decimal-large : (n : ℕ)
+    → 10 ≤ n
+    → length (decimal n) ≡ length (decimal (n / 10)) + 1
+length-decimal-large n large =
+    ap length (decimal-large n large) ∙ length-append (decimal (n / 10)) (digitByte (n % 10) ∷ [])

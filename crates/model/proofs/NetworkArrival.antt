@@ -1,21 +1,18 @@
--- An accepted arrival keeps what holds of a network between arrivals (PROOF.md sections 3 and 6), as far
--- as the arrival's own messages go; NetworkClose has the close.
+-- An accepted arrival keeps what holds of a network between arrivals (PROOF.md sections 3 and 6),
+-- as far as the arrival's own messages go; NetworkClose has the close.
 --
---   Arriving             a network at rest and an arrival that is known
 --   sites-then           the sites when the arrival is observed
 --   estimates-then       N3 after the item report, if one is due
---   figures-silent, account-signal   the account with no count report, or with one
+--   account-then         the account with no count report, or with one
 --   kept-silent, kept-signal         the whole, where the round is not closed
-use mathlib.Core.Path.{_≡_, refl, sym, ap, _∙_}
+use mathlib.Core.Path.{_≡_, refl, ap, _∙_}
 use mathlib.Core.Bool.{Bool, true, false}
 use mathlib.Core.List.{List, [], _∷_, _++_}
-use Prim.Native.Nat.{ℕ, zero, suc, _+_, _*_, _≤_, _<_}
+use Prim.Native.Nat.{ℕ, _+_, _*_, _<_}
 use native.Mathlib.Omega.{arith}
-use native.Mathlib.Decide.{ℕ-discrete}
-use lib.Dec.{eqb, ltb, leb}
-use lib.ListN.{length, getD, set, length-set, length-append}
-use lib.Seq.{getD-set-same, getD-set-other}
-use borrow.Author.Tests.{leb-false, eq-eqb, ne-eqb}
+use lib.Dec.{eqb}
+use lib.ListN.{length, getD, length-append}
+use borrow.Author.Tests.{leb-false, eq-eqb}
 use Rattle.laws.proofs.Sums.{sumBelow}
 use Rattle.model.specs.declared.Settings.{Settings}
 use Rattle.model.specs.declared.Arrival.{Arrival}
@@ -23,12 +20,13 @@ use Rattle.model.specs.declared.Message.{Message}
 use Rattle.model.specs.declared.Phase.the-variants.{Idle}
 use Rattle.model.specs.Choice.{if_then_else_}
 use Rattle.model.specs.Refusals.{when}
-use Rattle.model.specs.Limits.{topValue, valueCount}
+use Rattle.model.specs.Limits.{valueCount}
 use Rattle.model.specs.Counters.{lostBy}
-use Rattle.model.specs.Site.{Site, freshSite, placementIn, reportsItem, reportsCount, observed}
+use Rattle.model.specs.Site.{Site, placementIn, reportsItem, reportsCount, observed}
 use Rattle.model.specs.Network.{Network, siteAt}
 use Rattle.model.specs.Claims.{counted}
 use Rattle.model.proofs.SettingsLaws.{Settled}
+use Rattle.model.proofs.ReportLaws.{when-times, when-le, value-counted, estimates-reported, length-reported}
 use Rattle.model.proofs.ArrivalLaws.{counted-snoc}
 use Rattle.model.proofs.SiteInvariant.{ObservedOk, observed-ok}
 use Rattle.model.proofs.DeliveryLoops.{networkOf}
@@ -36,56 +34,8 @@ use Rattle.model.proofs.DeliveryMessages.{pendingAt}
 use Rattle.model.proofs.ArrivalParts.{observedSites, firstMessages, afterItemReport, afterCountReport, length-firstMessages}
 use Rattle.model.proofs.SitesInvariant.{growAt, sum-growAt, SitesOk, unreportedAt, sites-arrival, unreported-arrival, pending-arrival}
 use Rattle.model.proofs.QuantileLaws.{EarlyValues, early-arrival, late-arrival}
-use Rattle.model.proofs.Rounds.{Figures, Account, ArrivalIn, account-arrival}
-use Rattle.model.proofs.NetworkInvariant.{probingMessages, figuresOf, NetworkOk, ArrivalKnown}
-
--- ---- Choices as numbers
-
-when-times : (due : Bool) (amount : ℕ) → when due 1 * amount ≡ (if due then amount else 0)
-when-times true amount = omega arith
-when-times false amount = omega arith
-
-when-le : (due : Bool) → when due 1 ≤ 1
-when-le true = omega arith
-when-le false = omega arith
-
--- Values up to the top value have a place in the histogram.
-value-counted : (value : ℕ) → value ≤ topValue → value < valueCount
-unfolding valueCount
-value-counted value known = omega arith
-
--- The estimates after an item report of so much, if it is due.
-estimates-reported : (estimates : List ℕ) (item amount x : ℕ) (due : Bool)
-    → item < length estimates
-    → getD (if due then set estimates item (getD estimates item 0 + amount) else estimates) x 0
-    ≡ getD estimates x 0 + (if eqb x item then (if due then amount else 0) else 0)
-estimates-reported estimates item amount x true inside = by-item (ℕ-discrete x item)
-  where
-    by-item : Dec (x ≡ item)
-        → getD (set estimates item (getD estimates item 0 + amount)) x 0
-        ≡ getD estimates x 0 + (if eqb x item then amount else 0)
-    by-item (yes same) =
-        rw (
-          same,
-          eq-eqb item item refl,
-          getD-set-same estimates item (getD estimates item 0 + amount) 0 inside,
-        )
-    by-item (no differ) =
-        rw (
-          ne-eqb x item differ,
-          getD-set-other estimates item x (getD estimates item 0 + amount) 0 differ,
-        ) (omega arith)
-estimates-reported estimates item amount x false inside = by-test (eqb x item)
-  where
-    by-test : (same : Bool)
-        → getD estimates x 0 ≡ getD estimates x 0 + (if same then 0 else 0)
-    by-test true = omega arith
-    by-test false = omega arith
-
-length-reported : (estimates : List ℕ) (item amount : ℕ) (due : Bool)
-    → length (if due then set estimates item amount else estimates) ≡ length estimates
-length-reported estimates item amount true = length-set estimates item amount
-length-reported estimates item amount false = refl
+use Rattle.model.proofs.Rounds.{Figures, Account, account-arrival}
+use Rattle.model.proofs.NetworkInvariant.{probingMessages, NetworkOk, ArrivalKnown}
 
 -- ---- The arrival observed
 
@@ -106,17 +56,17 @@ module _ {settings : Settings} {network : Network}
   abbrev sites : List Site
   sites = observedSites settings network arrival
 
-  abbrev pub acceptedThen : List Arrival
-  acceptedThen = accepted ++ (arrival ∷ [])
+  abbrev pub acceptedWith : List Arrival
+  acceptedWith = accepted ++ (arrival ∷ [])
 
-  abbrev pub messagesThen : List Message
-  messagesThen = messages ++ firstMessages settings network arrival
+  abbrev pub messagesWith : List Message
+  messagesWith = messages ++ firstMessages settings network arrival
 
-  abbrev pub arrivedThen : ℕ → ℕ → ℕ
-  arrivedThen = growAt (ok .arrived) (arrival .site) (arrival .item) 1
+  abbrev pub arrivedWith : ℕ → ℕ → ℕ
+  arrivedWith = growAt (ok .arrived) (arrival .site) (arrival .item) 1
 
-  abbrev pub reportedThen : ℕ → ℕ → ℕ
-  reportedThen =
+  abbrev pub reportedWith : ℕ → ℕ → ℕ
+  reportedWith =
       growAt (ok .reported) (arrival .site) (arrival .item)
       (if reportsItem settings (siteAt network (arrival .site)) arrival
       then network .coordinator .threshold else 0)
@@ -136,16 +86,17 @@ module _ {settings : Settings} {network : Network}
       site arrival (fit .capacity .at-least) (ok .account .threshold-positive) value-inside
       (ok .sites-ok .each-ok (arrival .site) (known .site-known))
 
-  pub sites-then : SitesOk settings threshold sites arrivedThen reportedThen acceptedThen
+  pub sites-then : SitesOk settings threshold sites arrivedWith reportedWith acceptedWith
   sites-then = sites-arrival (ok .sites-ok) (known .site-known) (known .value-known) observed-here
 
   pub estimates-then : (item : ℕ)
       → getD (afterItemReport settings network arrival .estimates) item 0
-      ≡ sumBelow (λ j. reportedThen j item) (settings .sites)
+      ≡ sumBelow (λ j. reportedWith j item) (settings .sites)
   estimates-then item =
       let inside : arrival .item < length (network .coordinator .estimates) =
       omega (arith, ok .estimates-long, known .item-known) in
-      let amount : (if eqb item (arrival .item) then (if itemDue then site .threshold else 0) else 0)
+      let amount : (if eqb item (arrival .item)
+      then (if itemDue then site .threshold else 0) else 0)
       ≡ (if eqb item (arrival .item) then (if itemDue then threshold else 0) else 0) =
       ap (λ (t : ℕ). if eqb item (arrival .item) then (if itemDue then t else 0) else 0)
       same-threshold in
@@ -167,7 +118,7 @@ module _ {settings : Settings} {network : Network}
 
   -- ---- The account
 
-  messages-length : length messagesThen
+  messages-length : length messagesWith
       ≡ length messages + when itemDue 1 + when (reportsCount site) 1
   messages-length =
       omega (
@@ -177,20 +128,20 @@ module _ {settings : Settings} {network : Network}
       )
 
   -- The figures after the arrival, with these signals.
-  abbrev figuresThen : ℕ → Figures
-  figuresThen signals = record {
+  abbrev pub figuresWith : ℕ → Figures
+  figuresWith signals = record {
     threshold = network .coordinator .threshold;
     base = network .coordinator .base;
-    arrivals = counted acceptedThen;
+    arrivals = counted acceptedWith;
     pending = sumBelow (pendingAt sites) (settings .sites);
     signals = signals;
     unreported = sumBelow (unreportedAt sites) (settings .sites);
-    messages = length messagesThen;
+    messages = length messagesWith;
   }
 
-  account-then : (countDue : Bool) → reportsCount site ≡ countDue
+  pub account-then : (countDue : Bool) → reportsCount site ≡ countDue
       → Account (settings .sites) (settings .epsilon) probingMessages
-      (figuresThen (network .coordinator .signals + when countDue 1))
+      (figuresWith (network .coordinator .signals + when countDue 1))
   account-then countDue is-due =
       account-arrival {items = when itemDue 1} {counts = when countDue 1} (ok .account) (record {
         same-threshold = refl;
@@ -201,7 +152,8 @@ module _ {settings : Settings} {network : Network}
             omega (
               arith,
               when-times itemDue threshold,
-              unreported-arrival (ok .sites-ok) (known .site-known) (known .value-known) observed-here,
+              unreported-arrival (ok .sites-ok) (known .site-known) (known .value-known)
+                  observed-here,
             );
         pending-moves =
             omega (
@@ -214,3 +166,66 @@ module _ {settings : Settings} {network : Network}
         messages-move =
             omega (arith, messages-length, ap (λ (due : Bool). when due 1) is-due);
       })
+
+  -- ---- The round goes on
+
+  -- At threshold 1 every arrival has a count report, with its value.
+  pub early-then : reportsCount site ≡ true
+      → network .coordinator .threshold ≡ 1
+      → EarlyValues (afterCountReport settings network arrival Idle .histogram) acceptedWith
+  early-then due one =
+      rw (
+        eq-eqb (network .coordinator .threshold) 1 one,
+        eq-eqb (site .threshold) 1 (same-threshold ∙ one),
+      )
+      (early-arrival (network .coordinator .histogram) accepted arrival value-inside
+      (ok .early-values one))
+
+  pub kept-silent : reportsCount site ≡ false
+      → NetworkOk settings (networkOf sites (afterItemReport settings network arrival))
+      acceptedWith messagesWith
+  kept-silent silent = record {
+    arrived = arrivedWith;
+    reported = reportedWith;
+    idle = refl;
+    few-signals = ok .few-signals;
+    threshold-is = ok .threshold-is;
+    sites-ok = sites-then;
+    total-is = ok .total-is;
+    estimates-long = estimates-long-then;
+    estimates-are = estimates-then;
+    early-values = λ one.
+        absurd (omega (
+          arith,
+          same-threshold,
+          leb-false (site .threshold) (site .pending + 1) silent,
+        ));
+    late-quantile = λ two. late-arrival arrival (ok .late-quantile two);
+    account = rw no-more at (account-then false silent);
+  }
+    where
+      no-more : network .coordinator .signals + when false 1 ≡ network .coordinator .signals
+      no-more = omega arith
+
+  pub total-then : network .coordinator .total + site .threshold
+      ≡ network .coordinator .base + (network .coordinator .signals + 1) * threshold
+  total-then = omega (arith, ok .total-is, same-threshold)
+
+  pub kept-signal : reportsCount site ≡ true
+      → (network .coordinator .signals + 1 ≡ settings .sites → ⊥)
+      → NetworkOk settings (networkOf sites (afterCountReport settings network arrival Idle))
+      acceptedWith messagesWith
+  kept-signal due not-last = record {
+    arrived = arrivedWith;
+    reported = reportedWith;
+    idle = refl;
+    few-signals = omega (arith, ok .few-signals);
+    threshold-is = ok .threshold-is;
+    sites-ok = sites-then;
+    total-is = total-then;
+    estimates-long = estimates-long-then;
+    estimates-are = estimates-then;
+    early-values = early-then due;
+    late-quantile = λ two. late-arrival arrival (ok .late-quantile two);
+    account = account-then true due;
+  }

@@ -1,21 +1,20 @@
 -- The account of messages over numbers alone (PROOF.md section 6, M1 to M5): what an arrival and a
--- close do to it, and the two bounds on messages. A close that probes costs ρ × k messages beside the
--- 3 × k of polls, answers and announcements (ρ is 20 for one rank, ten halvings of two messages).
+-- close do to it. A close that probes costs ρ × k messages beside the 3 × k of polls, answers and
+-- announcements (ρ is 20 for one rank: ten halvings of two messages a site). RoundBounds has what
+-- follows for the number of messages.
 --
 --   Account k e ρ figures      what holds between arrivals, with k sites and epsilon e
 --   account-fresh              of a fresh network
---   account-silent             an arrival after which no count report goes out
---   account-signal             an arrival after which one goes out
---   account-close-one          a close that leaves threshold 1
---   account-close-more         a close that leaves threshold 2 or more
---   messages-few               e × messages ≤ (40,000 + 5500 × ρ) × k × (digits of arrivals, plus 1)
---   messages-per-arrival       messages ≤ (5 + ρ) × arrivals
-use mathlib.Core.Path.{_≡_, refl, sym, ap, _∙_}
-use Prim.Native.Nat.{ℕ, zero, suc, _+_, _-_, _*_, _≤_, _<_}
+--   ArrivalIn, account-arrival kept by an arrival, with an item report or a count report or both
+--   CloseIn                    what a close does
+--   account-close-quiet        kept by a close that leaves threshold 1
+--   account-close-probing      kept by a close that leaves threshold 2 or more
+use mathlib.Core.Path.{_≡_, refl, ap}
+use Prim.Native.Nat.{ℕ, suc, _+_, _*_, _≤_, _<_}
 use native.Mathlib.Nat.{mul-le-mul-left, mul-le-mul-right, mul-le-mul, le-of-mul-le-mul-right, le-of-mul-le-mul-left}
 use native.Mathlib.Omega.{arith}
 use native.Mathlib.Decide.{decLt}
-use Rattle.laws.proofs.Arithmetic.{mul-gap, bound-of-larger}
+use Rattle.laws.proofs.Arithmetic.{bound-of-larger}
 use Rattle.model.specs.Settings.{digits}
 use Rattle.model.proofs.Digits.{digits-le, digits-twice}
 
@@ -252,53 +251,5 @@ module _ {k e ρ cost : ℕ} {x y : Figures}
       by-stage (early one none) =
           rw none (stage-first k e (y .threshold) (x .arrivals) some-site e-le two low high)
       by-stage (late a g was-two top some a≤b b<2a long paid) =
-          stage-next (y .threshold) (x .arrivals) e-le (omega (arith, signals-cost)) two high was-two
-          (late a g was-two top some a≤b b<2a long paid)
-
--- ---- The bounds between arrivals: fewer than k signals, each site's pending below the threshold
-
-module _ {k e ρ : ℕ} {x : Figures}
-    (e-le : e ≤ 1000) (account : Account k e ρ x)
-    (few-signals : x .signals ≤ k) (few-pending : x .pending ≤ k * x .threshold) where
-  abbrev closesSoFar : ℕ
-  closesSoFar = account .closesQuiet + account .closesProbing
-
-  -- M2 with arrivals - base ≤ 2 × k × t: at most 2 × k item reports a round.
-  reports-few : account .itemReports ≤ 2 * (k * (closesSoFar + 1))
-  reports-few =
-      le-of-mul-le-mul-right {k = x .threshold}
-      (omega (arith, mul-le-mul-right (x .threshold) few-signals)) (account .threshold-positive)
-
-  -- Item reports ≤ arrivals, and (4 + ρ) × k × closes + signals ≤ (4 + ρ) × total.
-  pub messages-per-arrival : x .messages ≤ (5 + ρ) * x .arrivals
-  messages-per-arrival =
-      let probing : k * account .closesProbing ≤ x .arrivals = omega arith in
-      let total : x .base + x .signals ≤ x .arrivals =
-      omega (arith, mul-le-mul-left (x .signals) (account .threshold-positive)) in
-      omega (arith, mul-le-mul-left ρ probing)
-
-  -- M5 at the end: e × closes that probed ≤ 5500 × (g + 1), and g + 3 ≤ digits.
-  probing-few : Stage k e (x .threshold) (x .base) (account .closesProbing)
-      → e * account .closesProbing ≤ 5500 * digits (x .arrivals)
-  probing-few (early _ none) = omega (arith, ap (λ (z : ℕ). e * z) none)
-  probing-few (late a g two top some a≤b b<2a long paid) =
-      let few : e * account .closesProbing ≤ 5500 * g + e + 4500 =
-      le-of-mul-le-mul-right {k = a} (omega arith) some in
-      omega (arith, digits-le {m = a} {n = x .arrivals} (omega arith))
-
-  -- messages ≤ 6 × k × quiet + (6 + ρ) × k × probing + 3 × k, times e: at most
-  -- 36,000 × k + (6 + ρ) × 5500 × k × digits + 3000 × k.
-  pub messages-few : e * x .messages ≤ (40000 + 5500 * ρ) * (k * (digits (x .arrivals) + 1))
-  messages-few =
-      let few : e * account .closesProbing ≤ 5500 * digits (x .arrivals) =
-      probing-few (account .stage) in
-      omega (
-        arith,
-        ap (λ (z : ℕ). e * z) (account .messages-are),
-        mul-le-mul-left e reports-few,
-        mul-le-mul-left e few-signals,
-        mul-le-mul-left k e-le,
-        mul-le-mul-left k (account .few-quiet),
-        mul-le-mul-left k few,
-        mul-le-mul-left ρ (mul-le-mul-left k few),
-      )
+          stage-next (y .threshold) (x .arrivals) e-le (omega (arith, signals-cost)) two high
+          was-two (late a g was-two top some a≤b b<2a long paid)

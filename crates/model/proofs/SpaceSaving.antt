@@ -1,23 +1,21 @@
--- Space-Saving at one site: what its counters say of the arrivals of each item (PROOF.md S1 to S4), and
--- that the three ways of counting an arrival keep it.
+-- Space-Saving at one site: what its counters say of the arrivals of each item (PROOF.md S1 to S4),
+-- and that an arrival counted in its own or in an unused counter keeps it; Replacement has the
+-- third way.
 --
 -- `arrived item` is the item's arrivals at this site, `reported item` the sum of the site's item
 -- reports of it; n is the site's arrivals.
 --
 --   CounterOk, NotHeld, Saved     of one counter; of an item without one; of the whole list
---   saved-own, saved-unused, saved-replaced   an arrival is counted
---   reported-le, arrived-near     what was reported of an item: no more than arrived, and little less
-use mathlib.Core.Path.{_≡_, refl, sym, ap, _∙_}
+--   saved-fresh                   of no counters
+--   saved-own, saved-unused       an arrival is counted
+use mathlib.Core.Path.{_≡_, refl, sym, _∙_}
 use mathlib.Core.List.{List, [], _∷_, _++_}
-use Prim.Native.Nat.{ℕ, zero, suc, _+_, _-_, _*_, _≤_, _<_}
-use native.Mathlib.Nat.{mul-le-mul-left, mul-le-mul-right}
+use Prim.Native.Nat.{ℕ, _+_, _*_, _≤_, _<_}
 use native.Mathlib.Omega.{arith}
-use native.Mathlib.Decide.{ℕ-discrete, decLt}
-use lib.ListN.{length, getD, set, length-set}
+use lib.ListN.{length, set, length-set}
 use Rattle.laws.proofs.Lists.{length-snoc, all-set, all-snoc}
-use Rattle.laws.proofs.Sums.{sumOf, sumOf-nil, sumOf-set, sumOf-snoc, sumOf-least}
-use Rattle.model.specs.Counters.{Counter, noCounter, counterAt, unreported, find, oneMoreOf, firstOf, replacing}
-use Rattle.model.proofs.CounterLaws.{Found, find-is, LeastAt}
+use Rattle.laws.proofs.Sums.{sumOf, sumOf-nil, sumOf-set, sumOf-snoc}
+use Rattle.model.specs.Counters.{Counter, noCounter, counterAt, oneMoreOf, firstOf}
 use Rattle.model.proofs.DistinctItems.{Absent, Apart, apart-set, apart-snoc, absent-of-set, absent-before-set, absent-of-snoc}
 
 -- ---- What holds
@@ -26,18 +24,21 @@ use Rattle.model.proofs.DistinctItems.{Absent, Apart, apart-set, apart-
 pub record CounterOk (arrived reported : ℕ → ℕ) (capacity n : ℕ) (x : Counter) : Type 0 where
   pub amounts-fit : x .overestimate + x .reported ≤ x .count
   pub arrived-le-count : arrived (x .item) ≤ x .count
-  pub reported-low : reported (x .item) + x .count ≤ arrived (x .item) + x .overestimate + x .reported
+  pub reported-low : reported (x .item) + x .count
+      ≤ arrived (x .item) + x .overestimate + x .reported
   pub reported-high : x .reported ≤ reported (x .item)
   pub overestimate-low : capacity * x .overestimate ≤ n
 
 -- S4 of an item without a counter: it arrived at most as often as the least count says, and not at
 -- all while a counter is unused.
-pub record NotHeld (arrived reported : ℕ → ℕ) (capacity : ℕ) (counters : List Counter) (item : ℕ) : Type 0 where
+pub record NotHeld (arrived reported : ℕ → ℕ) (capacity : ℕ)
+    (counters : List Counter) (item : ℕ) : Type 0 where
   pub reported-le : reported item ≤ arrived item
   pub arrived-le-counts : (j : ℕ) → j < length counters → arrived item ≤ counterAt counters j .count
   pub none-arrived : length counters < capacity → arrived item ≡ 0
 
-pub record Saved (arrived reported : ℕ → ℕ) (capacity n : ℕ) (counters : List Counter) : Type 0 where
+pub record Saved (arrived reported : ℕ → ℕ) (capacity n : ℕ)
+    (counters : List Counter) : Type 0 where
   pub within : length counters ≤ capacity
   pub counts-add-up : sumOf (λ x. x .count) counters ≡ n
   pub apart : Apart counters
@@ -70,7 +71,7 @@ module _ {arrived arrived′ reported : ℕ → ℕ} {capacity n item : ℕ} {co
     (one-more : GrowsAt item 1 arrived arrived′)
     (saved : Saved arrived reported capacity n counters) where
   -- A counter of another item.
-  other-ok : (x : Counter)
+  pub other-ok : (x : Counter)
       → (x .item ≡ item → ⊥)
       → CounterOk arrived reported capacity n x
       → CounterOk arrived′ reported capacity (n + 1) x
@@ -85,7 +86,7 @@ module _ {arrived arrived′ reported : ℕ → ℕ} {capacity n item : ℕ} {co
       }
 
   -- Of another item without a counter, before and after: the counts never fell.
-  others-not-held : (other : ℕ)
+  pub others-not-held : (other : ℕ)
       → (item ≡ other → ⊥)
       → NotHeld arrived reported capacity counters other
       → (after : List Counter)
@@ -169,7 +170,8 @@ module _ {arrived arrived′ reported : ℕ → ℕ} {capacity n item : ℕ} {co
 
       x-ok : CounterOk arrived′ reported capacity (n + 1) x
       x-ok =
-          let before : NotHeld arrived reported capacity counters item = saved .not-held item absent in
+          let before : NotHeld arrived reported capacity counters item =
+          saved .not-held item absent in
           let none : arrived item ≡ 0 = before .none-arrived room in
           record {
             amounts-fit = omega arith;
@@ -190,85 +192,3 @@ module _ {arrived arrived′ reported : ℕ → ℕ} {capacity n item : ℕ} {co
           (all-snoc (λ y. arrived other ≤ y .count) noCounter counters x (omega arith)
           (before .arrived-le-counts))
           (λ _. room)
-
-  -- The item replaces the one of least count, which is an upper bound of both items' arrivals.
-  pub saved-replaced : (place : ℕ)
-      → LeastAt counters place
-      → Absent item counters
-      → capacity ≤ length counters
-      → Saved arrived′ reported capacity (n + 1)
-      (set counters place (replacing (counterAt counters place) item))
-  saved-replaced place least-at absent full = record {
-    within = omega (arith, length-set counters place x);
-    counts-add-up = omega (arith, sumOf-set (λ x. x .count) noCounter counters place x inside);
-    apart = apart-set counters place x inside (saved .apart) (λ j j< _. absent .nowhere j j<);
-    held = all-set (CounterOk arrived′ reported capacity (n + 1)) noCounter counters place x inside
-        x-ok (λ j j< _. other-ok _ (absent .nowhere j j<) (saved .held j j<));
-    not-held = others;
-  }
-    where
-      x : Counter
-      x = replacing (counterAt counters place) item
-
-      inside : place < length counters
-      inside = least-at .inside
-
-      -- capacity × the least count ≤ the sum of all counts.
-      least-low : capacity * counterAt counters place .count ≤ n
-      least-low =
-          let least : ℕ = counterAt counters place .count in
-          omega (
-            arith,
-            mul-le-mul-right (counterAt counters place .count) full,
-            sumOf-least (λ x. x .count) noCounter counters (counterAt counters place .count)
-                (least-at .least),
-          )
-
-      x-ok : CounterOk arrived′ reported capacity (n + 1) x
-      x-ok =
-          let before : NotHeld arrived reported capacity counters item = saved .not-held item absent in
-          record {
-            amounts-fit = omega arith;
-            arrived-le-count = omega (arith, one-more .grown, before .arrived-le-counts place inside);
-            reported-low = omega (arith, one-more .grown);
-            reported-high = omega arith;
-            overestimate-low = omega (arith, least-low);
-          }
-
-      counts-grow : (other : ℕ)
-          → ((j : ℕ) → j < length counters → arrived other ≤ counterAt counters j .count)
-          → (j : ℕ) → j < length (set counters place x)
-          → arrived other ≤ counterAt (set counters place x) j .count
-      counts-grow other low =
-          all-set (λ y. arrived other ≤ y .count) noCounter counters place x inside
-          (omega (arith, low place inside)) (λ j j< _. low j j<)
-
-      -- The item that left is held no more: its count was the least.
-      left-not-held : CounterOk arrived reported capacity n (counterAt counters place)
-          → NotHeld arrived reported capacity counters (counterAt counters place .item)
-      left-not-held ok = record {
-        reported-le = omega arith;
-        arrived-le-counts = λ j j<. omega (arith, least-at .least j j<);
-        none-arrived = λ room. absurd (omega arith);
-      }
-
-      others : (other : ℕ) → Absent other (set counters place x)
-          → NotHeld arrived′ reported capacity (set counters place x) other
-      others other gone = by-item (ℕ-discrete (counterAt counters place .item) other)
-        where
-          differs : item ≡ other → ⊥
-          differs = absent-of-set counters place x inside other gone .not-new
-
-          as-before : NotHeld arrived reported capacity counters other
-              → NotHeld arrived′ reported capacity (set counters place x) other
-          as-before before =
-              others-not-held other differs before (set counters place x)
-              (counts-grow other (before .arrived-le-counts))
-              (λ room. omega (arith, length-set counters place x))
-
-          by-item : Dec (counterAt counters place .item ≡ other)
-              → NotHeld arrived′ reported capacity (set counters place x) other
-          by-item (yes left) = as-before (rw left at (left-not-held (saved .held place inside)))
-          by-item (no other-item) =
-              as-before (saved .not-held other
-              (absent-before-set counters place x inside other gone other-item))

@@ -69,6 +69,11 @@ abbrev pub writtenAt : ℕ → List ℕ → List ℕ → List ℕ
 writtenAt place written bytes =
     take place bytes ++ written ++ drop (place + length written) bytes
 
+-- The digits of a number written from a place on where they fit, and how many they are.
+pub record DigitsPut (n place : ℕ) (before after : List ℕ) (answer : ℕ) : Type 0 where
+  pub count : answer ≡ length (decimal n)
+  pub bytes : after ≡ writtenAt place (decimal n) before
+
 -- The digits of a number written from a place on, and how many they are; where they don't fit,
 -- nothing is written and the answer is 0.
 pub record DecimalSays (n place : ℕ) (before after : List ℕ) (answer : ℕ) : Type 0 where

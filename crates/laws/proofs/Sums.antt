@@ -95,6 +95,10 @@ module _ {A : Type 0} where
   unfolding sumOf
   sumOf-nil f = refl
 
+  pub sumOf-cons : (f : A → ℕ) (x : A) (xs : List A) → sumOf f (x ∷ xs) ≡ f x + sumOf f xs
+  unfolding sumOf
+  sumOf-cons f x xs = refl
+
   pub sumOf-set : (f : A → ℕ) (default : A) (xs : List A) (i : ℕ) (x : A)
       → i < length xs
       → sumOf f (set xs i x) + f (getD xs i default) ≡ sumOf f xs + f x

@@ -53,3 +53,5 @@ pub mod AnnounceStage
 pub mod MidDelivery
 pub mod SoundStages
 pub mod SoundTheorem
+pub mod NumberGrowth
+pub mod NumberTheorem

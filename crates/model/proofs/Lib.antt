@@ -39,7 +39,6 @@ pub mod RunLaws
 pub mod RunInvariant
 pub mod Theorem
 pub mod ReadBack
-pub mod Instances
 pub mod SoundCounters
 pub mod SoundSites
 pub mod CoordinatorSound
@@ -52,6 +51,8 @@ pub mod ProbeStage
 pub mod AnnounceStage
 pub mod MidDelivery
 pub mod SoundStages
+pub mod NeverFalls
 pub mod SoundTheorem
 pub mod NumberGrowth
 pub mod NumberTheorem
+pub mod Instances

@@ -23,8 +23,8 @@ use Rattle.model.specs.Counters.{Counter, unreported, lostBy}
 use Rattle.model.specs.Site.{Site, freshSite, oneMoreAt, observed, reportsItem, reportedValue}
 use Rattle.model.specs.Network.{Network, siteAt, afterArrival}
 use Rattle.model.specs.NetworkMemory.{allArrivals}
-use Rattle.model.specs.SoundNetwork.{SoundSite, Sound}
-use Rattle.model.specs.NumberClaims.{estimateOf, countOfValue, unreportedIn, allUnreported, Grown}
+use Rattle.model.specs.SoundNetwork.{SoundSite, estimateOf, countOfValue, Sound}
+use Rattle.model.specs.NumberClaims.{unreportedIn, allUnreported, Grown}
 use Rattle.model.proofs.SettingsLaws.{Settled}
 use Rattle.model.proofs.DeliveryLoops.{polled, told}
 use Rattle.model.proofs.ArrivalParts.{observedSites, afterItemReport, afterCountReport, ArrivalCase, noCountReport, countReported, closesOne, closesMore, arrival-case, networkThen}

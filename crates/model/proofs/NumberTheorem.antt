@@ -22,8 +22,8 @@ use Rattle.model.specs.Site.{Site}
 use Rattle.model.specs.Network.{Network, siteAt, Delivered, afterArrival}
 use Rattle.model.specs.NetworkMemory.{allArrivals}
 use Rattle.model.specs.Runs.{refusalIn, batchRefusal, Batch, batchFrom, batchOf}
-use Rattle.model.specs.SoundNetwork.{SoundSite, Sound}
-use Rattle.model.specs.NumberClaims.{estimateOf, countOfValue, unreportedIn, allUnreported, Grown, estimateLimit, valueCountLimit, WithinLimit, BatchNumbers, NumberClaims}
+use Rattle.model.specs.SoundNetwork.{SoundSite, estimateOf, countOfValue, Sound}
+use Rattle.model.specs.NumberClaims.{unreportedIn, allUnreported, Grown, estimateLimit, valueCountLimit, WithinLimit, BatchNumbers, NumberClaims}
 use Rattle.model.proofs.RefusalLaws.{both-accepted}
 use Rattle.model.proofs.SettingsLaws.{Settled, settled}
 use Rattle.model.proofs.ArrivalParts.{ArrivalCase, arrival-case, networkThen}

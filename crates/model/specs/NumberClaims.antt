@@ -1,7 +1,6 @@
 -- How large the coordinator's numbers may grow, from any sound network: what keeps a batch call's
 -- arithmetic within 64 bits, also from memory that never arose (PROOF.md S7).
 --
---   estimateOf network item, countOfValue network value   two numbers of its memory; 0 past the end
 --   allUnreported sites                  the unreported arrivals of all counters of all sites
 --   Grown before after                   each estimate with all unreported, and each value count,
 --                                        grew by at most the arrivals taken in between
@@ -10,7 +9,6 @@
 use mathlib.Core.Path.{_≡_}
 use mathlib.Core.List.{List, [], _∷_}
 use Prim.Native.Nat.{ℕ, _+_, _≤_}
-use lib.ListN.{getD}
 use Rattle.model.specs.declared.Settings.{Settings}
 use Rattle.model.specs.declared.Arrival.{Arrival}
 use Rattle.model.specs.Refusals.{accepted}
@@ -21,15 +19,9 @@ use Rattle.model.specs.Site.{Site}
 use Rattle.model.specs.Network.{Network, afterArrival}
 use Rattle.model.specs.NetworkMemory.{allArrivals}
 use Rattle.model.specs.Runs.{refusalIn, Batch, batchOf}
-use Rattle.model.specs.SoundNetwork.{Sound}
+use Rattle.model.specs.SoundNetwork.{estimateOf, countOfValue, Sound}
 
 -- ---- The numbers
-
-abbrev pub estimateOf : Network → ℕ → ℕ
-estimateOf network item = getD (network .coordinator .estimates) item 0
-
-abbrev pub countOfValue : Network → ℕ → ℕ
-countOfValue network value = getD (network .coordinator .histogram) value 0
 
 abbrev pub unreportedIn : List Counter → ℕ
 unreportedIn [] = 0

@@ -55,4 +55,7 @@ pub mod NeverFalls
 pub mod SoundTheorem
 pub mod NumberGrowth
 pub mod NumberTheorem
+pub mod ConsistentSites
+pub mod ConsistentCoordinator
+pub mod ConsistentNetwork
 pub mod Instances

@@ -8,8 +8,8 @@
 --   sumBelow-allPending, sumBelow-allArrivals   sums by place are the sums along the list
 --   baseOf-allPending       the new base, where it has k sites: the total with all pendings
 use mathlib.Core.Path.{_≡_, refl, sym, ap, _∙_}
-use mathlib.Core.List.{List, [], _∷_, _++_, map}
-use Prim.Native.Nat.{ℕ, zero, suc, _+_, _≤_, _<_}
+use mathlib.Core.List.{List, [], _∷_, map}
+use Prim.Native.Nat.{ℕ, _+_, _≤_, _<_}
 use native.Mathlib.Omega.{arith}
 use lib.ListN.{length, getD, length-map}
 use Rattle.laws.proofs.Sums.{sumBelow}

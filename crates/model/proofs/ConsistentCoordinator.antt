@@ -4,10 +4,10 @@
 --   CoordinatorWithin              its numbers within the limit
 --   coordinator-sound-of, coordinator-within-of   of one that passes, with its lists' lengths
 --   coordinator-consistent-of      a sound one within the limit passes
-use mathlib.Core.Path.{_≡_, refl, sym, ap, _∙_}
-use mathlib.Core.Bool.{Bool, true, false, _&&_, _||_, not}
+use mathlib.Core.Path.{_≡_, refl}
+use mathlib.Core.Bool.{Bool, true, _&&_, _||_, not}
 use mathlib.Core.List.{List, [], _∷_}
-use Prim.Native.Nat.{ℕ, zero, suc, _+_, _≤_, _<_}
+use Prim.Native.Nat.{ℕ, zero, suc, _≤_}
 use native.Mathlib.Omega.{arith}
 use native.Mathlib.Decide.{ℕ-discrete}
 use lib.Dec.{eqb, ltb, leb}
@@ -22,7 +22,7 @@ use Rattle.model.specs.Settings.{thresholdOf}
 use Rattle.model.specs.SiteMemory.{sum}
 use Rattle.model.specs.Coordinator.{Coordinator}
 use Rattle.model.specs.CoordinatorMemory.{allWithin, phaseConsistent, coordinatorConsistent}
-use Rattle.model.specs.SoundNetwork.{SoundNumbers, SoundPhase, sumOfPhase, SoundCoordinator}
+use Rattle.model.specs.SoundNetwork.{SoundPhase, sumOfPhase, SoundCoordinator}
 
 -- "a number of the desk's memory or record, or the sum in its phase, above 100,000,000,000", denied.
 pub record CoordinatorWithin (c : Coordinator) : Type 0 where

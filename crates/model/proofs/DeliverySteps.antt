@@ -10,13 +10,13 @@
 use mathlib.Core.Path.{_≡_, refl, sym, ap, _∙_}
 use mathlib.Core.Bool.{Bool, true, false}
 use mathlib.Core.List.{List, [], _∷_, _++_, append-assoc, append-nil}
-use Prim.Native.Nat.{ℕ, zero, suc, _+_, _≤_, _<_}
+use Prim.Native.Nat.{ℕ, zero, suc, _≤_}
 use native.Mathlib.Omega.{arith}
 use Rattle.model.specs.declared.Settings.{Settings}
 use Rattle.model.specs.declared.Message.{Message}
 use Rattle.model.specs.Coordinator.{isAnnouncing}
-use Rattle.model.specs.Network.{Network, Delivered, delivered, handOver, askAnnouncement}
-use Rattle.model.specs.DeliveryClaims.{Delivery, delivery, joining, deliveryStep, deliverySteps, outcome}
+use Rattle.model.specs.Network.{Network, delivered, handOver, askAnnouncement}
+use Rattle.model.specs.DeliveryClaims.{delivery, joining, deliverySteps, outcome}
 
 -- ---- The model's delivery as steps
 

@@ -45,12 +45,15 @@ pub mod CoordinatorSound
 pub mod Together
 pub mod Stages
 pub mod AcceptedMessages
+pub mod PhaseSteps
 pub mod ReportStage
 pub mod PollStage
+pub mod NarrowedStage
 pub mod ProbeStage
 pub mod AnnounceStage
 pub mod MidDelivery
 pub mod SoundStages
+pub mod StageFacts
 pub mod NeverFalls
 pub mod SoundTheorem
 pub mod NumberGrowth

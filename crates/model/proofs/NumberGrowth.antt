@@ -6,29 +6,26 @@
 --   grown-then                       all of it, where the network then has its sites
 use mathlib.Core.Path.{_≡_, refl, sym, ap, _∙_}
 use mathlib.Core.Bool.{Bool, true, false}
-use mathlib.Core.List.{List, [], _∷_, _++_}
-use Prim.Native.Nat.{ℕ, zero, suc, _+_, _*_, _≤_, _<_}
+use mathlib.Core.List.{List, [], _∷_}
+use Prim.Native.Nat.{ℕ, zero, suc, _+_, _≤_, _<_}
 use native.Mathlib.Omega.{arith}
-use native.Mathlib.Decide.{ℕ-discrete, decLt}
 use lib.Dec.{eqb}
-use lib.ListN.{length, getD, set, length-set, List·getD-eq-default}
-use lib.Seq.{getD-set-same, getD-set-other, set-out}
+use lib.ListN.{length, getD, set}
 use Rattle.laws.proofs.Sums.{sumBelow, sumBelow-same, sumBelow-set, sumOf, sumOf-nil, sumOf-cons}
 use Rattle.laws.proofs.Updates.{sumBelow-length}
 use Rattle.model.specs.declared.Settings.{Settings}
 use Rattle.model.specs.declared.Arrival.{Arrival}
 use Rattle.model.specs.declared.Phase.the-variants.{Idle}
 use Rattle.model.specs.Choice.{if_then_else_}
-use Rattle.model.specs.Counters.{Counter, unreported, lostBy}
+use Rattle.model.specs.Counters.{Counter, unreported}
 use Rattle.model.specs.Site.{Site, freshSite, oneMoreAt, observed, reportsItem, reportedValue}
-use Rattle.model.specs.Network.{Network, siteAt, afterArrival}
+use Rattle.model.specs.Network.{Network, siteAt}
 use Rattle.model.specs.NetworkMemory.{allArrivals}
-use Rattle.model.specs.SoundNetwork.{SoundSite, estimateOf, countOfValue, Sound}
+use Rattle.model.specs.SoundNetwork.{estimateOf, countOfValue, Sound}
 use Rattle.model.specs.NumberClaims.{unreportedIn, allUnreported, Grown}
 use Rattle.model.proofs.SettingsLaws.{Settled}
 use Rattle.model.proofs.DeliveryLoops.{polled, told}
-use Rattle.model.proofs.ArrivalParts.{observedSites, afterItemReport, afterCountReport, ArrivalCase, noCountReport, countReported, closesOne, closesMore, arrival-case, networkThen}
-use Rattle.model.proofs.AfterArrival.{after-arrival}
+use Rattle.model.proofs.ArrivalParts.{observedSites, afterItemReport, afterCountReport, ArrivalCase, noCountReport, countReported, closesOne, closesMore, networkThen}
 use Rattle.model.proofs.SitesInvariant.{arrivalsAt, unreportedAt}
 use Rattle.model.proofs.ClosedSites.{sitesClosed-keeps, sumBelow-allArrivals}
 use Rattle.model.proofs.SoundSites.{ArrivalTaken, unreported-moves}

@@ -7,12 +7,10 @@
 --   total-bounded, threshold-bounded            the total is at most k * 10^9, three thresholds 10^9
 --   together-site, together-coordinator         one site or the coordinator is changed
 -- Letters: k the sites, j one of them.
-use mathlib.Core.Path.{_≡_, refl, sym, ap, _∙_}
-use mathlib.Core.List.{List, [], _∷_}
-use Prim.Native.Nat.{ℕ, zero, suc, _+_, _*_, _≤_, _<_}
+use mathlib.Core.Path.{_≡_, _∙_}
+use Prim.Native.Nat.{ℕ, _+_, _*_, _≤_, _<_}
 use native.Mathlib.Omega.{arith}
-use native.Mathlib.Decide.{ℕ-discrete}
-use lib.ListN.{length, getD, set, length-set}
+use lib.ListN.{length, length-set}
 use Rattle.laws.proofs.Lists.{at-set}
 use Rattle.laws.proofs.Sums.{sumBelow, sumBelow-le, sumBelow-const, sumBelow-set}
 use Rattle.model.specs.declared.Settings.{Settings}

@@ -10,7 +10,6 @@
 --   Resting delivery                        nothing waits, and the coordinator is idle
 --   DeliveryClaims                          few messages, and a complete delivery, after each arrival
 use mathlib.Core.Path.{_≡_}
-use mathlib.Core.Bool.{true, false}
 use mathlib.Core.List.{List, [], _∷_, _++_}
 use Prim.Native.Nat.{ℕ, zero, suc, _+_, _≤_}
 use lib.ListN.{length}

@@ -1,5 +1,5 @@
 -- How the base grows from close to close, over numbers alone (PROOF.md M4 and M5): while the
--- threshold is 1 no close probes, and later the closes that probe are paid for by the base's growth.
+-- threshold is 1 no close probes, and later the closes that probe are paid for by that growth.
 --
 -- Letters: k sites, e epsilon, t a threshold, b its base, t′ and n the same after a close; a an
 -- anchor, a base from which the base has not yet doubled, and g how often it doubled before.

@@ -75,12 +75,12 @@ pub record QuantilePromise (settings : Settings) (run : Run) : Type 0 where
 
 -- Demand 2 over runs: the list and the quantile are right.
 pub record Tracks (settings : Settings) (run : Run) : Type 0 where
-  -- once there is a draw, "each code with p thousandths is listed"
+  -- once there is a draw, a code with p thousandths of all draws, or more, is listed
   pub heavy-listed : (item : ℕ)
       → 1 ≤ counted (run .accepted)
       → settings .phi * counted (run .accepted) ≤ 1000 * countOf item (run .accepted)
       → isListed settings (run .network .coordinator) item ≡ true
-  -- "and none below p - e"
+  -- and none below p - e thousandths
   pub light-unlisted : (item : ℕ)
       → 1000 * countOf item (run .accepted)
       < (settings .phi - settings .epsilon) * counted (run .accepted)
@@ -139,9 +139,10 @@ pub record Estimates (settings : Settings) (run : Run) : Type 0 where
   pub total-le : run .network .coordinator .total ≤ counted (run .accepted)
   pub total-near : 3000 * counted (run .accepted)
       ≤ 3000 * run .network .coordinator .total + settings .epsilon * counted (run .accepted)
+  -- it is positive once there is an arrival
   pub total-positive : 1 ≤ counted (run .accepted)
       → 1 ≤ run .network .coordinator .total
-  -- "for each listed code ..: 6000 × its draws ≥ (6p - 5e) × all draws"
+  -- a listed item has at least (6p - 5e) / 6000 of all arrivals
   pub listed-firm : (item : ℕ)
       → isListed settings (run .network .coordinator) item ≡ true
       → (6 * settings .phi - 5 * settings .epsilon) * counted (run .accepted)
@@ -185,19 +186,25 @@ pub record AfterEach (settings : Settings) (arrivals : List Arrival) (n : ℕ) :
 -- Demands 2 and 3 over runs: for all settings that pass their test and all lists of arrivals, each
 -- list from a fresh start.
 pub record DemandsOverRuns : Type 0 where
+  -- demand 2: list and class
   pub tracks : (settings : Settings) (arrivals : List Arrival)
       → settingsRefusal settings ≡ accepted
       → Tracks settings (runOf settings arrivals)
+  -- demand 3: the bounds on messages
   pub few-messages : (settings : Settings) (arrivals : List Arrival)
       → settingsRefusal settings ≡ accepted
       → FewMessages settings (runOf settings arrivals)
+  -- what both lean on
   pub estimates-near : (settings : Settings) (arrivals : List Arrival)
       → settingsRefusal settings ≡ accepted
       → Estimates settings (runOf settings arrivals)
+  -- the list as it is handed out
   pub list-law : (settings : Settings) (coordinator : Coordinator)
       → ListLaw settings coordinator
+  -- parts of a list, and refused arrivals
   pub cuts : (settings : Settings) (arrivals : List Arrival)
       → Cuts settings arrivals
+  -- both demands after each of the accepted arrivals
   pub after-each : (settings : Settings) (arrivals : List Arrival) (n : ℕ)
       → settingsRefusal settings ≡ accepted
       → AfterEach settings arrivals n

@@ -51,3 +51,6 @@ pub mod ReportStage
 pub mod PollStage
 pub mod ProbeStage
 pub mod AnnounceStage
+pub mod MidDelivery
+pub mod SoundStages
+pub mod SoundTheorem

@@ -1,0 +1,2 @@
+-- Laws of the counters in a site's memory.
+pub mod Search

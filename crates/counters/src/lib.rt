@@ -7,6 +7,7 @@ ghost use Prim.Native.Nat.{_+_, _*_, _≤_};
 ghost use lib.ListN.{length};
 ghost use Rattle.model.specs.Counters.{find, leastPlace};
 ghost use Rattle.model.specs.SiteMemory.{countersIn};
+ghost use Rattle.counters.specs.Count.{CountAsks, CountSays};
 ghost use Rattle.counters.specs.Stored.{storedAt, setCounter, counterOf, ordered};
 
 // A number of a site's memory: 4 bytes.
@@ -96,4 +97,62 @@ pub fn put_counter(memory: &mut [Word], place: usize, counter: StoredCounter)
     memory[start + 1] = counter.count;
     memory[start + 2] = counter.overestimate;
     memory[start + 3] = counter.reported;
+}
+
+// What counting an item did: the place of its counter, the counters in use then, and the counter.
+pub struct Counted {
+    pub place: usize,
+    pub used: usize,
+    pub counter: StoredCounter,
+}
+
+// An item counted: in its own counter, in the next unused one, or in place of the least.
+pub fn count_item(memory: &mut [Word], capacity: usize, used: usize, item: Word) -> Counted
+    requires { ⌜ CountAsks (now memory) capacity used ⌝ }
+    ensures { λ r. ⌜ CountSays (now (memory .entry)) (now (memory .exit)) capacity used item r ⌝ }
+{
+    let found = find_counter(memory, used, item);
+    if found < used {
+        let old = counter_at(memory, found);
+        let more = StoredCounter {
+            item: old.item,
+            count: old.count + 1,
+            overestimate: old.overestimate,
+            reported: old.reported,
+        };
+        put_counter(memory, found, more);
+        return Counted {
+            place: found,
+            used: used,
+            counter: more,
+        };
+    }
+    if used < capacity {
+        let first = StoredCounter {
+            item: item,
+            count: 1,
+            overestimate: 0,
+            reported: 0,
+        };
+        put_counter(memory, used, first);
+        return Counted {
+            place: used,
+            used: used + 1,
+            counter: first,
+        };
+    }
+    let least = least_counter(memory, used);
+    let replaced = counter_at(memory, least);
+    let replacing = StoredCounter {
+        item: item,
+        count: replaced.count + 1,
+        overestimate: replaced.count,
+        reported: 0,
+    };
+    put_counter(memory, least, replacing);
+    Counted {
+        place: least,
+        used: used,
+        counter: replacing,
+    }
 }

@@ -1,33 +1,36 @@
+-- The digits counted and the digits left are the digits of n; each turn halves what is left.
+use Prim.Native.Nat.{_+_, _^_, _<_}
+use mathlib.Core.Path.{_≡_, ap}
+use native.Mathlib.Omega.{arith}
+use Rattle.model.specs.Settings.{digits}
+use Rattle.model.proofs.Digits.{digits-half, digits-bound}
 use Rattle.settings.proofs.count_digits.Statement.{statement}
 use Rattle.settings.proofs.count_digits.Tie as tie
-use Rattle.settings.proofs.count_digits.Reads as reads
-use Rattle.settings.proofs.count_digits.Lts as lts
 
 abbrev Inv-loop : tie.InvT-loop
-Inv-loop n left₀ count₀ left count = ?
+Inv-loop n left₀ count₀ left count = count + digits left ≡ digits n
 
 abbrev μ-loop : tie.MeasureT-loop
-μ-loop n left₀ count₀ left count = ?
+μ-loop n left₀ count₀ left count = left
 
--- src/lib.rt:76:5
 loop-holds : tie.Need-loop-holds Inv-loop μ-loop
-loop-holds c = ?
+loop-holds c = omega arith
 
--- src/lib.rt:78:9
 add-count : tie.Need-add-count Inv-loop μ-loop
-add-count c = ?
+add-count c =
+    let few = digits-bound 64 (c .before .before .args .n) (c .before .before .fits .n .fits) in
+    record { fits = omega (arith, digits-half (c .before .loop .left) (c .loop-test .taken)) }
 
--- src/lib.rt:76:5
 loop-less : tie.Need-loop-less Inv-loop μ-loop
-loop-less c = ?
+loop-less c = omega arith
 
--- src/lib.rt:76:5
 loop-again : tie.Need-loop-again Inv-loop μ-loop
-loop-again c = ?
+loop-again c = omega (arith, digits-half (c .before .loop .left) (c .loop-test .taken))
 
--- src/lib.rt:71:1
 returns : tie.Need-returns Inv-loop μ-loop
-returns c = ?
+returns c =
+    let none : c .before .loop .left ≡ 0 = omega arith in
+    omega (arith, ap digits none)
 
 pub count-digits-spec : {M : Type 1} → statement M
 count-digits-spec =

@@ -1,0 +1,3 @@
+-- Laws of a site's record and memory.
+pub mod ValueLaws
+pub mod ConsistencyLaws

@@ -3,7 +3,7 @@
 use Prim.Native.Nat.{ℕ, suc, _+_, _-_, _*_, _<_, _≤_}
 use mathlib.Core.Path.{_≡_, refl, ap, sym, _∙_}
 use mathlib.Core.List.{List, [], _∷_}
-use mathlib.Core.Bool.{Bool, true, false, _&&_}
+use mathlib.Core.Bool.{Bool, true, false, _&&_, not}
 use native.Mathlib.Omega.{arith}
 use lib.Dec.{eqb, ltb, leb}
 use lib.ListN.{length, take, drop}
@@ -11,10 +11,13 @@ use borrow.Author.Tests.{lt-ltb, le-ltb, le-leb, lt-leb}
 use Rattle.model.specs.declared.Settings.{Settings}
 use Rattle.model.specs.declared.SiteRecord.{SiteRecord}
 use Rattle.model.specs.Choice.{between}
+use Rattle.model.specs.Refusals.{when, _orElse_, accepted, memoryTooShort, memoryInconsistent}
 use Rattle.model.specs.Limits.{valueCount, siteLimit}
+use Rattle.model.specs.Settings.{settingsRefusal}
 use Rattle.model.specs.Counters.{Counter, unreported}
 use Rattle.model.specs.Site.{Site}
-use Rattle.model.specs.SiteMemory.{counterWords, siteIn, countersIn, sum, counterConsistent, countersConsistent, siteConsistent}
+use Rattle.model.specs.SiteMemory.{counterWords, siteWords, siteMemoryRefusal, siteIn, countersIn, sum, counterConsistent, countersConsistent, siteConsistent}
+use Rattle.model.proofs.RefusalLaws.{refused-first}
 use Rattle.counters.specs.Stored.{storedAt}
 use Rattle.counters.proofs.Search.{countersFrom, counters-start, counters-end, counters-cons}
 
@@ -129,3 +132,44 @@ module _ (settings : Settings) (numbers : SiteRecord) (memory : List ℕ) where
         le-leb (numbers .threshold) siteLimit threshold,
         and-true,
       )
+
+  -- With the counters consistent too, the histogram decides.
+  pub counters-pass : numbers .used ≤ settings .capacity
+      → numbers .arrivals ≤ siteLimit
+      → numbers .pending < numbers .threshold
+      → numbers .threshold ≤ siteLimit
+      → countersConsistent settings (siteIn settings numbers memory) (countersIn (numbers .used) memory)
+      ≡ true
+      → eqb (sum (take valueCount (drop (counterWords settings) memory))) (numbers .arrivals)
+      ≡ siteConsistent settings numbers memory
+  counters-pass used arrivals pending threshold passes =
+      let sums = eqb (sum (take valueCount (drop (counterWords settings) memory))) (numbers .arrivals) in
+      sym (ap (λ (test : Bool). test && sums) passes)
+      ∙ numbers-pass used arrivals pending threshold
+
+  pub counters-fail :
+      countersConsistent settings (siteIn settings numbers memory) (countersIn (numbers .used) memory)
+      ≡ false
+      → false ≡ siteConsistent settings numbers memory
+  counters-fail fails = simp (fails, and-false)
+
+-- ---- Refusals 1, 2, 3; then 4, 11
+
+module _ (settings : Settings) (numbers : SiteRecord) (memory : List ℕ) where
+  pub settings-refused : (refusal : ℕ)
+      → refusal ≡ settingsRefusal settings
+      → (refusal ≡ accepted → ⊥)
+      → refusal ≡ siteMemoryRefusal settings numbers memory
+  settings-refused refusal same refused =
+      same ∙ sym (refused-first (settingsRefusal settings) _ (λ none. refused (same ∙ none)))
+
+  pub memory-short : settingsRefusal settings ≡ accepted
+      → length memory < siteWords settings
+      → memoryTooShort ≡ siteMemoryRefusal settings numbers memory
+  memory-short none short = rw (none, lt-ltb (length memory) (siteWords settings) short)
+
+  pub memory-tested : settingsRefusal settings ≡ accepted
+      → siteWords settings ≤ length memory
+      → (when (not (siteConsistent settings numbers memory)) memoryInconsistent orElse accepted)
+      ≡ siteMemoryRefusal settings numbers memory
+  memory-tested none long = rw (none, le-ltb (length memory) (siteWords settings) long)

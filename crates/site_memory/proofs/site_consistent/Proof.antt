@@ -1,54 +1,59 @@
+-- `site_memory::site_consistent` meets its contract: each answer by the test that leads to it.
+use mathlib.Core.Path.{_∙_, sym}
+use native.Mathlib.Omega.{arith}
 use borrow.Author.Needs.{needs}
+use Rattle.model.proofs.SettingsLaws.{settled}
+use Rattle.site_memory.proofs.ConsistencyLaws.{used-above, arrivals-above, pending-above, threshold-above, counters-pass, counters-fail}
 use Rattle.site_memory.proofs.site_consistent.Statement.{statement}
 use Rattle.site_memory.proofs.site_consistent.Tie as tie
-use Rattle.site_memory.proofs.site_consistent.Reads as reads
-use Rattle.site_memory.proofs.site_consistent.Lts as lts
-use Rattle.site_memory.proofs.counters_consistent.Reads as counters-consistent-reads
-use Rattle.site_memory.proofs.values_sum_to.Reads as values-sum-to-reads
 
--- src/lib.rt:96:20
 cast-capacity : tie.Need-cast-capacity
 cast-capacity c = search needs
 
--- src/lib.rt:98:9
 returns : tie.Need-returns
-returns c = ?
+returns c =
+    let a = c .before .before .before .before .args in
+    used-above (a .settings) (a .site) (a .memory .now) (search needs)
 
--- src/lib.rt:101:9
 returns-2 : tie.Need-returns-2
-returns-2 c = ?
+returns-2 c =
+    let a = c .before .before .before .before .before .before .args in
+    arrivals-above (a .settings) (a .site) (a .memory .now) (search needs)
 
--- src/lib.rt:104:9
 returns-3 : tie.Need-returns-3
-returns-3 c = ?
+returns-3 c =
+    let a = c .before .before .before .before .before .before .before .before .args in
+    pending-above (a .settings) (a .site) (a .memory .now) (search needs)
 
--- src/lib.rt:107:9
 returns-4 : tie.Need-returns-4
-returns-4 c = ?
+returns-4 c =
+    let a = c .before .before .before .before .before .before .before .before .before .before .args in
+    threshold-above (a .settings) (a .site) (a .memory .now) (search needs)
 
--- src/lib.rt:110:8
 counters-consistent-requires : tie.Need-counters-consistent-requires
-counters-consistent-requires c κs = search needs
+counters-consistent-requires c κs = omega (arith, c .before .before .before .before .before .before .before .before .before .before .pre .long-enough)
 
--- src/lib.rt:111:25
 cast-from : tie.Need-cast-from
 cast-from c = search needs
 
--- src/lib.rt:111:20
 mul-from : tie.Need-mul-from
-mul-from c = search needs
+mul-from c = omega (arith, settled (c .before .before .before .before .before .before .before .before .before .before .before .before .before .args .settings) (c .before .before .before .before .before .before .before .before .before .before .before .before .before .pre .settings-accepted) .capacity .at-most)
 
--- src/lib.rt:112:9
 values-sum-to-requires : tie.Need-values-sum-to-requires
-values-sum-to-requires c κs = search needs
+values-sum-to-requires c κs = c .before .before .before .before .before .before .before .before .before .before .before .before .before .pre .long-enough
 
--- src/lib.rt:112:9
 returns-5 : tie.Need-returns-5
-returns-5 c = ?
+returns-5 c =
+    let a = c .before .before .before .before .before .before .before .before .before .before .before .before .before .before .args in
+    c .values-sum-to .ensures
+    ∙ counters-pass (a .settings) (a .site) (a .memory .now)
+    (omega arith) (omega arith) (omega arith) (omega arith)
+    (sym (c .before .before .before .counters-consistent .ensures) ∙ c .before .before .if5 .taken)
 
--- src/lib.rt:92:1
 returns-6 : tie.Need-returns-6
-returns-6 c = ?
+returns-6 c =
+    let a = c .before .before .before .before .before .before .before .before .before .before .before .before .args in
+    counters-fail (a .settings) (a .site) (a .memory .now) (sym (c .before .counters-consistent .ensures) ∙ c .if5 .left)
 
 pub site-consistent-spec : {M : Type 1} → statement M
 site-consistent-spec =

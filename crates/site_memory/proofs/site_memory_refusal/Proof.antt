@@ -1,39 +1,48 @@
+-- `site_memory::site_memory_refusal` meets its contract: the rows of the chain in their order.
+use mathlib.Core.Path.{_∙_, sym, ap}
+use mathlib.Core.Bool.{Bool, not}
+use native.Mathlib.Omega.{arith}
 use borrow.Author.Needs.{needs}
+use Rattle.model.specs.Refusals.{when, _orElse_, accepted, memoryInconsistent}
+use Rattle.site_memory.proofs.ConsistencyLaws.{settings-refused, memory-short, memory-tested}
 use Rattle.site_memory.proofs.site_memory_refusal.Statement.{statement}
 use Rattle.site_memory.proofs.site_memory_refusal.Tie as tie
-use Rattle.site_memory.proofs.site_memory_refusal.Reads as reads
-use Rattle.site_memory.proofs.site_memory_refusal.Lts as lts
-use Rattle.settings.proofs.test_settings.Reads as test-settings-reads
-use Rattle.site_memory.proofs.site_consistent.Reads as site-consistent-reads
-use Rattle.site_memory.proofs.site_words.Reads as site-words-reads
 
--- src/lib.rt:121:9
 test-settings-requires : tie.Need-test-settings-requires
 test-settings-requires c κs = search needs
 
--- src/lib.rt:123:9
 returns : tie.Need-returns
-returns c = ?
+returns c =
+    let a = c .before .before .before .args in
+    settings-refused (a .settings) (a .site) (a .memory .now) (c .before .test-settings .result) (c .before .test-settings .ensures) (c .if1 .taken)
 
--- src/lib.rt:125:23
 site-words-requires : tie.Need-site-words-requires
-site-words-requires c κs = search needs
+site-words-requires c κs = sym (c .before .test-settings .ensures) ∙ c .if1 .left
 
--- src/lib.rt:126:9
 returns-2 : tie.Need-returns-2
-returns-2 c = ?
+returns-2 c =
+    let a = c .before .before .before .before .before .args in
+    memory-short (a .settings) (a .site) (a .memory .now) (sym (c .before .before .before .test-settings .ensures) ∙ c .before .before .if1 .left) (omega arith)
 
--- src/lib.rt:128:8
 site-consistent-requires : tie.Need-site-consistent-requires
-site-consistent-requires c κs = search needs
+site-consistent-requires c κs = record {
+  settings-accepted = sym (c .before .before .before .test-settings .ensures) ∙ c .before .before .if1 .left;
+  long-enough = omega (arith, c .before .site-words .ensures);
+}
 
--- src/lib.rt:129:9
 returns-3 : tie.Need-returns-3
-returns-3 c = ?
+returns-3 c =
+    let a = c .before .before .before .before .before .before .before .args in
+    let tested = memory-tested (a .settings) (a .site) (a .memory .now) (sym (c .before .before .before .before .before .test-settings .ensures) ∙ c .before .before .before .before .if1 .left) (omega arith) in
+    sym (ap (λ (test : Bool). when (not test) memoryInconsistent orElse accepted)
+    (sym (c .before .site-consistent .ensures) ∙ c .if3 .taken)) ∙ tested
 
--- src/lib.rt:118:1
 returns-4 : tie.Need-returns-4
-returns-4 c = ?
+returns-4 c =
+    let a = c .before .before .before .before .before .before .before .args in
+    let tested = memory-tested (a .settings) (a .site) (a .memory .now) (sym (c .before .before .before .before .before .test-settings .ensures) ∙ c .before .before .before .before .if1 .left) (omega arith) in
+    sym (ap (λ (test : Bool). when (not test) memoryInconsistent orElse accepted)
+    (sym (c .before .site-consistent .ensures) ∙ c .if3 .left)) ∙ tested
 
 pub site-memory-refusal-spec : {M : Type 1} → statement M
 site-memory-refusal-spec =

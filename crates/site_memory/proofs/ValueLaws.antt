@@ -137,6 +137,7 @@ module _ (memory : List ℕ) (from : ℕ) (fits : from + valueCount ≤ length m
           taken .left-is
           ∙ ap (λ (n : ℕ). sum (take n (valuesAt memory from)) + left) e
           ∙ ap (λ (n : ℕ). n + left) sum-all
+
       by-left : (test : Bool) → eqb left 0 ≡ test
           → eqb (sum (valuesAt memory from)) total ≡ eqb left 0
       by-left true none =

@@ -1,0 +1,2 @@
+-- Laws of the internal steps of a site.
+pub mod Placements

@@ -1,2 +1,4 @@
 -- Laws of the internal steps of a site.
 pub mod Placements
+pub mod ObserveMemory
+pub mod ObserveReady

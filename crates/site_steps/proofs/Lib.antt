@@ -2,3 +2,4 @@
 pub mod Placements
 pub mod ObserveMemory
 pub mod ObserveReady
+pub mod StoreLaws

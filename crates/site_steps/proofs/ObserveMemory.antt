@@ -35,9 +35,9 @@ reported-stored : (counters : List Counter) (memory : List ℕ) (place amount : 
 reported-stored counters memory place amount within =
     let x = withReported (counterAt counters place) (counterAt counters place .reported + amount) in
     let same : length (counterNumbers (set counters place x)) ≡ length (counterNumbers counters) =
-        length-counterNumbers (set counters place x)
-        ∙ ap (λ (l : ℕ). 4 * l) (length-set counters place x)
-        ∙ sym (length-counterNumbers counters) in
+    length-counterNumbers (set counters place x)
+    ∙ ap (λ (l : ℕ). 4 * l) (length-set counters place x)
+    ∙ sym (length-counterNumbers counters) in
     set-reported counters (drop (length (counterNumbers counters)) memory) place
     (counterAt counters place .reported + amount) within
     ∙ ap (λ (l : ℕ). counterNumbers (set counters place x) ++ drop l memory) (sym same)
@@ -76,10 +76,6 @@ module _ (settings : Settings) (site : Site) (arrival : Arrival) where
   memory-reported before stored reported within stored-is reported-is =
       reported-is ∙ by-report (reportsItem settings site arrival)
     where
-      place : ℕ
-      place = placeFor settings site arrival
-      counters : List Counter
-      counters = countersWith settings site arrival
       by-report : (due : Bool)
           → (if due
           then set stored (4 * placeFor settings site arrival + 3)
@@ -113,7 +109,6 @@ module _
     (reported-is : reported
     ≡ overwrite (counterNumbers (countersReported settings (siteIn settings numbers before) arrival))
     before) where
-
   -- The numbers of the counters end before those of the values.
   numbers-before :
       length (counterNumbers (countersReported settings (siteIn settings numbers before) arrival))

@@ -32,7 +32,6 @@ use Rattle.site_steps.proofs.ObserveMemory.{countersReported, length-co
 
 module _ (settings : Settings) (site after : Site) (more : after .arrivals ≡ site .arrivals + 1)
     (same : after .threshold ≡ site .threshold) where
-
   -- A counter that was ready is ready at the site with one more arrival.
   ready-kept : (counter : Counter)
       → CounterReady settings site counter
@@ -64,7 +63,7 @@ module _ (settings : Settings) (site after : Site) (more : after .arrivals ≡ s
       → CounterReady settings after (afterReport (site .threshold) counter)
   ready-reported counter positive counted due =
       let reached : site .threshold ≤ unreported counter =
-          leb-true (site .threshold) (unreported counter) due in
+      leb-true (site .threshold) (unreported counter) due in
       record {
         item-known = counted .item-known;
         parts-within = omega (arith, counted .parts-within);
@@ -125,7 +124,7 @@ ready-observed settings site arrival some ready taken =
     let grew = grown settings site arrival some ready taken in
     let same-length = length-countersReported settings site arrival in
     let value-within : arrival .value < length (site .histogram) =
-        omega (arith, ready .values-counted, taken .value-known, valueCount-is) in
+    omega (arith, ready .values-counted, taken .value-known, valueCount-is) in
     record {
       counters-within = rw same-length (grew .counters-within);
       counters-ready = λ place within.
@@ -167,9 +166,9 @@ ready-again settings numbers arrival memory ready none =
     let after = observed settings site arrival .site in
     let some = settled settings (ready .settings-accepted) .capacity .at-least in
     let then-ready = ready-observed settings site arrival some (ready .site-ready)
-        (acceptable settings site arrival none) in
+    (acceptable settings site arrival none) in
     let same = length-siteMemory settings after memory (then-ready .counters-within)
-        (then-ready .values-counted) (ready .long-enough) in
+    (then-ready .values-counted) (ready .long-enough) in
     record {
       settings-accepted = ready .settings-accepted;
       long-enough = rw same (ready .long-enough);

@@ -37,13 +37,13 @@ pub acceptable : (settings : Settings) (site : Site) (arrival : Arrival)
 acceptable settings site arrival none =
     let parts = both-accepted (addressRefusal settings arrival) _ none in
     let site-row = passed (leb (settings .sites) (arrival .site)) 5 _ (omega arith)
-        (parts .first-accepted) in
+    (parts .first-accepted) in
     let item-row = passed (leb (settings .universe) (arrival .item)) 6 _ (omega arith)
-        (site-row .later-accepted) in
+    (site-row .later-accepted) in
     let value-row = passed (ltb topValue (arrival .value)) 7 _ (omega arith)
-        (item-row .later-accepted) in
+    (item-row .later-accepted) in
     let room-row = passed (leb siteLimit (site .arrivals)) 8 _ (omega arith)
-        (parts .later-accepted) in
+    (parts .later-accepted) in
     record {
       site-known = leb-false _ _ (site-row .test-failed);
       item-known = leb-false _ _ (item-row .test-failed);
@@ -103,7 +103,6 @@ module _
     (some : 1 ≤ settings .capacity)
     (known : item < settings .universe)
     (ready : SiteReady settings site) where
-
   grown-at : Placement → Type 0
   grown-at placement =
       Grown settings site

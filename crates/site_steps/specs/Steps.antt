@@ -2,7 +2,7 @@
 --
 --   ReportSays      a counter reported if it is due
 --   GatherSays      the messages that are due, in order
---   ObserveAsks, ObserveStepSays    an arrival
+--   ObserveAsks, StoreSays, ObserveStepSays   an arrival
 --   ReceiveAsks, ReceiveStepSays    a message
 use mathlib.Core.Path.{_≡_}
 use mathlib.Core.Bool.{Bool, true}
@@ -19,11 +19,12 @@ use Rattle.model.specs.Refusals.{accepted}
 use Rattle.model.specs.Limits.{topValue}
 use Rattle.model.specs.Messages.{noMessage, isProbe}
 use Rattle.model.specs.Counters.{Counter, unreported}
-use Rattle.model.specs.Site.{SiteStep, arrivalRefusal, observed, siteReceives}
+use Rattle.model.specs.Site.{SiteStep, arrivalRefusal, reportsItem, observed, siteReceives}
 use Rattle.model.specs.SiteMemory.{siteIn, siteRecord, siteMemory}
 use Rattle.site_memory.specs.Ready.{StepReady}
 use Rattle.site_steps.specs.declared.Observed.{Observed}
 use Rattle.site_steps.specs.declared.Answered.{Answered}
+use Rattle.site_steps.specs.declared.StoredArrival.{StoredArrival}
 
 -- ---- Parts of an arrival
 
@@ -72,6 +73,19 @@ pub record ObserveAsks
 abbrev pub observedIn : Settings → SiteRecord → Arrival → List ℕ → SiteStep
 observedIn settings numbers arrival memory =
     observed settings (siteIn settings numbers memory) arrival
+
+-- What stands in memory after an arrival; the counters in use and whether its item is reported.
+pub record StoreSays
+    (settings : Settings)
+    (numbers : SiteRecord)
+    (arrival : Arrival)
+    (before after : List ℕ)
+    (answer : StoredArrival) : Type 0 where
+  pub used-then : answer .used
+      ≡ length (observedIn settings numbers arrival before .site .counters)
+  pub due-is : answer .due ≡ reportsItem settings (siteIn settings numbers before) arrival
+  pub memory : after
+      ≡ siteMemory settings (observedIn settings numbers arrival before .site) before
 
 pub record ObserveStepSays
     (settings : Settings)

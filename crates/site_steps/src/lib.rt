@@ -11,7 +11,7 @@ ghost use Rattle.model.specs.Messages.{message};
 ghost use Rattle.model.specs.Site.{oneMoreAt};
 ghost use Rattle.counters.specs.Count.{greatestWord};
 ghost use Rattle.counters.specs.Stored.{counterOf};
-ghost use Rattle.site_steps.specs.Steps.{ReportAsks, ReportSays, messagesDue, GatherSays, ObserveAsks, ObserveStepSays, ReceiveAsks, ReceiveStepSays};
+ghost use Rattle.site_steps.specs.Steps.{ReportAsks, ReportSays, messagesDue, GatherSays, ObserveAsks, StoreSays, ObserveStepSays, ReceiveAsks, ReceiveStepSays};
 use counters::StoredCounter;
 use counters::Word;
 use model::ACCEPTED;
@@ -138,4 +138,60 @@ fn gather(
         first: none,
         second: none,
     }
+}
+
+// What an arrival stored: the counters in use then, and whether its item is to be reported.
+pub struct StoredArrival {
+    pub used: usize,
+    pub due: bool,
+}
+
+// An arrival in a site's memory: its item counted, and reported if that is due; its value counted.
+// Beyond the search and the scan one counter and one value are touched.
+fn store_arrival(
+    settings: Settings,
+    site: SiteRecord,
+    arrival: Arrival,
+    memory: &mut [Word],
+) -> StoredArrival
+    requires { ⌜ ObserveAsks settings site arrival (now memory) ⌝ }
+    ensures { λ r. ⌜ StoreSays settings site arrival (now (memory .entry)) (now (memory .exit)) r ⌝ }
+{
+    let capacity = settings.capacity as usize;
+    let used = site.used as usize;
+    let counted = counters::count_item(memory, capacity, used, arrival.item);
+    let place = counted.place;
+    let item_due = report_counter(memory, place, counted.counter, site.threshold);
+    let value_place = 4 * capacity + (arrival.value as usize);
+    count_value(memory, value_place);
+    StoredArrival {
+        used: counted.used,
+        due: item_due,
+    }
+}
+
+// An arrival at a site: stored, and then the messages that go out.
+pub fn observe_step(
+    settings: Settings,
+    site: SiteRecord,
+    arrival: Arrival,
+    memory: &mut [Word],
+) -> Observed
+    requires { ⌜ ObserveAsks settings site arrival (now memory) ⌝ }
+    ensures { λ r. ⌜ ObserveStepSays settings site arrival (now (memory .entry)) (now (memory .exit)) r ⌝ }
+{
+    let stored = store_arrival(settings, site, arrival, memory);
+    let pending = site.pending + 1;
+    let count_due = site.threshold <= pending;
+    let value = value_reported(site.threshold, arrival.value);
+    let after = SiteRecord {
+        arrivals: site.arrivals + 1,
+        pending: pending_after(site.threshold, pending),
+        threshold: site.threshold,
+        used: stored.used as u64,
+    };
+    let item = arrival.item as u64;
+    let item_report = make_message(1, arrival.site, item, site.threshold);
+    let count_report = make_message(2, arrival.site, site.threshold, value);
+    gather(after, stored.due, item_report, count_due, count_report)
 }

@@ -3,3 +3,4 @@ pub mod Placements
 pub mod ObserveMemory
 pub mod ObserveReady
 pub mod StoreLaws
+pub mod ReceiveLaws

@@ -20,6 +20,21 @@ use model::Message;
 use model::Settings;
 use model::SiteRecord;
 
+// The kinds of message that a site sends or takes: document 01's table.
+pub const ITEM_REPORT: u32 = 1;
+
+pub const COUNT_REPORT: u32 = 2;
+
+pub const POLL: u32 = 3;
+
+pub const POLL_ANSWER: u32 = 4;
+
+pub const PROBE: u32 = 5;
+
+pub const PROBE_ANSWER: u32 = 6;
+
+pub const ANNOUNCEMENT: u32 = 7;
+
 // What an arrival leads to: the site's record then, and the messages that go out, of which there are
 // `count`; an absent one is all zeros.
 pub struct Observed {
@@ -191,7 +206,57 @@ pub fn observe_step(
         used: stored.used as u64,
     };
     let item = arrival.item as u64;
-    let item_report = make_message(1, arrival.site, item, site.threshold);
-    let count_report = make_message(2, arrival.site, site.threshold, value);
+    let item_report = make_message(ITEM_REPORT, arrival.site, item, site.threshold);
+    let count_report = make_message(COUNT_REPORT, arrival.site, site.threshold, value);
     gather(after, stored.due, item_report, count_due, count_report)
+}
+
+// A message at a site: a poll is answered by what is pending, a probe by the arrivals at or below its
+// value, and an announcement sets the threshold. The memory is only read.
+pub fn receive_step(
+    settings: Settings,
+    site: SiteRecord,
+    message: Message,
+    memory: &[Word],
+) -> Answered
+    requires { ⌜ ReceiveAsks settings site message (now memory) ⌝ }
+    ensures { λ r. ⌜ ReceiveStepSays settings site message (now (memory .entry)) r ⌝ }
+{
+    if message.kind == POLL {
+        let after = SiteRecord {
+            arrivals: site.arrivals,
+            pending: 0,
+            threshold: site.threshold,
+            used: site.used,
+        };
+        return Answered {
+            refusal: ACCEPTED,
+            site: after,
+            count: 1,
+            reply: make_message(POLL_ANSWER, message.site, site.pending, 0),
+        };
+    }
+    if message.kind == PROBE {
+        let from = 4 * (settings.capacity as usize);
+        let value = message.a as usize;
+        let count = site_memory::count_up_to(memory, from, value);
+        return Answered {
+            refusal: ACCEPTED,
+            site: site,
+            count: 1,
+            reply: make_message(PROBE_ANSWER, message.site, message.a, count),
+        };
+    }
+    let after = SiteRecord {
+        arrivals: site.arrivals,
+        pending: site.pending,
+        threshold: message.a,
+        used: site.used,
+    };
+    Answered {
+        refusal: ACCEPTED,
+        site: after,
+        count: 0,
+        reply: make_message(0, 0, 0, 0),
+    }
 }

@@ -2,4 +2,7 @@
 pub mod RefusalLaws
 pub mod SettingsLaws
 pub mod Digits
+pub mod DecimalLaws
+pub mod LineLaws
+pub mod ReadBack
 pub mod Instances

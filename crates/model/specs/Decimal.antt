@@ -55,5 +55,5 @@ decimalWithin (suc more) n =
       | false ↦ decimalWithin more (n / 10) ++ (digitByte (n % 10) ∷ [])
     ]
 
-abbrev pub decimal : ℕ → List ℕ
+unfoldable pub decimal : ℕ → List ℕ
 decimal n = decimalWithin (suc n) n

@@ -11,10 +11,14 @@ cast-result : tie.Need-cast-result
 cast-result c = search needs
 
 mul-result : tie.Need-mul-result
-mul-result c = omega (arith, settled (c .before .args .settings) (c .before .pre) .capacity .at-most)
+mul-result c =
+    let start = c .before in
+    omega (arith, settled (start .args .settings) (start .pre) .capacity .at-most)
 
 add-result : tie.Need-add-result
-add-result c = omega (arith, settled (c .before .args .settings) (c .before .pre) .capacity .at-most)
+add-result c =
+    let start = c .before in
+    omega (arith, settled (start .args .settings) (start .pre) .capacity .at-most)
 
 returns : tie.Need-returns
 returns c = omega (arith, valueCount-is)

@@ -1,5 +1,5 @@
--- What the calls on sites answer when they are refused and when they are not: the contracts of Calls
--- from the refusal and, where there is none, from the step's promise.
+-- What the calls on sites answer when they are refused and when they are not: the contracts of
+-- Calls from the refusal and, where there is none, from the step's promise.
 use Prim.Native.Nat.{ℕ}
 use mathlib.Core.Path.{_≡_, sym, _∙_}
 use mathlib.Core.List.{List, []}
@@ -85,7 +85,8 @@ module _
       → ReceiveAsks settings numbers m memory
   receive-asks none =
       let parts = both-accepted (siteMemoryRefusal settings numbers memory) _ none in
-      let own-row = passed (leb (settings .sites) which) 5 _ (omega arith) (parts .later-accepted) in
+      let own-row =
+      passed (leb (settings .sites) which) 5 _ (omega arith) (parts .later-accepted) in
       let due = message-due settings (siteIn settings numbers memory) which m
       (own-row .later-accepted) in
       record {

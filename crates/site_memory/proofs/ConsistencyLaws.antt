@@ -92,7 +92,8 @@ module _ (settings : Settings) (site : Site) (memory : List ℕ) (used : ℕ) wh
 -- ---- A whole site
 
 module _ (settings : Settings) (numbers : SiteRecord) (memory : List ℕ) where
-  pub used-above : settings .capacity < numbers .used → false ≡ siteConsistent settings numbers memory
+  pub used-above : settings .capacity < numbers .used
+      → false ≡ siteConsistent settings numbers memory
   used-above above = simp (lt-leb (numbers .used) (settings .capacity) above)
 
   pub arrivals-above : siteLimit < numbers .arrivals
@@ -112,7 +113,8 @@ module _ (settings : Settings) (numbers : SiteRecord) (memory : List ℕ) where
       → numbers .arrivals ≤ siteLimit
       → numbers .pending < numbers .threshold
       → numbers .threshold ≤ siteLimit
-      → (countersConsistent settings (siteIn settings numbers memory) (countersIn (numbers .used) memory)
+      → (countersConsistent settings (siteIn settings numbers memory)
+      (countersIn (numbers .used) memory)
       && eqb (sum (take valueCount (drop (counterWords settings) memory))) (numbers .arrivals))
       ≡ siteConsistent settings numbers memory
   numbers-pass used arrivals pending threshold =
@@ -130,17 +132,20 @@ module _ (settings : Settings) (numbers : SiteRecord) (memory : List ℕ) where
       → numbers .arrivals ≤ siteLimit
       → numbers .pending < numbers .threshold
       → numbers .threshold ≤ siteLimit
-      → countersConsistent settings (siteIn settings numbers memory) (countersIn (numbers .used) memory)
+      → countersConsistent settings (siteIn settings numbers memory)
+      (countersIn (numbers .used) memory)
       ≡ true
       → eqb (sum (take valueCount (drop (counterWords settings) memory))) (numbers .arrivals)
       ≡ siteConsistent settings numbers memory
   counters-pass used arrivals pending threshold passes =
-      let sums = eqb (sum (take valueCount (drop (counterWords settings) memory))) (numbers .arrivals) in
+      let sums =
+      eqb (sum (take valueCount (drop (counterWords settings) memory))) (numbers .arrivals) in
       sym (ap (λ (test : Bool). test && sums) passes)
       ∙ numbers-pass used arrivals pending threshold
 
   pub counters-fail :
-      countersConsistent settings (siteIn settings numbers memory) (countersIn (numbers .used) memory)
+      countersConsistent settings (siteIn settings numbers memory)
+      (countersIn (numbers .used) memory)
       ≡ false
       → false ≡ siteConsistent settings numbers memory
   counters-fail fails = simp (fails, and-false)

@@ -96,7 +96,8 @@ siteMemory-siteIn settings numbers memory few long =
       length-counterNumbers (countersIn (numbers .used) memory),
       length-countersIn (numbers .used) memory,
     ) in
-    let back : valueCount ≤ length (drop words memory) = rw (length-drop words memory) (omega arith) in
+    let back : valueCount ≤ length (drop words memory) =
+    rw (length-drop words memory) (omega arith) in
     ap (λ (l : List ℕ). overwrite ws (take words memory) ++ l)
     (overwritten-take valueCount (drop words memory) back)
     ∙ sym (overwritten-front ws memory words short (omega arith))

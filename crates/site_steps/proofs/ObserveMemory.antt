@@ -50,7 +50,8 @@ module _ (settings : Settings) (site : Site) (arrival : Arrival) where
       (countersWith settings site arrival)
       else countersWith settings site arrival
 
-  pub length-countersReported : length countersReported ≡ length (countersWith settings site arrival)
+  pub length-countersReported :
+      length countersReported ≡ length (countersWith settings site arrival)
   length-countersReported = by-report (reportsItem settings site arrival)
     where
       by-report : (due : Bool)
@@ -107,7 +108,8 @@ module _
     (few : length (countersWith settings (siteIn settings numbers before) arrival)
     ≤ settings .capacity)
     (reported-is : reported
-    ≡ overwrite (counterNumbers (countersReported settings (siteIn settings numbers before) arrival))
+    ≡ overwrite
+    (counterNumbers (countersReported settings (siteIn settings numbers before) arrival))
     before) where
   -- The numbers of the counters end before those of the values.
   numbers-before :
@@ -132,7 +134,9 @@ module _
       ∙ sym (getD-valuesAt before (counterWords settings) long (arrival .value) known)
 
   pub memory-observed : oneMoreAt reported (counterWords settings + arrival .value)
-      ≡ siteMemory settings (observed settings (siteIn settings numbers before) arrival .site) before
+      ≡ siteMemory settings
+      (observed settings (siteIn settings numbers before) arrival .site)
+      before
   memory-observed =
       let site = siteIn settings numbers before in
       let ws = counterNumbers (countersReported settings site arrival) in

@@ -1,5 +1,5 @@
--- A site that was ready is ready again after an accepted arrival, in the model and in its record and
--- memory.
+-- A site that was ready is ready again after an accepted arrival, in the model and in its record
+-- and memory.
 --
 --   ready-observed    the model's site
 --   ready-again       its record and the memory that it was written to
@@ -88,7 +88,10 @@ module _ (settings : Settings) (site after : Site) (more : after .arrivals ≡ s
           (counterAt (if due then reportAt (site .threshold) place counters else counters) other)
       by-place true here true due-is =
           let x = afterReport (site .threshold) (counterAt counters place) in
-          rw (eqb-true other place here, getD-set-same counters place x noCounter (grew .place-within))
+          rw (
+            eqb-true other place here,
+            getD-set-same counters place x noCounter (grew .place-within),
+          )
           (ready-reported (counterAt counters place) positive (grew .just-counted) due-is)
       by-place true here false due-is =
           rw (eqb-true other place here)
@@ -137,7 +140,8 @@ ready-observed settings site arrival some ready taken =
       values-counted = length-set (site .histogram) (arrival .value) _ ∙ ready .values-counted;
       values-sum = sum-one-more (site .histogram) (arrival .value) value-within
           ∙ ap (λ (n : ℕ). n + 1) (ready .values-sum);
-      pending-within = pending-observed (site .pending) (site .threshold) (ready .threshold-positive);
+      pending-within =
+          pending-observed (site .pending) (site .threshold) (ready .threshold-positive);
       threshold-positive = ready .threshold-positive;
       threshold-within = ready .threshold-within;
     }

@@ -171,7 +171,9 @@ siteIn-received settings numbers memory m = by-kind (isPoll m) refl (isProbe m) 
     }
 
     by-kind : (poll : Bool) → isPoll m ≡ poll → (probe : Bool) → isProbe m ≡ probe
-        → siteIn settings (siteRecord (siteReceives (siteIn settings numbers memory) m .site)) memory
+        → siteIn settings
+        (siteRecord (siteReceives (siteIn settings numbers memory) m .site))
+        memory
         ≡ siteReceives (siteIn settings numbers memory) m .site
     by-kind true poll-is probe probe-is = rw poll-is (read-again 0 (numbers .threshold))
     by-kind false poll-is true probe-is =

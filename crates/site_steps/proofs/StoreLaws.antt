@@ -75,7 +75,8 @@ module _
     some = capacity-known .capacity .at-least;
     within = used-within;
     small = λ place inside.
-        let counter = ready .counters-ready place (rw (length-countersIn (numbers .used) before) inside) in
+        let counter =
+        ready .counters-ready place (rw (length-countersIn (numbers .used) before) inside) in
         omega (arith, counter .count-within, taken .room);
   }
 

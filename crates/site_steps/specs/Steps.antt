@@ -51,7 +51,10 @@ abbrev pub messagesDue : Bool → Message → Bool → Message → List Message
 messagesDue itemDue itemReport countDue countReport =
     (if itemDue then itemReport ∷ [] else []) ++ (if countDue then countReport ∷ [] else [])
 
-pub record GatherSays (numbers : SiteRecord) (messages : List Message) (answer : Observed) : Type 0 where
+pub record GatherSays
+    (numbers : SiteRecord)
+    (messages : List Message)
+    (answer : Observed) : Type 0 where
   pub refusal : answer .refusal ≡ accepted
   pub site : answer .site ≡ numbers
   pub count : answer .count ≡ length messages

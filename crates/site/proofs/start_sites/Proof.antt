@@ -39,8 +39,12 @@ mul-words c =
     let start = at-test-settings .before .before .before in
     let a = start .args in
     let words = ap (λ (n : ℕ). a .settings .sites * n) (c .site-words .ensures) in
-    omega (arith, words, words-fit (a .settings)
-    (sym (at-test-settings .test-settings .ensures) ∙ at-if1 .if1 .left))
+    omega (
+      arith,
+      words,
+      words-fit (a .settings)
+          (sym (at-test-settings .test-settings .ensures) ∙ at-if1 .if1 .left),
+    )
 
 returns-2 : tie.Need-returns-2
 returns-2 c =

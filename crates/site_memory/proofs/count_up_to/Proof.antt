@@ -16,7 +16,6 @@ abbrev μ-loop : tie.MeasureT-loop
 
 loop-holds : tie.Need-loop-holds Inv-loop μ-loop
 loop-holds c =
-
     counting-start (c .args .memory .now) (c .args .from) (c .pre .long-enough) (c .args .value)
 
 add-count : tie.Need-add-count Inv-loop μ-loop

@@ -48,8 +48,11 @@ mul-from : tie.Need-mul-from
 mul-from c =
     let earlier = c .before .before .before .before .before .before .before in
     let start = earlier .before .before .before .before .before .before in
-    omega (arith, settled (start .args .settings)
-    (start .pre .settings-accepted) .capacity .at-most)
+    omega (
+      arith,
+      settled (start .args .settings)
+          (start .pre .settings-accepted) .capacity .at-most,
+    )
 
 values-sum-to-requires : tie.Need-values-sum-to-requires
 values-sum-to-requires c κs =

@@ -50,8 +50,8 @@ returns-3 c =
     let start = at-test-settings .before .before in
     let a = start .args in
     let tested =
-        memory-tested (a .settings) (a .site) (a .memory .now)
-        (sym (at-test-settings .test-settings .ensures) ∙ at-if1 .if1 .left) (omega arith) in
+    memory-tested (a .settings) (a .site) (a .memory .now)
+    (sym (at-test-settings .test-settings .ensures) ∙ at-if1 .if1 .left) (omega arith) in
     sym (ap (λ (test : Bool). when (not test) memoryInconsistent orElse accepted)
     (sym (at-site-consistent .site-consistent .ensures) ∙ c .if3 .taken)) ∙ tested
 
@@ -63,8 +63,8 @@ returns-4 c =
     let start = at-test-settings .before .before in
     let a = start .args in
     let tested =
-        memory-tested (a .settings) (a .site) (a .memory .now)
-        (sym (at-test-settings .test-settings .ensures) ∙ at-if1 .if1 .left) (omega arith) in
+    memory-tested (a .settings) (a .site) (a .memory .now)
+    (sym (at-test-settings .test-settings .ensures) ∙ at-if1 .if1 .left) (omega arith) in
     sym (ap (λ (test : Bool). when (not test) memoryInconsistent orElse accepted)
     (sym (at-site-consistent .site-consistent .ensures) ∙ c .if3 .left)) ∙ tested
 

@@ -32,8 +32,11 @@ cast-from c = search needs
 mul-from : tie.Need-mul-from
 mul-from c =
     let start = c .before .before .before .before .before .before in
-    omega (arith, settled (start .args .settings)
-    (start .pre .ready .settings-accepted) .capacity .at-most)
+    omega (
+      arith,
+      settled (start .args .settings)
+          (start .pre .ready .settings-accepted) .capacity .at-most,
+    )
 
 count-up-to-requires : tie.Need-count-up-to-requires
 count-up-to-requires c κs =

@@ -44,14 +44,13 @@ count-value-requires c κs =
     let counted = at-count-item .count-item in
     let report = at-report-counter .report-counter in
     let same-stored : length (counted .last .0) ≡ length (a .memory .now) = search needs in
-    let same-reported : length (report .last .0) ≡ length (counted .last .0) = search needs in
-    (
+    let same-reported : length (report .last .0) ≡ length (counted .last .0) = search needs in (
       value-place (a .settings) (a .site) (a .arrival) (a .memory .now) (start .pre)
-      (counted .last .0)
+          (counted .last .0)
           (counted .result) (counted .ensures) same-stored (report .last .0) (report .result)
           (report .ensures) same-reported,
       value-small (a .settings) (a .site) (a .arrival) (a .memory .now) (start .pre)
-      (counted .last .0)
+          (counted .last .0)
           (counted .result) (counted .ensures) same-stored (report .last .0) (report .result)
           (report .ensures) same-reported,
     )

@@ -1,0 +1,1 @@
+-- The laws behind the functions of this crate.

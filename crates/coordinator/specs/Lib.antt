@@ -1,0 +1,2 @@
+-- What the functions of this crate ask and promise, over the model's definitions.
+pub mod Steps

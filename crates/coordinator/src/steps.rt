@@ -1,0 +1,208 @@
+// The steps of a coordinator, without tests: what a message that was accepted does to its record and
+// memory. They are internal: an entry point of this crate and the batch call, which have tested
+// settings, memory and message, call them.
+ghost use mathlib.Core.Path.{_≡_};
+ghost use mathlib.Core.List.{List};
+ghost use Prim.Native.Nat.{ℕ, _+_, _*_, _≤_, _<_};
+ghost use Rattle.model.specs.Settings.{thresholdOf};
+ghost use Rattle.model.specs.Messages.{noMessage, poll, probe};
+ghost use Rattle.model.specs.Coordinator.{middle, closed, takesPollAnswer, narrowed, halved, takesProbeAnswer};
+ghost use Rattle.model.specs.CoordinatorMemory.{coordinatorIn};
+ghost use Rattle.coordinator.specs.Steps.{ThresholdAsks, PollAsks, HalveAsks, ProbeAsks, answerOf, inPhase, spoken, silent};
+use super::Answered;
+use model::CoordinatorRecord;
+use model::Message;
+use model::Phase;
+use model::Settings;
+
+// No message: zeros.
+pub fn no_message() -> Message
+    ensures { λ r. ⌜ r ≡ noMessage ⌝ }
+{
+    Message {
+        kind: 0,
+        site: 0,
+        a: 0,
+        b: 0,
+    }
+}
+
+// A kind 3.
+fn poll_of(site: u32) -> Message
+    ensures { λ r. ⌜ r ≡ poll site ⌝ }
+{
+    Message {
+        kind: 3,
+        site: site,
+        a: 0,
+        b: 0,
+    }
+}
+
+// A kind 5.
+fn probe_of(site: u32, value: u32) -> Message
+    ensures { λ r. ⌜ r ≡ probe site value ⌝ }
+{
+    Message {
+        kind: 5,
+        site: site,
+        a: value as u64,
+        b: 0,
+    }
+}
+
+// The value that halves an interval.
+fn middle_of(low: u32, high: u32) -> u32
+    requires { ⌜ low + high < 4294967296 ⌝ }
+    ensures { λ r. ⌜ r ≡ middle low high ⌝ }
+{
+    (low + high) / 2
+}
+
+// The threshold that a base gives.
+pub fn threshold_of(settings: Settings, base: u64) -> u64
+    requires { ⌜ ThresholdAsks settings base ⌝ }
+    ensures { λ r. ⌜ r ≡ thresholdOf settings base ⌝ }
+{
+    let share = (settings.epsilon as u64) * base;
+    let parts = 3000 * (settings.sites as u64);
+    let threshold = share / parts;
+    if threshold < 1 {
+        return 1;
+    }
+    threshold
+}
+
+// A record in another phase.
+fn in_phase(coordinator: CoordinatorRecord, phase: Phase) -> CoordinatorRecord
+    ensures { λ r. ⌜ r ≡ inPhase coordinator phase ⌝ }
+{
+    CoordinatorRecord {
+        total: coordinator.total,
+        base: coordinator.base,
+        threshold: coordinator.threshold,
+        signals: coordinator.signals,
+        quantile: coordinator.quantile,
+        phase: phase,
+    }
+}
+
+// A message goes out, and the phase becomes the one given.
+fn speak(coordinator: CoordinatorRecord, phase: Phase, out: Message) -> Answered
+    ensures { λ r. ⌜ r ≡ spoken coordinator phase out ⌝ }
+{
+    Answered {
+        coordinator: in_phase(coordinator, phase),
+        count: 1,
+        out: out,
+    }
+}
+
+// No message goes out, and the phase becomes the one given.
+fn keep_silent(coordinator: CoordinatorRecord, phase: Phase) -> Answered
+    ensures { λ r. ⌜ r ≡ silent coordinator phase ⌝ }
+{
+    Answered {
+        coordinator: in_phase(coordinator, phase),
+        count: 0,
+        out: no_message(),
+    }
+}
+
+// The round is closed, with a record whose total has all answers.
+fn close(settings: Settings, coordinator: CoordinatorRecord) -> Answered
+    requires { ⌜ ThresholdAsks settings (coordinator .total) ⌝ }
+    ensures { λ r. ⌜ ((memory : List ℕ) → r ≡ answerOf (closed settings (coordinatorIn settings coordinator memory) (coordinator .total))) ⌝ }
+{
+    let threshold = threshold_of(settings, coordinator.total);
+    let mut next = coordinator;
+    next.base = coordinator.total;
+    next.threshold = threshold;
+    if 2 <= threshold {
+        return speak(
+            next,
+            Phase::Probing(0, 0, 1023, 0),
+            probe_of(0, middle_of(0, 1023)),
+        );
+    }
+    keep_silent(next, Phase::Announcing(0))
+}
+
+// A kind 4 from the site that is polled.
+fn take_poll_answer(
+    settings: Settings,
+    coordinator: CoordinatorRecord,
+    site: u32,
+    message: Message,
+) -> Answered
+    requires { ⌜ PollAsks settings coordinator site message ⌝ }
+    ensures { λ r. ⌜ ((memory : List ℕ) → r ≡ answerOf (takesPollAnswer settings (coordinatorIn settings coordinator memory) site message)) ⌝ }
+{
+    let mut next = coordinator;
+    next.total = coordinator.total + message.a;
+    if site + 1 < settings.sites {
+        return speak(next, Phase::Collecting(site + 1), poll_of(site + 1));
+    }
+    close(settings, next)
+}
+
+// The halving goes on with an interval, or ends where one value remains.
+fn narrow(settings: Settings, coordinator: CoordinatorRecord, low: u32, high: u32) -> Answered
+    requires { ⌜ (low ≤ high) × (high ≤ 1023) ⌝ }
+    ensures { λ r. ⌜ ((memory : List ℕ) → r ≡ answerOf (narrowed (coordinatorIn settings coordinator memory) low high)) ⌝ }
+{
+    if low == high {
+        let mut next = coordinator;
+        next.quantile = low;
+        return keep_silent(next, Phase::Announcing(0));
+    }
+    speak(
+        coordinator,
+        Phase::Probing(0, low, high, 0),
+        probe_of(0, middle_of(low, high)),
+    )
+}
+
+// The interval is halved by the sum of all answers.
+fn halve(
+    settings: Settings,
+    coordinator: CoordinatorRecord,
+    low: u32,
+    high: u32,
+    sum: u64,
+) -> Answered
+    requires { ⌜ HalveAsks settings coordinator low high sum ⌝ }
+    ensures { λ r. ⌜ ((memory : List ℕ) → r ≡ answerOf (halved settings (coordinatorIn settings coordinator memory) low high sum)) ⌝ }
+{
+    let half = middle_of(low, high);
+    let needed = (settings.rank as u64) * coordinator.base;
+    if needed <= 1000 * sum {
+        return narrow(settings, coordinator, low, half);
+    }
+    narrow(settings, coordinator, half + 1, high)
+}
+
+// A kind 6 from the site that is probed.
+fn take_probe_answer(
+    settings: Settings,
+    coordinator: CoordinatorRecord,
+    site: u32,
+    low: u32,
+    high: u32,
+    sum: u64,
+    message: Message,
+) -> Answered
+    requires { ⌜ ProbeAsks settings coordinator site low high (sum + message .b) ⌝ }
+    ensures { λ r. ⌜ ((memory : List ℕ) → r ≡ answerOf (takesProbeAnswer settings (coordinatorIn settings coordinator memory) site low high sum message)) ⌝ }
+{
+    let gained = sum + message.b;
+    if site + 1 < settings.sites {
+        let asked = probe_of(site + 1, middle_of(low, high));
+        return speak(
+            coordinator,
+            Phase::Probing(site + 1, low, high, gained),
+            asked,
+        );
+    }
+    halve(settings, coordinator, low, high, gained)
+}

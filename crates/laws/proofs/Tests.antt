@@ -1,8 +1,14 @@
 -- Laws of tests joined by `&&`, `||` and `not`.
 --
---   both-true       both tests of a conjunction hold
-use mathlib.Core.Path.{_≡_, refl}
-use mathlib.Core.Bool.{Bool, true, false, _&&_, false≢true}
+--   both-true        both tests of a conjunction hold
+--   false-of-not     what a test's negation says of it: it fails
+--   true-of-not      and it holds
+--   ltb-is-not-leb   b < a is the negation of a ≤ b, as tests
+use mathlib.Core.Path.{_≡_, refl, sym, _∙_}
+use Prim.Native.Nat.{ℕ}
+use lib.Dec.{leb, ltb}
+use borrow.Author.Tests.{not-true, not-false, leb-true, leb-false, lt-ltb, le-ltb}
+use mathlib.Core.Bool.{Bool, true, false, _&&_, not, false≢true}
 
 pub record BothTrue (first second : Bool) : Type 0 where
   pub first-true : first ≡ true
@@ -11,3 +17,17 @@ pub record BothTrue (first second : Bool) : Type 0 where
 pub both-true : (first second : Bool) → (first && second) ≡ true → BothTrue first second
 both-true true second holds = record { first-true = refl; second-true = holds }
 both-true false second impossible = absurd (false≢true impossible)
+
+-- The answer is the negation of a test: from the answer to the test.
+pub false-of-not : (test : Bool) {answer : Bool} → answer ≡ not test → answer ≡ true → test ≡ false
+false-of-not test is yes-answer = not-true test (sym is ∙ yes-answer)
+
+pub true-of-not : (test : Bool) {answer : Bool} → answer ≡ not test → answer ≡ false → test ≡ true
+true-of-not test is no-answer = not-false test (sym is ∙ no-answer)
+
+pub ltb-is-not-leb : (a b : ℕ) → ltb b a ≡ not (leb a b)
+ltb-is-not-leb a b = by-order (leb a b) refl
+  where
+    by-order : (test : Bool) → leb a b ≡ test → ltb b a ≡ not test
+    by-order true holds = le-ltb b a (leb-true a b holds)
+    by-order false fails = lt-ltb b a (leb-false a b fails)

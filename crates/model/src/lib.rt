@@ -1,6 +1,53 @@
 // The record types that the calls take and hand back. The model's definitions (specs/) speak of these
 // very types: to the logic a machine number is a natural number and a declared array a list, so no
-// translation stands between a contract and the model. This crate has no function.
+// translation stands between a contract and the model. This crate has no function. The numbers of
+// refusals and limits stand here once for all code, as specs/Refusals.antt and specs/Limits.antt have
+// them once for all definitions.
+
+// Why a call is refused: document 01's table "Refused".
+pub const ACCEPTED: u32 = 0;
+
+pub const SETTING_OUT_OF_RANGE: u32 = 1;
+
+pub const PHI_BELOW_EPSILON: u32 = 2;
+
+pub const TOO_FEW_COUNTERS: u32 = 3;
+
+pub const MEMORY_TOO_SHORT: u32 = 4;
+
+pub const UNKNOWN_SITE: u32 = 5;
+
+pub const UNKNOWN_ITEM: u32 = 6;
+
+pub const VALUE_TOO_LARGE: u32 = 7;
+
+pub const SITE_FULL: u32 = 8;
+
+pub const MESSAGE_NOT_DUE: u32 = 9;
+
+pub const AMOUNT_NOT_DUE: u32 = 10;
+
+pub const MEMORY_INCONSISTENT: u32 = 11;
+
+pub const LIST_TOO_SHORT: u32 = 12;
+
+pub const MALFORMED_LINE: u32 = 13;
+
+pub const LOG_TOO_SHORT: u32 = 14;
+
+// Document 01's limits: the greatest value and how many values there are, the most sites, the draws a
+// site takes, the numbers the coordinator holds, and the messages a network counts.
+pub const TOP_VALUE: u32 = 1023;
+
+pub const VALUE_COUNT: usize = 1024;
+
+pub const MOST_SITES: u32 = 32;
+
+pub const SITE_LIMIT: u64 = 1000000000;
+
+pub const COORDINATOR_LIMIT: u64 = 100000000000;
+
+pub const MESSAGE_LIMIT: u64 = 100000000000000;
 
 // The settings of a network: document 01's k, e, p, q, c and u. `epsilon` (leeway), `phi` (list
 // share) and `rank` are in thousandths; `rank` is a relative rank, not a position.

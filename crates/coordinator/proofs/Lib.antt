@@ -1,1 +1,2 @@
 -- The laws behind the functions of this crate.
+pub mod MemoryLaws

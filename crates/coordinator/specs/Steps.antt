@@ -1,15 +1,17 @@
 -- What the steps ask and promise.
 use mathlib.Core.Path.{_≡_}
+use mathlib.Core.List.{List}
 use Prim.Native.Nat.{ℕ, _+_, _*_, _≤_, _<_}
 use lib.ListN.{length, getD}
 use Rattle.model.specs.declared.Settings.{Settings}
 use Rattle.model.specs.declared.Message.{Message}
 use Rattle.model.specs.declared.Phase.{Phase}
+use Rattle.model.specs.declared.Phase.the-variants.{Idle, Collecting, Probing, Announcing}
 use Rattle.model.specs.declared.CoordinatorRecord.{CoordinatorRecord}
-use Rattle.model.specs.Limits.{topValue}
+use Rattle.model.specs.Limits.{topValue, valueCount}
 use Rattle.model.specs.Messages.{noMessage}
 use Rattle.model.specs.Coordinator.{CoordinatorStep}
-use Rattle.model.specs.CoordinatorMemory.{coordinatorRecord}
+use Rattle.model.specs.CoordinatorMemory.{coordinatorRecord, coordinatorMemory, coordinatorWords}
 use Rattle.coordinator.specs.declared.Answered.{Answered}
 
 -- The step of the model as a function hands it back.
@@ -19,6 +21,11 @@ answerOf given = record {
   count = length (given .messages);
   out = getD (given .messages) 0 noMessage;
 }
+
+-- What a step on lent memory gives: the answer, and the memory with the coordinator written to it.
+pub record Does (given : CoordinatorStep) (before after : List ℕ) (r : Answered) : Type 0 where
+  pub answer : r ≡ answerOf given
+  pub memory : after ≡ coordinatorMemory (given .coordinator) before
 
 -- A record in another phase.
 abbrev pub inPhase : CoordinatorRecord → Phase → CoordinatorRecord
@@ -53,6 +60,25 @@ pub record ThresholdAsks (settings : Settings) (base : ℕ) : Type 0 where
   pub settings-fit : SettingsFit settings
   pub base-small : base ≤ stepLimit
 
+pub record ItemAsks (settings : Settings) (m : Message) (memory : List ℕ) : Type 0 where
+  pub memory-long : coordinatorWords settings ≤ length memory
+  pub item-known : m .a < settings .universe
+  pub number-small : getD memory (m .a) 0 + m .b ≤ stepLimit
+
+-- The place of a value's count, and room in it for one more.
+pub record ValueRoom (settings : Settings) (value : ℕ) (memory : List ℕ) : Type 0 where
+  pub value-known : value < valueCount
+  pub memory-long : coordinatorWords settings ≤ length memory
+  pub count-small : getD memory (settings .universe + value) 0 ≤ stepLimit
+
+pub record CountAsks (settings : Settings) (numbers : CoordinatorRecord) (m : Message) (memory : List ℕ)
+    : Type 0 where
+  pub settings-fit : SettingsFit settings
+  pub memory-long : coordinatorWords settings ≤ length memory
+  pub value-room : numbers .threshold ≡ 1 → ValueRoom settings (m .b) memory
+  pub signals-few : numbers .signals < settings .sites
+  pub total-small : numbers .total + m .a ≤ stepLimit
+
 pub record PollAsks (settings : Settings) (numbers : CoordinatorRecord) (site : ℕ) (m : Message)
     : Type 0 where
   pub settings-fit : SettingsFit settings
@@ -71,3 +97,14 @@ pub record ProbeAsks (settings : Settings) (numbers : CoordinatorRecord) (site l
     : Type 0 where
   pub site-known : site < settings .sites
   pub halving : HalveAsks settings numbers low high sum
+
+-- The site of the phase, where it announces, is one of the settings'.
+abbrev pub announcesTo : Settings → Phase → Type 0
+announcesTo settings Idle = Unit
+announcesTo settings (Collecting site) = Unit
+announcesTo settings (Probing site low high sum) = Unit
+announcesTo settings (Announcing site) = site < settings .sites
+
+pub record AnnounceAsks (settings : Settings) (numbers : CoordinatorRecord) : Type 0 where
+  pub settings-fit : SettingsFit settings
+  pub site-known : announcesTo settings (numbers .phase)

@@ -4,16 +4,21 @@
 ghost use mathlib.Core.Path.{_≡_};
 ghost use mathlib.Core.List.{List};
 ghost use Prim.Native.Nat.{ℕ, _+_, _*_, _≤_, _<_};
+ghost use Rattle.model.specs.Limits.{topValue};
 ghost use Rattle.model.specs.Settings.{thresholdOf};
-ghost use Rattle.model.specs.Messages.{noMessage, poll, probe};
-ghost use Rattle.model.specs.Coordinator.{middle, closed, takesPollAnswer, narrowed, halved, takesProbeAnswer};
+ghost use Rattle.model.specs.Messages.{noMessage, poll, probe, announcement};
+ghost use Rattle.model.specs.Choice.{if_then_else_};
+ghost use Rattle.model.specs.Site.{oneMoreAt};
+ghost use Rattle.model.specs.Coordinator.{takesItemReport, takesCountReport, announced, middle, closed, takesPollAnswer, narrowed, halved, takesProbeAnswer};
 ghost use Rattle.model.specs.CoordinatorMemory.{coordinatorIn};
-ghost use Rattle.coordinator.specs.Steps.{ThresholdAsks, PollAsks, HalveAsks, ProbeAsks, answerOf, inPhase, spoken, silent};
+ghost use lib.Dec.{eqb};
+ghost use Rattle.coordinator.specs.Steps.{ItemAsks, CountAsks, ValueRoom, AnnounceAsks, Does, ThresholdAsks, PollAsks, HalveAsks, ProbeAsks, answerOf, inPhase, spoken, silent};
 use super::Answered;
 use model::CoordinatorRecord;
 use model::Message;
 use model::Phase;
 use model::Settings;
+use model::TOP_VALUE;
 
 // No message: zeros.
 pub fn no_message() -> Message
@@ -109,6 +114,54 @@ fn keep_silent(coordinator: CoordinatorRecord, phase: Phase) -> Answered
     }
 }
 
+// A kind 1 at an idle coordinator.
+fn take_item_report(
+    settings: Settings,
+    coordinator: CoordinatorRecord,
+    message: Message,
+    memory: &mut [u64],
+) -> Answered
+    requires { ⌜ ItemAsks settings message (now memory) ⌝ }
+    ensures { λ r. ⌜ Does (takesItemReport (coordinatorIn settings coordinator (now (memory .entry))) message) (now (memory .entry)) (now (memory .exit)) r ⌝ }
+{
+    let item = message.a as usize;
+    memory[item] = memory[item] + message.b;
+    let phase = coordinator.phase;
+    keep_silent(coordinator, phase)
+}
+
+// While the threshold is 1, an arrival's value is counted.
+fn count_value(settings: Settings, threshold: u64, value: u64, memory: &mut [u64])
+    requires { ⌜ (threshold ≡ 1 → ValueRoom settings value (now memory)) ⌝ }
+    ensures { λ r. ⌜ now (memory .exit) ≡ (if eqb threshold 1 then oneMoreAt (now (memory .entry)) (settings .universe + value) else now (memory .entry)) ⌝ }
+{
+    if threshold == 1 {
+        let place = (settings.universe as usize) + (value as usize);
+        memory[place] = memory[place] + 1;
+    }
+}
+
+// A kind 2 at an idle coordinator. The last of a round starts the collecting.
+fn take_count_report(
+    settings: Settings,
+    coordinator: CoordinatorRecord,
+    message: Message,
+    memory: &mut [u64],
+) -> Answered
+    requires { ⌜ CountAsks settings coordinator message (now memory) ⌝ }
+    ensures { λ r. ⌜ Does (takesCountReport settings (coordinatorIn settings coordinator (now (memory .entry))) message) (now (memory .entry)) (now (memory .exit)) r ⌝ }
+{
+    count_value(settings, coordinator.threshold, message.b, memory);
+    let mut next = coordinator;
+    let signals = coordinator.signals + 1;
+    next.total = coordinator.total + message.a;
+    next.signals = signals;
+    if signals == settings.sites {
+        return speak(next, Phase::Collecting(0), poll_of(0));
+    }
+    keep_silent(next, Phase::Idle)
+}
+
 // The round is closed, with a record whose total has all answers.
 fn close(settings: Settings, coordinator: CoordinatorRecord) -> Answered
     requires { ⌜ ThresholdAsks settings (coordinator .total) ⌝ }
@@ -121,8 +174,8 @@ fn close(settings: Settings, coordinator: CoordinatorRecord) -> Answered
     if 2 <= threshold {
         return speak(
             next,
-            Phase::Probing(0, 0, 1023, 0),
-            probe_of(0, middle_of(0, 1023)),
+            Phase::Probing(0, 0, TOP_VALUE, 0),
+            probe_of(0, middle_of(0, TOP_VALUE)),
         );
     }
     keep_silent(next, Phase::Announcing(0))
@@ -148,7 +201,7 @@ fn take_poll_answer(
 
 // The halving goes on with an interval, or ends where one value remains.
 fn narrow(settings: Settings, coordinator: CoordinatorRecord, low: u32, high: u32) -> Answered
-    requires { ⌜ (low ≤ high) × (high ≤ 1023) ⌝ }
+    requires { ⌜ (low ≤ high) × (high ≤ topValue) ⌝ }
     ensures { λ r. ⌜ ((memory : List ℕ) → r ≡ answerOf (narrowed (coordinatorIn settings coordinator memory) low high)) ⌝ }
 {
     if low == high {
@@ -205,4 +258,39 @@ fn take_probe_answer(
         );
     }
     halve(settings, coordinator, low, high, gained)
+}
+
+// A kind 7.
+fn announcement_of(site: u32, threshold: u64, base: u64) -> Message
+    ensures { λ r. ⌜ r ≡ announcement site threshold base ⌝ }
+{
+    Message {
+        kind: 7,
+        site: site,
+        a: threshold,
+        b: base,
+    }
+}
+
+// The next kind 7 of a coordinator that announces; after the last it is at rest. In another phase it
+// stays as it is.
+pub fn announce_step(settings: Settings, coordinator: CoordinatorRecord) -> Answered
+    requires { ⌜ AnnounceAsks settings coordinator ⌝ }
+    ensures { λ r. ⌜ ((memory : List ℕ) → r ≡ answerOf (announced settings (coordinatorIn settings coordinator memory))) ⌝ }
+{
+    let phase = coordinator.phase;
+    match phase {
+        Phase::Idle => keep_silent(coordinator, phase),
+        Phase::Collecting(_) => keep_silent(coordinator, phase),
+        Phase::Probing(_, _, _, _) => keep_silent(coordinator, phase),
+        Phase::Announcing(site) => {
+            let out = announcement_of(site, coordinator.threshold, coordinator.base);
+            if site + 1 < settings.sites {
+                return speak(coordinator, Phase::Announcing(site + 1), out);
+            }
+            let mut next = coordinator;
+            next.signals = 0;
+            speak(next, Phase::Idle, out)
+        }
+    }
 }

@@ -1,2 +1,3 @@
 -- What the functions of this crate ask and promise, over the model's definitions.
 pub mod Steps
+pub mod Ready

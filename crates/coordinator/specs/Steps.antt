@@ -97,14 +97,3 @@ pub record ProbeAsks (settings : Settings) (numbers : CoordinatorRecord) (site l
     : Type 0 where
   pub site-known : site < settings .sites
   pub halving : HalveAsks settings numbers low high sum
-
--- The site of the phase, where it announces, is one of the settings'.
-abbrev pub announcesTo : Settings → Phase → Type 0
-announcesTo settings Idle = Unit
-announcesTo settings (Collecting site) = Unit
-announcesTo settings (Probing site low high sum) = Unit
-announcesTo settings (Announcing site) = site < settings .sites
-
-pub record AnnounceAsks (settings : Settings) (numbers : CoordinatorRecord) : Type 0 where
-  pub settings-fit : SettingsFit settings
-  pub site-known : announcesTo settings (numbers .phase)

@@ -9,10 +9,11 @@ ghost use Rattle.model.specs.Settings.{thresholdOf};
 ghost use Rattle.model.specs.Messages.{noMessage, poll, probe, announcement};
 ghost use Rattle.model.specs.Choice.{if_then_else_};
 ghost use Rattle.model.specs.Site.{oneMoreAt};
-ghost use Rattle.model.specs.Coordinator.{takesItemReport, takesCountReport, announced, middle, closed, takesPollAnswer, narrowed, halved, takesProbeAnswer};
+ghost use Rattle.model.specs.Coordinator.{coordinatorReceives, takesItemReport, takesCountReport, announced, middle, closed, takesPollAnswer, narrowed, halved, takesProbeAnswer};
 ghost use Rattle.model.specs.CoordinatorMemory.{coordinatorIn};
 ghost use lib.Dec.{eqb};
-ghost use Rattle.coordinator.specs.Steps.{ItemAsks, CountAsks, ValueRoom, AnnounceAsks, Does, ThresholdAsks, PollAsks, HalveAsks, ProbeAsks, answerOf, inPhase, spoken, silent};
+ghost use Rattle.coordinator.specs.Steps.{ItemAsks, CountAsks, ValueRoom, Does, ThresholdAsks, PollAsks, HalveAsks, ProbeAsks, answerOf, inPhase, spoken, silent};
+ghost use Rattle.coordinator.specs.Ready.{StepAsks, AnnounceAsks};
 use super::Answered;
 use model::CoordinatorRecord;
 use model::Message;
@@ -292,5 +293,31 @@ pub fn announce_step(settings: Settings, coordinator: CoordinatorRecord) -> Answ
             next.signals = 0;
             speak(next, Phase::Idle, out)
         }
+    }
+}
+
+// Any message that is accepted. Kinds 1 and 2 touch one number of the memory at most, the others none.
+pub fn receive_step(
+    settings: Settings,
+    coordinator: CoordinatorRecord,
+    message: Message,
+    memory: &mut [u64],
+) -> Answered
+    requires { ⌜ StepAsks settings coordinator message (now memory) ⌝ }
+    ensures { λ r. ⌜ Does (coordinatorReceives settings (coordinatorIn settings coordinator (now (memory .entry))) message) (now (memory .entry)) (now (memory .exit)) r ⌝ }
+{
+    let phase = coordinator.phase;
+    match phase {
+        Phase::Idle => {
+            if message.kind == 1 {
+                return take_item_report(settings, coordinator, message, memory);
+            }
+            take_count_report(settings, coordinator, message, memory)
+        }
+        Phase::Collecting(site) => take_poll_answer(settings, coordinator, site, message),
+        Phase::Probing(site, low, high, sum) => {
+            take_probe_answer(settings, coordinator, site, low, high, sum, message)
+        }
+        Phase::Announcing(_) => keep_silent(coordinator, phase),
     }
 }

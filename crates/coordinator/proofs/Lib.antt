@@ -1,4 +1,5 @@
 -- The laws behind the functions of this crate.
+pub mod NumberLaws
 pub mod ByKind
 pub mod Accepted
 pub mod MemoryLaws

@@ -2,6 +2,7 @@
 -- (sums fit), and which steps leave the numbers in memory as they are.
 --
 --   settings-fit, threshold-small         what settings and threshold are worth
+--   valueCount-is, value-known            the number of values
 --   item-asks, count-asks, poll-asks, probe-asks
 --   poll-kept, probe-kept                 kinds 4 and 6 change the record alone
 use mathlib.Core.Path.{_≡_, refl, ap, sym, _∙_}
@@ -51,9 +52,12 @@ threshold-small settings base fit =
     div-le-of-le-mul (3000 * settings .sites) (mul-le-mul {m₁ = base} {m₂ = base} factors (omega arith)) in
     omega arith
 
-pub value-known : (value : ℕ) → value ≤ topValue → value < valueCount
+pub valueCount-is : valueCount ≡ 1024
 unfolding valueCount
-value-known value small = omega arith
+valueCount-is = refl
+
+pub value-known : (value : ℕ) → value ≤ topValue → value < valueCount
+value-known value small = omega (arith, valueCount-is)
 
 -- ---- What each kind asks
 

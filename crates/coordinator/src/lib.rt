@@ -1,4 +1,5 @@
 // The coordinator: document 01's desk, on its record and lent memory.
+pub mod consistency;
 pub mod refusals;
 pub mod steps;
 

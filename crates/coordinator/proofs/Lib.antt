@@ -5,3 +5,4 @@ pub mod Accepted
 pub mod MemoryLaws
 pub mod StepLaws
 pub mod Receives
+pub mod ConsistencyLaws

@@ -28,7 +28,7 @@ shared-slice-read-if1 c = search needs
 
 -- src/consistency.rt:30:13
 returns : tie.Need-returns Inv-loop μ-loop
-returns c = 
+returns c =
     let at-loop = c .before .before .before in
     let start = at-loop .before in
     sym
@@ -45,7 +45,7 @@ loop-less c = search needs
 
 -- src/consistency.rt:28:5
 loop-again : tie.Need-loop-again Inv-loop μ-loop
-loop-again c = 
+loop-again c =
     let at-loop = c .before .before .before in
     let start = at-loop .before in
     checked-on (start .args .limit) (start .args .numbers .now) (at-loop .loop .i) (at-loop .loop .inv)
@@ -53,7 +53,7 @@ loop-again c =
 
 -- src/consistency.rt:24:1
 returns-2 : tie.Need-returns-2 Inv-loop μ-loop
-returns-2 c = 
+returns-2 c =
     let at-loop = c .before in
     let start = at-loop .before in
     sym

@@ -29,7 +29,7 @@ closing-consistent-requires-2 c κs = search needs
 
 -- src/consistency.rt:72:25
 returns : tie.Need-returns
-returns c = 
+returns c =
     let at-first = c .before .before in
     rw (
       at-first .before .before .before .phase2 .given .1,
@@ -56,7 +56,7 @@ returns-3 c = rw (c .before .before .phase .given .1) (c .closing-consistent .en
 
 -- src/consistency.rt:62:1
 returns-4 : tie.Need-returns-4
-returns-4 c = 
+returns-4 c =
     let at-first = c .before .before in
     rw (
       at-first .before .before .before .phase2 .given .1,
@@ -67,7 +67,7 @@ returns-4 c =
 
 -- src/consistency.rt:62:1
 returns-5 : tie.Need-returns-5
-returns-5 c = 
+returns-5 c =
     let at-first = c .before in
     rw (
       at-first .before .before .before .phase2 .given .1,
@@ -77,7 +77,7 @@ returns-5 c =
 
 -- src/consistency.rt:62:1
 returns-6 : tie.Need-returns-6
-returns-6 c = 
+returns-6 c =
     rw (
       c .before .before .before .phase2 .given .1,
       sym (c .before .closing-consistent2 .ensures) ∙ c .if1 .left,

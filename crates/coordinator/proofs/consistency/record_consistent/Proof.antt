@@ -13,7 +13,7 @@ phase-consistent-requires c κs = search needs
 
 -- src/consistency.rt:90:17
 returns : tie.Need-returns
-returns c = 
+returns c =
     let at-first = c .before .before .before .before .before in
     rw (
       sym (at-first .before .phase-consistent .ensures) ∙ at-first .if1 .taken,
@@ -23,7 +23,7 @@ returns c =
 
 -- src/consistency.rt:83:1
 returns-2 : tie.Need-returns-2
-returns-2 c = 
+returns-2 c =
     let at-first = c .before .before .before .before in
     rw (
       sym (at-first .before .phase-consistent .ensures) ∙ at-first .if1 .taken,
@@ -33,7 +33,7 @@ returns-2 c =
 
 -- src/consistency.rt:83:1
 returns-3 : tie.Need-returns-3
-returns-3 c = 
+returns-3 c =
     let at-first = c .before .before in
     rw (
       sym (at-first .before .phase-consistent .ensures) ∙ at-first .if1 .taken,

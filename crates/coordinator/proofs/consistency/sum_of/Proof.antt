@@ -30,7 +30,7 @@ shared-slice-read-total c = search needs
 
 -- src/consistency.rt:45:9
 add-total : tie.Need-add-total Inv-loop μ-loop
-add-total c = 
+add-total c =
     let at-loop = c .before .before in
     let start = at-loop .before in
     let number = within-at coordinatorLimit (start .args .numbers .now) (start .pre .small) (at-loop .loop .i) in
@@ -46,7 +46,7 @@ loop-less c = search needs
 
 -- src/consistency.rt:44:5
 loop-again : tie.Need-loop-again Inv-loop μ-loop
-loop-again c = 
+loop-again c =
     let at-loop = c .before .before in
     let start = at-loop .before in
     summed-on coordinatorLimit (start .args .numbers .now) (at-loop .loop .total) (at-loop .loop .i)
@@ -55,7 +55,7 @@ loop-again c =
 
 -- src/consistency.rt:38:1
 returns : tie.Need-returns Inv-loop μ-loop
-returns c = 
+returns c =
     let at-loop = c .before in
     let start = at-loop .before in
     summed-end coordinatorLimit (start .args .numbers .now) (at-loop .loop .total) (at-loop .loop .i)

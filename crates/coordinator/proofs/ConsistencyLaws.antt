@@ -23,6 +23,7 @@ use Rattle.model.specs.Coordinator.{Coordinator}
 use Rattle.model.specs.CoordinatorMemory.{coordinatorIn, coordinatorWords, coordinatorConsistent, coordinatorMemoryRefusal, phaseConsistent, allWithin}
 use Rattle.coordinator.specs.Consistency.{recordConsistent, numbersConsistent}
 use Rattle.coordinator.proofs.StepLaws.{valueCount-is}
+use Rattle.coordinator.proofs.Chains.{refused-first, accepted-first}
 
 -- ---- The parts of the test
 
@@ -119,13 +120,6 @@ module _ (c : Coordinator) where
   numbers-estimates-off estimates = rw estimates
 
 -- ---- The chain of refusals
-
-refused-first : (first later : ℕ) → (first ≡ accepted → ⊥) → (first orElse later) ≡ first
-refused-first zero later refused = absurd (refused refl)
-refused-first (suc first) later refused = refl
-
-accepted-first : (first later : ℕ) → first ≡ accepted → (first orElse later) ≡ later
-accepted-first first later none = ap (λ (x : ℕ). x orElse later) none
 
 module _ (settings : Settings) (numbers : CoordinatorRecord) (memory : List ℕ) where
   abbrev length-row : ℕ

@@ -1,4 +1,5 @@
 -- The laws behind the functions of this crate.
+pub mod Chains
 pub mod NumberLaws
 pub mod ByKind
 pub mod Accepted
@@ -6,3 +7,5 @@ pub mod MemoryLaws
 pub mod StepLaws
 pub mod Receives
 pub mod ConsistencyLaws
+pub mod ReadyLaws
+pub mod CallLaws

@@ -2,3 +2,4 @@
 pub mod Steps
 pub mod Ready
 pub mod Consistency
+pub mod Calls

@@ -112,8 +112,8 @@ fn numbers_consistent(settings: Settings, coordinator: CoordinatorRecord, memory
     false
 }
 
-// Whether record and memory are consistent. It is internal: settings and length were tested before.
-fn coordinator_consistent(
+// Whether record and memory are consistent. It is internal: the caller has tested settings and length.
+pub fn coordinator_consistent(
     settings: Settings,
     coordinator: CoordinatorRecord,
     memory: &[u64],

@@ -40,7 +40,6 @@ pub mod RunLaws
 pub mod RunInvariant
 pub mod Theorem
 pub mod ReadBack
-pub mod Instances
 pub mod SoundCounters
 pub mod SoundSites
 pub mod CoordinatorSound
@@ -53,4 +52,8 @@ pub mod ProbeStage
 pub mod AnnounceStage
 pub mod MidDelivery
 pub mod SoundStages
+pub mod NeverFalls
 pub mod SoundTheorem
+pub mod NumberGrowth
+pub mod NumberTheorem
+pub mod Instances

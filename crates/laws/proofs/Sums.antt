@@ -104,14 +104,12 @@ module _ {A : Type 0} where
   unfolding sumOf
   sumOf-nil f = refl
 
-<<<<<<< HEAD
-  -- One element set, without minus.
-=======
+  -- One element in front.
   pub sumOf-cons : (f : A → ℕ) (x : A) (xs : List A) → sumOf f (x ∷ xs) ≡ f x + sumOf f xs
   unfolding sumOf
   sumOf-cons f x xs = refl
 
->>>>>>> 8beb1c2820225917aed3a0d004b852d5e6bc1019
+  -- One element set, without minus.
   pub sumOf-set : (f : A → ℕ) (default : A) (xs : List A) (i : ℕ) (x : A)
       → i < length xs
       → sumOf f (set xs i x) + f (getD xs i default) ≡ sumOf f xs + f x

@@ -4,3 +4,5 @@ pub mod Arithmetic
 pub mod Lists
 pub mod Sums
 pub mod Updates
+pub mod FlatMemory
+pub mod Overwrite

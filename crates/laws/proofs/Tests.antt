@@ -1,14 +1,18 @@
 -- Laws of tests joined by `&&`, `||` and `not`.
 --
 --   both-true        both tests of a conjunction hold
+--   neither-of-or    neither test of a disjunction holds that fails
+--   or-false         a disjunction with a test that fails
 --   false-of-not     what a test's negation says of it: it fails
 --   true-of-not      and it holds
 --   ltb-is-not-leb   b < a is the negation of a ≤ b, as tests
+--   and-false, and-true, or-false   a joined test whose second part is known
+--   first-fails, second-fails       a disjunction that fails, fails in both parts
 use mathlib.Core.Path.{_≡_, refl, sym, _∙_}
 use Prim.Native.Nat.{ℕ}
 use lib.Dec.{leb, ltb}
 use borrow.Author.Tests.{not-true, not-false, leb-true, leb-false, lt-ltb, le-ltb}
-use mathlib.Core.Bool.{Bool, true, false, _&&_, not, false≢true}
+use mathlib.Core.Bool.{Bool, true, false, _&&_, _||_, not, false≢true}
 
 pub record BothTrue (first second : Bool) : Type 0 where
   pub first-true : first ≡ true
@@ -17,6 +21,18 @@ pub record BothTrue (first second : Bool) : Type 0 where
 pub both-true : (first second : Bool) → (first && second) ≡ true → BothTrue first second
 both-true true second holds = record { first-true = refl; second-true = holds }
 both-true false second impossible = absurd (false≢true impossible)
+
+pub record NeitherTrue (first second : Bool) : Type 0 where
+  pub first-false : first ≡ false
+  pub second-false : second ≡ false
+
+pub neither-of-or : (first second : Bool) → (first || second) ≡ false → NeitherTrue first second
+neither-of-or true second impossible = absurd (false≢true (sym impossible))
+neither-of-or false second fails = record { first-false = refl; second-false = fails }
+
+pub or-false : (test : Bool) → (test || false) ≡ test
+or-false true = refl
+or-false false = refl
 
 -- The answer is the negation of a test: from the answer to the test.
 pub false-of-not : (test : Bool) {answer : Bool} → answer ≡ not test → answer ≡ true → test ≡ false
@@ -31,3 +47,19 @@ ltb-is-not-leb a b = by-order (leb a b) refl
     by-order : (test : Bool) → leb a b ≡ test → ltb b a ≡ not test
     by-order true holds = le-ltb b a (leb-true a b holds)
     by-order false fails = lt-ltb b a (leb-false a b fails)
+
+pub and-false : (test : Bool) → (test && false) ≡ false
+and-false true = refl
+and-false false = refl
+
+pub and-true : (test : Bool) → (test && true) ≡ test
+and-true true = refl
+and-true false = refl
+
+pub first-fails : (first second : Bool) → (first || second) ≡ false → first ≡ false
+first-fails true second impossible = absurd (false≢true (sym impossible))
+first-fails false second fails = refl
+
+pub second-fails : (first second : Bool) → (first || second) ≡ false → second ≡ false
+second-fails true second impossible = absurd (false≢true (sym impossible))
+second-fails false second fails = fails

@@ -6,6 +6,7 @@ pub mod DecimalLaws
 pub mod LineLaws
 pub mod Halving
 pub mod Threshold
+pub mod Growth
 pub mod Rounds
 pub mod RoundBounds
 pub mod HeavyHitters

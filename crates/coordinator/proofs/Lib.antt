@@ -1,0 +1,2 @@
+-- The laws behind the calls on the coordinator.
+pub mod CallLaws

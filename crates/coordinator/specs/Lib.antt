@@ -1,0 +1,2 @@
+-- What the calls on the coordinator promise, over the model's definitions.
+pub mod Calls

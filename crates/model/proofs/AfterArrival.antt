@@ -1,5 +1,5 @@
--- An arrival with full delivery, in closed form: the four cases of `afterArrival`, for every network
--- whose coordinator is idle, arisen or not, with any list of sites. PROOF.md section 4.
+-- An arrival with full delivery, in closed form: the four cases of `afterArrival`, for every
+-- network whose coordinator is idle, arisen or not, with any list of sites. PROOF.md section 4.
 --
 --   after-arrival     the network and the messages, in each of the four cases
 --   delivers-after    the same as a delivery: it comes to rest there, and more fuel changes nothing

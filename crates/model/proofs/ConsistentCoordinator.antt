@@ -24,7 +24,8 @@ use Rattle.model.specs.Coordinator.{Coordinator}
 use Rattle.model.specs.CoordinatorMemory.{allWithin, phaseConsistent, coordinatorConsistent}
 use Rattle.model.specs.SoundNetwork.{SoundPhase, sumOfPhase, SoundCoordinator}
 
--- "a number of the desk's memory or record, or the sum in its phase, above 100,000,000,000", denied.
+-- "a number of the desk's memory or record, or the sum in its phase, above 100,000,000,000",
+-- denied.
 pub record CoordinatorWithin (c : Coordinator) : Type 0 where
   pub estimates-within : (item : ℕ) → getD (c .estimates) item 0 ≤ coordinatorLimit
   pub values-within : (value : ℕ) → getD (c .histogram) value 0 ≤ coordinatorLimit

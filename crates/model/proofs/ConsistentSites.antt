@@ -1,5 +1,5 @@
--- Refusal 11 of a site means `SoundSite`: a site's memory passes the test exactly if the site that it
--- holds is sound. Document 01, "Inconsistent".
+-- Refusal 11 of a site means `SoundSite`: a site's memory passes the test exactly if the site that
+-- it holds is sound. Document 01, "Inconsistent".
 --
 --   length-countersIn     as many counters are read as are in use
 --   sound-of-consistent   memory that is long enough and passes holds a sound site

@@ -4,7 +4,7 @@
 --   baseOf settings sites total       the total with all pendings: the new base
 --   quantileFound settings sites base what the ten halvings leave
 --   sitesClosed settings sites t      the sites: pendings 0, threshold t
---   closeOne, closeMore               the delivery of a close whose new threshold is 1, or 2 and more
+--   closeOne, closeMore               the delivery of a close: new threshold 1, or 2 and more
 --   closeMessagesOne, closeMessagesMore   their messages, 3 * k and 23 * k of them
 -- Letters: k the sites, l the last of them, t a threshold.
 use mathlib.Core.Path.{_≡_, refl, ap, subst}

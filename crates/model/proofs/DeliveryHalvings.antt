@@ -1,5 +1,5 @@
--- The halvings of a close: each asks every site in turn and narrows the interval, until one value is
--- left. For a free number of halvings, and any interval. PROOF.md sections 4 and 5.
+-- The halvings of a close: each asks every site in turn and narrows the interval, until one value
+-- is left. For a free number of halvings, and any interval. PROOF.md sections 4 and 5.
 --
 --   countUpTo settings sites value   the arrivals at or below a value, summed over the sites
 --   probes                           from any site on, to the probe of the last site

@@ -1,6 +1,6 @@
--- Delivery step by step and as a whole. `Delivers` says where a delivery ends and which messages are
--- handed over on the way, for all numbers of steps that are enough; it is built backwards from the
--- end, one law for each step. PROOF.md section 4.
+-- Delivery step by step and as a whole. `Delivers` says where a delivery ends and which messages
+-- are handed over on the way, for all numbers of steps that are enough; it is built backwards from
+-- the end, one law for each step. PROOF.md section 4.
 --
 --   delivered-is-steps   the model's `delivered` is that many steps, and forgets what waits
 --   Delivers             from this network with these messages waiting, n steps hand over `sent`,

@@ -1,5 +1,5 @@
--- A delivery in mid-way, whatever it has done so far: each step keeps a stage, and finishing it in the
--- model's order comes to the same network and the same messages. PROOF.md sections 4 and 7.
+-- A delivery in mid-way, whatever it has done so far: each step keeps a stage, and finishing it in
+-- the model's order comes to the same network and the same messages. PROOF.md sections 4 and 7.
 --
 --   hand-on, ask-on         the head of the queue is accepted; the two steps keep a stage
 --   Finishes                finishing from here ends there, with all these messages

@@ -1,5 +1,5 @@
--- No step of a delivery lowers an estimate or a value count of the coordinator, whatever the network
--- and whatever waits: so in mid-delivery they are at most what the delivery comes to.
+-- No step of a delivery lowers an estimate or a value count of the coordinator, whatever the
+-- network and whatever waits: so in mid-delivery they are at most what the delivery comes to.
 --
 --   NoLess c c′        each number of c′ is at least that of c
 --   received-no-less   after any message; asked-no-less after an announcement

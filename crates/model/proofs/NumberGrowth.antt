@@ -1,5 +1,5 @@
--- One arrival, and what it adds to the coordinator's numbers: to an estimate what was unreported, to
--- a value count one. From the closed form of its delivery. PROOF.md S7.
+-- One arrival, and what it adds to the coordinator's numbers: to an estimate what was unreported,
+-- to a value count one. From the closed form of its delivery. PROOF.md S7.
 --
 --   unreported-then, arrivals-then   all unreported and all arrivals after an arrival
 --   estimate-then, value-then        an estimate and a value count after it
@@ -111,7 +111,8 @@ module _ {settings : Settings} {network : Network} {arrival : Arrival}
   sum-then part polled-keeps told-keeps which =
       omega (
         arith,
-        sumBelow-same (λ j. part (siteAt (networkThen which) j)) (λ j. part (getD sites j freshSite)) k
+        sumBelow-same (λ j. part (siteAt (networkThen which) j))
+            (λ j. part (getD sites j freshSite)) k
             (λ j _. then-keeps part polled-keeps told-keeps which j),
         sumBelow-set part freshSite (network .sites) (arrival .site) k
             (observed settings site arrival .site) inside (taken .known .site-known),

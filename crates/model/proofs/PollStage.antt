@@ -175,10 +175,12 @@ module _ {settings : Settings} {network : Network} {waiting : List Message} {lef
             (coordinatorReceives settings c (pollAnswer (p .j) (p .amount)))
         by-site (yes more) _ =
             subst (StageAfter settings network [] (left - 1))
-            (sym (poll-answer-next settings c (p .j) (p .amount) (p .phase-is) more)) (next-poll more)
+            (sym (poll-answer-next settings c (p .j) (p .amount) (p .phase-is) more))
+            (next-poll more)
         by-site (no last) (yes one) =
             subst (StageAfter settings network [] (left - 1))
-            (sym (poll-answer-last-one settings c (p .j) (p .amount) (p .phase-is) (omega arith) one))
+            (sym (poll-answer-last-one settings c (p .j) (p .amount) (p .phase-is) (omega arith)
+            one))
             close-one
         by-site (no last) (no more) =
             subst (StageAfter settings network [] (left - 1))

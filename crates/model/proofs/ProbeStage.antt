@@ -90,7 +90,8 @@ module _ {settings : Settings} {network : Network} {waiting : List Message} {lef
     next-probe : p .j + 1 < settings .sites
         → Stage settings
         (withCoordinator network
-        (withPhase (network .coordinator) (Probing (p .j + 1) (p .low) (p .high) (p .sum + p .count))))
+        (withPhase (network .coordinator)
+        (Probing (p .j + 1) (p .low) (p .high) (p .sum + p .count))))
         (probe (p .j + 1) asked ∷ []) (left - 1)
     next-probe more = halving (record {
       answered = false;
@@ -150,13 +151,13 @@ module _ {settings : Settings} {network : Network} {waiting : List Message} {lef
             (probeAnswer (p .j) asked (p .count)))
         by-site (yes more) =
             subst (StageAfter settings network [] (left - 1))
-            (sym (probe-answer-next settings (network .coordinator) (p .j) (p .low) (p .high) (p .sum)
-            (p .count) (p .phase-is) more))
+            (sym (probe-answer-next settings (network .coordinator) (p .j) (p .low) (p .high)
+            (p .sum) (p .count) (p .phase-is) more))
             (next-probe more)
         by-site (no last) =
             subst (StageAfter settings network [] (left - 1))
-            (sym (probe-answer-last settings (network .coordinator) (p .j) (p .low) (p .high) (p .sum)
-            (p .count) (p .phase-is)
+            (sym (probe-answer-last settings (network .coordinator) (p .j) (p .low) (p .high)
+            (p .sum) (p .count) (p .phase-is)
             (enough (settings .rank) (network .coordinator .base) (p .sum + p .count))
             (omega arith) refl))
             (halved-stage (p .h) (p .narrow) (omega arith) steps

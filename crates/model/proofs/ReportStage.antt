@@ -1,5 +1,5 @@
--- The arrival's own messages, handed over: an item report adds to an estimate, a count report to the
--- total, and the k-th count report begins the polls.
+-- The arrival's own messages, handed over: an item report adds to an estimate, a count report to
+-- the total, and the k-th count report begins the polls.
 --
 --   handed-reports   the head of the queue in this stage
 use mathlib.Core.Path.{_≡_, refl, sym, subst}

@@ -1,5 +1,6 @@
--- The counters of a sound site, kept by an arrival: they stay within document 01's bounds whether they
--- arose or not. PROOF.md S2 (its bounds) and S7, for counters of any items, equal ones included.
+-- The counters of a sound site, kept by an arrival: they stay within document 01's bounds whether
+-- they arose or not. PROOF.md S2 (its bounds) and S7, for counters of any items, equal ones
+-- included.
 --
 --   CountersSound            few counters, each within the bounds
 --   counted-sound            an arrival counted: one counter may have reached the threshold
@@ -45,8 +46,8 @@ counter-wider {x = x} more larger sound = record {
 
 -- ---- An arrival counted
 
--- All counters are within the bounds with one arrival more, but the one that took it may have reached
--- the threshold; the unreported arrivals are one more, but for those lost.
+-- All counters are within the bounds with one arrival more, but the one that took it may have
+-- reached the threshold; the unreported arrivals are one more, but for those lost.
 pub record CountedSound (u c n t place lost : ℕ) (before after : List Counter) : Type 0 where
   pub inside : place < length after
   pub few : length after ≤ c

@@ -113,7 +113,8 @@ module _ {settings : Settings} {network : Network} {arrival : Arrival}
       let moves : (if reportsCount site then 0 else site .pending + 1)
       + (if reportsCount site then t else 0) ≡ site .pending + 1 =
       subst (λ (amount : ℕ).
-      (if reportsCount site then 0 else site .pending + 1) + (if reportsCount site then amount else 0)
+      (if reportsCount site then 0 else site .pending + 1)
+      + (if reportsCount site then amount else 0)
       ≡ site .pending + 1)
       same (pending-moves (fit .capacity .at-least) taken site-sound (reportsCount site) refl) in
       together-site (together-of-sound sound) (arrival .site)

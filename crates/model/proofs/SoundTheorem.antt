@@ -1,6 +1,6 @@
 -- Every sound network stays sound, and its deliveries may be done by any caller: the claims of
--- specs/SoundClaims.antt. Each step of a delivery keeps a stage from which it finishes as the model's
--- does; where it ends, the network is sound again. PROOF.md section 7.
+-- specs/SoundClaims.antt. Each step of a delivery keeps a stage from which it finishes as the
+-- model's does; where it ends, the network is sound again. PROOF.md section 7.
 use mathlib.Core.Path.{_≡_, refl, sym, ap, _∙_, subst}
 use mathlib.Core.Bool.{Bool, true, false}
 use mathlib.Core.List.{List, [], _∷_}
@@ -93,7 +93,9 @@ module _ (settings : Settings) (final : Network) (all : List Message) (fit : Set
       by-queue network (m ∷ waiting) log there′ =
           record { left = there′ .left - 1; mid = mid-handed fit (there′ .mid) }
 
-  somewhere-steps : (fuel : ℕ) (d : Delivery) → Somewhere d → Somewhere (deliverySteps fuel settings d)
+  somewhere-steps : (fuel : ℕ) (d : Delivery)
+      → Somewhere d
+      → Somewhere (deliverySteps fuel settings d)
   somewhere-steps zero d there = there
   somewhere-steps (suc fuel) d there =
       somewhere-steps fuel (deliveryStep settings d) (somewhere-step d there)

@@ -48,8 +48,8 @@ pub mod Stages
 pub mod AcceptedMessages
 pub mod PhaseSteps
 pub mod ReportStage
-pub mod PollStage
 pub mod NarrowedStage
+pub mod PollStage
 pub mod ProbeStage
 pub mod AnnounceStage
 pub mod MidDelivery

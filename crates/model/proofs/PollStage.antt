@@ -8,8 +8,6 @@ use mathlib.Core.List.{List, [], _∷_}
 use Prim.Native.Nat.{ℕ, _+_, _-_, _*_, _≤_, _<_}
 use native.Mathlib.Omega.{arith}
 use native.Mathlib.Decide.{decLt}
-use lib.Dec.{ltb}
-use borrow.Author.Tests.{lt-ltb}
 use Rattle.model.specs.declared.Settings.{Settings}
 use Rattle.model.specs.declared.Message.{Message}
 use Rattle.model.specs.declared.Phase.{Phase}
@@ -28,7 +26,8 @@ use Rattle.model.proofs.CoordinatorSound.{numbers-total, numbers-base}
 use Rattle.model.proofs.Together.{Together, together-site, together-coordinator}
 use Rattle.model.proofs.AcceptedMessages.{poll-accepted, pollAnswer-accepted}
 use Rattle.model.proofs.PhaseSteps.{poll-answer-next, poll-answer-last-one, poll-answer-last-more}
-use Rattle.model.proofs.Stages.{Polls, Stage, StageAfter, polling, halving, announcing, HandedOn}
+use Rattle.model.proofs.NarrowedStage.{announcing-begins, halving-begins}
+use Rattle.model.proofs.Stages.{Polls, Stage, StageAfter, polling, HandedOn}
 
 -- ---- Each message handed over
 
@@ -120,48 +119,17 @@ module _ {settings : Settings} {network : Network} {waiting : List Message} {lef
         (withCoordinator network (withBase c base (thresholdOf settings base) (Announcing 0)))
         [] (left - 1)
     close-one =
-        let some : ltb 0 (settings .sites) ≡ true =
-        lt-ltb 0 (settings .sites) (omega (arith, fit .sites .at-least)) in
-        announcing (record {
-          i = 0;
-          w = 0;
-          j = 0;
-          waits = refl;
-          reached = refl;
-          within = omega arith;
-          phase-is = rw some;
-          signals-are = rw some (p .closing .all-signals);
-          together = closed-together (Announcing 0);
-          steps-left = omega (arith, steps, p .closing .site-known);
-        })
+        announcing-begins fit (closed-together (Announcing 0)) (p .closing .all-signals)
+        (left - 1) refl (omega (arith, steps, p .closing .site-known))
 
     close-more : Stage settings
         (withCoordinator network
         (withBase c base (thresholdOf settings base) (Probing 0 0 topValue 0)))
         (probe 0 (middle 0 topValue) ∷ []) (left - 1)
-    close-more = halving (record {
-      answered = false;
-      j = 0;
-      low = 0;
-      high = topValue;
-      sum = 0;
-      count = 0;
-      h = 10;
-      waits = refl;
-      phase-is = refl;
-      halving = record {
-        closing = record {
-          all-signals = p .closing .all-signals;
-          site-known = omega (arith, fit .sites .at-least);
-        };
-        interval = record { low-below = omega arith; high-within = omega arith };
-      };
-      narrow = omega arith;
-      count-within = omega arith;
-      sum-within = omega arith;
-      together = closed-together (Probing 0 0 topValue 0);
-      steps-left = omega (arith, steps, p .closing .site-known);
-    })
+    close-more =
+        halving-begins fit (closed-together (Probing 0 0 topValue 0)) (p .closing .all-signals)
+        (left - 1) 10 0 topValue refl (omega arith) (omega arith) (omega arith)
+        (omega (arith, steps, p .closing .site-known))
 
     -- Another site to poll, or a close.
     after-answer : StageAfter settings network [] (left - 1)

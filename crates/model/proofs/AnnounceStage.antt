@@ -69,6 +69,7 @@ module _ {settings : Settings} {network : Network} {left : ℕ} {waiting : List 
         }));
       }
 
+-- The head is kind 7; the next stage is the same, or rest.
 pub handed-announces : {settings : Settings} {network : Network} {m : Message}
     {waiting : List Message} {left : ℕ}
     → Settled settings
@@ -174,6 +175,7 @@ module _ {settings : Settings} {network : Network} {waiting : List Message} {lef
           (asked-stage (atRest (network .coordinator)) (numbers-rest (a .together .numbers))
           refl refl refl (rw last) (rw last))
 
+-- Another kind 7 waits last; after the last of them the coordinator is idle.
 pub asked-announces : {settings : Settings} {network : Network} {waiting : List Message} {left : ℕ}
     → Announces settings network waiting left
     → isAnnouncing (network .coordinator .phase) ≡ true

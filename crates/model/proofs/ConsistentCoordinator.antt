@@ -171,6 +171,7 @@ module _ (settings : Settings) (c : Coordinator) where
         total-row = row-8 .second-true;
       }
 
+  -- What passes is sound.
   pub coordinator-sound-of : length (c .estimates) ≡ settings .universe
       → length (c .histogram) ≡ valueCount
       → coordinatorConsistent settings c ≡ true
@@ -189,6 +190,7 @@ module _ (settings : Settings) (c : Coordinator) where
         phase-sound = phase-sound settings (c .signals) (c .phase) (rows .phase-row);
       }
 
+  -- What passes is within the limit.
   pub coordinator-within-of : coordinatorConsistent settings c ≡ true → CoordinatorWithin c
   coordinator-within-of passes =
       let rows : Rows = rows-of passes in
@@ -199,6 +201,7 @@ module _ (settings : Settings) (c : Coordinator) where
         sum-within = phase-sum settings (c .signals) (c .phase) (rows .phase-row);
       }
 
+  -- What is sound and within the limit passes.
   pub coordinator-consistent-of : SoundCoordinator settings c
       → CoordinatorWithin c
       → coordinatorConsistent settings c ≡ true

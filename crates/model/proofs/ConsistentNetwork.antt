@@ -147,6 +147,7 @@ module _ (settings : Settings) (sites : Sites) (coordinator : CoordinatorRecord)
         rest-row = row-3 .second-true;
       }
 
+  -- Memory that is long enough and passes holds a sound network.
   pub network-sound-of : sitesWords settings ≤ length siteNumbers
       → coordinatorWords settings ≤ length coordinatorNumbers
       → networkConsistent settings sites coordinator siteNumbers coordinatorNumbers ≡ true
@@ -170,12 +171,14 @@ module _ (settings : Settings) (sites : Sites) (coordinator : CoordinatorRecord)
         all-counted = eqb-true _ _ (at-rest-3 .second-true);
       }
 
+  -- Its coordinator's numbers are within the limit.
   pub network-within-of : networkConsistent settings sites coordinator siteNumbers
       coordinatorNumbers ≡ true
       → CoordinatorWithin (network .coordinator)
   network-within-of passes =
       coordinator-within-of settings (network .coordinator) (rows-of passes .coordinator-row)
 
+  -- A sound network within the limits passes.
   pub network-consistent-of : Sound settings network
       → CoordinatorWithin (network .coordinator)
       → sites .messages ≤ messageLimit

@@ -24,6 +24,7 @@ use Rattle.model.specs.SoundNetwork.{SoundCounter, SoundSite}
 
 -- ---- Counters
 
+-- As many counters are read as are asked for.
 pub length-countersIn : (used : ℕ) (memory : List ℕ) → length (countersIn used memory) ≡ used
 length-countersIn zero memory = refl
 length-countersIn (suc used) memory = omega (arith, length-countersIn used (drop 4 memory))
@@ -89,6 +90,7 @@ module _ (settings : Settings) (numbers : SiteRecord) (memory : List ℕ) where
       length-take-le valueCount (drop (counterWords settings) memory)
       (omega (arith, length-drop (counterWords settings) memory))
 
+  -- Memory that is long enough and passes holds a sound site.
   pub sound-of-consistent : siteWords settings ≤ length memory
       → siteConsistent settings numbers memory ≡ true
       → SoundSite settings site
@@ -111,6 +113,7 @@ module _ (settings : Settings) (numbers : SiteRecord) (memory : List ℕ) where
         threshold-within = leb-true _ _ (ends .second-true);
       }
 
+  -- Memory that holds a sound site passes.
   pub consistent-of-sound : SoundSite settings site
       → siteConsistent settings numbers memory ≡ true
   consistent-of-sound sound =

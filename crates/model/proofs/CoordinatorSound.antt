@@ -24,6 +24,7 @@ use Rattle.model.specs.SoundNetwork.{SoundNumbers}
 use Rattle.model.proofs.Threshold.{threshold-mono, threshold-of-zero}
 use Rattle.model.proofs.SoundSites.{sum-zeros, sum-oneMore, value-counted}
 
+-- A fresh coordinator has sound numbers.
 pub numbers-fresh : (settings : Settings) → SoundNumbers settings (freshCoordinator settings)
 numbers-fresh settings = record {
   estimates-length = length-replicate {A = ℕ} (settings .universe) 0;
@@ -37,6 +38,7 @@ numbers-fresh settings = record {
 module _ {settings : Settings} {c : Coordinator} (sound : SoundNumbers settings c) where
   -- ---- Only the phase changes, or the signals with it
 
+  -- Another phase.
   pub numbers-phase : (phase : Phase) → SoundNumbers settings (withPhase c phase)
   numbers-phase phase = record {
     estimates-length = sound .estimates-length;
@@ -47,6 +49,7 @@ module _ {settings : Settings} {c : Coordinator} (sound : SoundNumbers settings 
     histogram-sum = sound .histogram-sum;
   }
 
+  -- At rest: signals are 0 and the phase is idle.
   pub numbers-rest : SoundNumbers settings (atRest c)
   numbers-rest = record {
     estimates-length = sound .estimates-length;
@@ -91,6 +94,7 @@ module _ {settings : Settings} {c : Coordinator} (sound : SoundNumbers settings 
         omega (arith, sound .histogram-sum was-one);
   }
 
+  -- A quantile that a halving left.
   pub numbers-quantile : (quantile : ℕ) (phase : Phase)
       → quantile ≤ topValue
       → SoundNumbers settings (withQuantile c quantile phase)
@@ -105,6 +109,7 @@ module _ {settings : Settings} {c : Coordinator} (sound : SoundNumbers settings 
 
   -- ---- Kinds 1 and 2
 
+  -- Kind 1 adds to one estimate.
   pub numbers-item : (item amount : ℕ) (phase : Phase)
       → SoundNumbers settings (record {
         estimates = set (c .estimates) item (getD (c .estimates) item 0 + amount);
@@ -148,6 +153,7 @@ module _ {settings : Settings} {c : Coordinator} (sound : SoundNumbers settings 
         sum-oneMore (c .histogram) value (omega (arith, sound .histogram-length)),
       ))
 
+  -- Kind 2 adds to the total, and at threshold 1 to a value count: both by 1 then.
   pub numbers-count : (value signals : ℕ) (phase : Phase)
       → value ≤ topValue
       → SoundNumbers settings (record {

@@ -32,6 +32,7 @@ use Rattle.model.proofs.DeliveryHalvings.{countUpTo, halvings-end}
 
 -- ---- The close's numbers
 
+-- The new base: the total with what all sites have pending.
 abbrev pub baseOf : Settings → List Site → ℕ → ℕ
 baseOf settings sites total = total + sumBelow (pendingAt sites) (settings .sites)
 
@@ -40,6 +41,7 @@ abbrev pub enoughAt : Settings → List Site → ℕ → ℕ → Bool
 enoughAt settings sites base value =
     enough (settings .rank) base (countUpTo settings sites value)
 
+-- The value that ten halvings of the whole interval leave.
 abbrev pub quantileFound : Settings → List Site → ℕ → ℕ
 quantileFound settings sites base = halve (enoughAt settings sites base) 10 0 topValue
 
@@ -47,17 +49,20 @@ quantileFound settings sites base = halve (enoughAt settings sites base) 10 0 to
 abbrev pub sitesPolled : Settings → List Site → List Site
 sitesPolled settings sites = changeFirst freshSite polled (settings .sites) sites
 
+-- And with the new threshold t.
 abbrev pub sitesClosed : Settings → List Site → ℕ → List Site
 sitesClosed settings sites t =
     changeFirst freshSite (told t) (settings .sites) (sitesPolled settings sites)
 
 -- ---- The close's messages
 
+-- New threshold 1: all polls, then the announcements.
 abbrev pub closeMessagesOne : Settings → List Site → ℕ → List Message
 closeMessagesOne settings sites base =
     pollMessages sites 0 (settings .sites)
     ++ announcements (thresholdOf settings base) base 0 (settings .sites)
 
+-- New threshold 2 or more: the halvings stand between.
 abbrev pub closeMessagesMore : Settings → List Site → ℕ → List Message
 closeMessagesMore settings sites base =
     pollMessages sites 0 (settings .sites)
@@ -65,11 +70,13 @@ closeMessagesMore settings sites base =
     (enoughAt settings sites base) 10 0 topValue
     ++ announcements (thresholdOf settings base) base 0 (settings .sites))
 
+-- Two for each poll, and one announcement.
 pub length-closeMessagesOne : (settings : Settings) (sites : List Site) (base : ℕ)
     → length (closeMessagesOne settings sites base) ≡ 3 * settings .sites
 length-closeMessagesOne settings sites base =
     rw (length-append, length-exchanges, length-announcements) (omega arith)
 
+-- And twenty for the probes of each site.
 pub length-closeMessagesMore : (settings : Settings) (sites : List Site) (base : ℕ)
     → length (closeMessagesMore settings sites base) ≡ 23 * settings .sites
 length-closeMessagesMore settings sites base =

@@ -32,6 +32,7 @@ use Rattle.model.specs.Network.{Network}
 use Rattle.model.proofs.DeliverySteps.{Delivers, hands, asks, rests, more-steps}
 use Rattle.model.proofs.DeliveryMessages.{pendingAt, pollMessages, announcements}
 
+-- A network of these sites and this coordinator.
 abbrev pub networkOf : List Site → Coordinator → Network
 networkOf sites c = record { sites = sites; coordinator = c }
 
@@ -39,6 +40,7 @@ networkOf sites c = record { sites = sites; coordinator = c }
 abbrev pub polled : Site → Site
 polled site = withPending site 0
 
+-- A site with the threshold of an announcement.
 abbrev pub told : ℕ → Site → Site
 told threshold site = withThreshold site threshold
 

@@ -35,6 +35,7 @@ pub steps-asked : (fuel : ℕ) (settings : Settings) (network : Network) (log : 
     ≡ deliverySteps fuel settings (joining (askAnnouncement settings network) [] log)
 steps-asked fuel settings network log announcing = rw announcing
 
+-- The model's delivery takes the same steps, and stops early where nothing is left to do.
 pub delivered-is-steps : (fuel : ℕ) (settings : Settings) (network : Network)
     (waiting log : List Message)
     → delivered fuel settings network waiting log
@@ -62,6 +63,7 @@ delivered-is-steps (suc fuel) settings network (m ∷ waiting) log =
 
 -- ---- Whole deliveries
 
+-- Where a delivery ends: `sent` is what waits, and all that goes out later, in order.
 pub record Delivers (settings : Settings) (final : Network) (n : ℕ) (sent : List Message)
     (network : Network) (waiting : List Message) : Type 0 where
   pub ends : (fuel : ℕ) (log : List Message)
@@ -70,6 +72,7 @@ pub record Delivers (settings : Settings) (final : Network) (n : ℕ) (sent : Li
       ≡ delivery final [] (log ++ sent)
 
 module _ {settings : Settings} {final : Network} where
+  -- More steps than needed are as good.
   pub more-steps : {n n′ : ℕ} {sent : List Message} {network : Network} {waiting : List Message}
       → n ≤ n′
       → Delivers settings final n sent network waiting

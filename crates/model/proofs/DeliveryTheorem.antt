@@ -20,6 +20,7 @@ use Rattle.model.proofs.AfterArrival.{delivers-after, after-arrival}
 
 -- ---- Few messages
 
+-- An arrival itself sends kind 1 at most once, and kind 2 at most once.
 pub first-at-most-two : (settings : Settings) (network : Network) (arrival : Arrival)
     → length (firstMessages settings network arrival) ≤ 2
 first-at-most-two settings network arrival =
@@ -93,6 +94,7 @@ module _ (settings : Settings) (network : Network) (arrival : Arrival)
       (omega arith))
       (record { nothing-waits = refl; idle = idle-then settings network arrival which })
 
+-- The claims on full delivery, all proved.
 pub delivery-claims : DeliveryClaims
 delivery-claims = record {
   few-messages = few-messages;

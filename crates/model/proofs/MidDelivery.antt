@@ -31,6 +31,7 @@ use Rattle.model.proofs.AnnounceStage.{handed-announces, asked-announce
 
 -- ---- The two steps keep a stage
 
+-- The head of the queue is accepted, at whatever stage.
 pub hand-on : {settings : Settings} {network : Network} {m : Message} {waiting : List Message}
     {left : ℕ}
     → Settled settings
@@ -51,6 +52,7 @@ announces-of (polling p) announces = absurd (false≢true (rw (p .phase-is) at a
 announces-of (halving p) announces = absurd (false≢true (rw (p .phase-is) at announces))
 announces-of (announcing a) announces = a
 
+-- The next kind 7 of an announcing coordinator.
 pub ask-on : {settings : Settings} {network : Network} {waiting : List Message} {left : ℕ}
     → Stage settings network waiting left
     → isAnnouncing (network .coordinator .phase) ≡ true
@@ -59,6 +61,7 @@ ask-on stage announces = asked-announces (announces-of stage announces) announce
 
 -- ---- Finishing
 
+-- However many steps beyond those that are left, it ends there.
 pub record Finishes (settings : Settings) (final : Network) (all : List Message) (left : ℕ)
     (d : Delivery) : Type 0 where
   pub ends : (fuel : ℕ) → left ≤ fuel → deliverySteps fuel settings d ≡ delivery final [] all
@@ -81,6 +84,7 @@ ask-early settings network t base i (suc w) log announces (suc fuel) enough =
 
 -- ---- In mid-delivery
 
+-- A delivery at a stage, that finishes at this network with all these messages.
 pub record MidDelivery (settings : Settings) (final : Network) (all : List Message) (left : ℕ)
     (d : Delivery) : Type 0 where
   pub stage : Stage settings (d .network) (d .waiting) left

@@ -97,6 +97,7 @@ module _ {settings : Settings} {network : Network}
       together-coordinator together c′ 0 0 numbers rises (λ j none. absurd (omega arith))
       (omega arith)
 
+  -- One value is left, or another halving begins.
   pub narrowed-stage : (left h low high : ℕ)
       → low ≤ high
       → high ≤ topValue

@@ -47,6 +47,7 @@ unreportedIn-sum [] = sumOf-nil unreported
 unreportedIn-sum (counter ∷ counters) =
     omega (arith, sumOf-cons unreported counter counters, unreportedIn-sum counters)
 
+-- The sum by place over all sites is the claim's sum.
 pub sumBelow-allUnreported : (settings : Settings) (sites : List Site)
     → length sites ≡ settings .sites
     → sumBelow (unreportedAt sites) (settings .sites) ≡ allUnreported sites
@@ -172,6 +173,7 @@ module _ {settings : Settings} {network : Network} {arrival : Arrival}
   value-then (closesOne due all one) value = value-counted-then value
   value-then (closesMore due all more) value = value-counted-then value
 
+  -- One arrival with full delivery, in each of its cases.
   pub grown-then : (which : ArrivalCase settings network arrival)
       → length (networkThen which .sites) ≡ k
       → Grown network (networkThen which)

@@ -35,12 +35,14 @@ use Rattle.model.proofs.NumberGrowth.{unreportedIn-sum, sumBelow-allUnr
 
 -- ---- Growth, arrival by arrival
 
+-- No arrival, no growth.
 pub grown-self : (network : Network) → Grown network network
 grown-self network = record {
   estimate-grows = λ item. omega arith;
   value-grows = λ value. omega arith;
 }
 
+-- Growth after growth.
 pub grown-more : {first second third : Network}
     → Grown first second
     → Grown second third
@@ -189,6 +191,7 @@ module _ (settings : Settings) (room : ℕ) (network : Network)
         total-small = total-few fit (kept .sound);
       }
 
+-- The claims on the coordinator's numbers, all proved.
 pub number-claims : NumberClaims
 number-claims = record {
   arrival-grows = arrival-grows;

@@ -22,12 +22,14 @@ use Rattle.model.proofs.ArrivalParts.{withCountReport}
 
 -- ---- Idle
 
+-- Kind 1 is taken.
 pub received-item : (settings : Settings) (c : Coordinator) (j item amount : ℕ)
     → c .phase ≡ Idle
     → coordinatorReceives settings c (itemReport j item amount)
     ≡ takesItemReport c (itemReport j item amount)
 received-item settings c j item amount idle = rw idle
 
+-- Kind 2 is taken; the k-th begins a close.
 pub received-count : (settings : Settings) (c : Coordinator) (j amount value : ℕ) (closes : Bool)
     → c .phase ≡ Idle
     → eqb (c .signals + 1) (settings .sites) ≡ closes
@@ -44,6 +46,7 @@ poll-answer-received : (settings : Settings) (c : Coordinator) (j amount : ℕ)
     ≡ takesPollAnswer settings c j (pollAnswer j amount)
 poll-answer-received settings c j amount phase-is = rw phase-is
 
+-- Another site is polled.
 pub poll-answer-next : (settings : Settings) (c : Coordinator) (j amount : ℕ)
     → c .phase ≡ Collecting j
     → j + 1 < settings .sites
@@ -53,6 +56,7 @@ poll-answer-next settings c j amount phase-is more =
     poll-answer-received settings c j amount phase-is
     ∙ rw (lt-ltb (j + 1) (settings .sites) more)
 
+-- The last answer closes the round, with a new threshold of 1.
 pub poll-answer-last-one : (settings : Settings) (c : Coordinator) (j amount : ℕ)
     → c .phase ≡ Collecting j
     → settings .sites ≤ j + 1
@@ -67,6 +71,7 @@ poll-answer-last-one settings c j amount phase-is last one =
       lt-leb 2 (thresholdOf settings (c .total + amount)) one,
     )
 
+-- Or with a new threshold of 2 or more.
 pub poll-answer-last-more : (settings : Settings) (c : Coordinator) (j amount : ℕ)
     → c .phase ≡ Collecting j
     → settings .sites ≤ j + 1
@@ -89,12 +94,14 @@ module _ (settings : Settings) (c : Coordinator) (j low high sum count : ℕ)
       ≡ takesProbeAnswer settings c j low high sum (probeAnswer j (middle low high) count)
   probe-answer-received = rw phase-is
 
+  -- Another site is probed.
   pub probe-answer-next : j + 1 < settings .sites
       → coordinatorReceives settings c (probeAnswer j (middle low high) count)
       ≡ step (withPhase c (Probing (j + 1) low high (sum + count)))
       (probe (j + 1) (middle low high) ∷ [])
   probe-answer-next more = probe-answer-received ∙ rw (lt-ltb (j + 1) (settings .sites) more)
 
+  -- The last answer narrows the interval.
   pub probe-answer-last : (lower : Bool)
       → settings .sites ≤ j + 1
       → enough (settings .rank) (c .base) (sum + count) ≡ lower

@@ -167,6 +167,7 @@ module _ {settings : Settings} {network : Network} {waiting : List Message} {lef
 
 -- ---- The head of the queue
 
+-- The head is kind 3 or kind 4; the next stage is a poll, a halving or the announcements.
 pub handed-polls : {settings : Settings} {network : Network} {m : Message}
     {waiting : List Message} {left : ℕ}
     → Settled settings

@@ -174,6 +174,7 @@ module _ {settings : Settings} {network : Network} {waiting : List Message} {lef
 
 -- ---- The head of the queue
 
+-- The head is kind 5 or kind 6; the next stage is a probe or the announcements.
 pub handed-probes : {settings : Settings} {network : Network} {m : Message}
     {waiting : List Message} {left : ℕ}
     → Settled settings

@@ -153,6 +153,7 @@ module _ {settings : Settings} {network : Network} {waiting : List Message} {lef
 
 -- ---- The head of the queue
 
+-- The head is kind 1 or kind 2; the stage stays, or the polls begin.
 pub handed-reports : {settings : Settings} {network : Network} {m : Message}
     {waiting : List Message} {left : ℕ}
     → Reports settings network (m ∷ waiting) left

@@ -27,6 +27,7 @@ use Rattle.model.proofs.Counting.{Placed, in-own, in-unused, in-replace
 
 -- ---- Counters within bounds
 
+-- No more counters than the capacity, each within the bounds n and t.
 pub record CountersSound (u c n t : ℕ) (counters : List Counter) : Type 0 where
   pub few : length counters ≤ c
   pub each : (j : ℕ) → j < length counters → SoundCounter u n t (counterAt counters j)
@@ -133,6 +134,7 @@ module _ {u c n t place lost : ℕ} {before counters : List Counter}
   abbrev after : Counter
   after = afterReport t (counterAt counters place)
 
+  -- A report that is due brings its counter below the threshold again.
   pub reported-sound : (due : Bool) → leb t (unreported (counterAt counters place)) ≡ due
       → CountersSound u c (n + 1) t (withReport due t place counters)
   reported-sound true due =

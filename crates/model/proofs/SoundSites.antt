@@ -32,10 +32,12 @@ use Rattle.model.proofs.SoundCounters.{counter-wider, CountedSound, cou
 
 -- ---- Lists of numbers
 
+-- A list of zeros sums to 0.
 pub sum-zeros : (n : ℕ) → sum (replicate n 0) ≡ 0
 sum-zeros zero = refl
 sum-zeros (suc n) = omega (arith, sum-zeros n)
 
+-- One more at a place of the list is one more in the sum.
 pub sum-oneMore : (numbers : List ℕ) (place : ℕ)
     → place < length numbers
     → sum (oneMoreAt numbers place) ≡ sum numbers + 1
@@ -43,6 +45,7 @@ sum-oneMore [] place inside = absurd (omega arith)
 sum-oneMore (x ∷ xs) zero inside = omega arith
 sum-oneMore (x ∷ xs) (suc place) inside = omega (arith, sum-oneMore xs place (omega arith))
 
+-- The counts up to a value are some of all counts.
 pub upTo-le-sum : (value : ℕ) (numbers : List ℕ) → upTo value numbers ≤ sum numbers
 upTo-le-sum zero [] = omega arith
 upTo-le-sum (suc value) [] = omega arith
@@ -56,10 +59,12 @@ value-counted value known = omega arith
 
 -- ---- Accepted arrivals
 
+-- Site, item and value are known, and the site has room for one more.
 pub record ArrivalTaken (settings : Settings) (site : Site) (arrival : Arrival) : Type 0 where
   pub known : ArrivalKnown settings arrival
   pub room : site .arrivals < siteLimit
 
+-- That is what an arrival is that no row refuses.
 pub taken-of-no-refusal : (settings : Settings) (site : Site) (arrival : Arrival)
     → arrivalRefusal settings site arrival ≡ accepted
     → ArrivalTaken settings site arrival
@@ -73,6 +78,7 @@ taken-of-no-refusal settings site arrival none =
 
 -- ---- Fresh, polled, told
 
+-- A fresh site is sound.
 pub sound-fresh : (settings : Settings) → SoundSite settings freshSite
 sound-fresh settings = record {
   few-counters = omega arith;
@@ -86,6 +92,7 @@ sound-fresh settings = record {
 }
 
 module _ {settings : Settings} {site : Site} (sound : SoundSite settings site) where
+  -- Kind 3: nothing is pending then.
   pub sound-polled : SoundSite settings (polled site)
   sound-polled = record {
     few-counters = sound .few-counters;
@@ -98,6 +105,7 @@ module _ {settings : Settings} {site : Site} (sound : SoundSite settings site) w
     threshold-within = sound .threshold-within;
   }
 
+  -- Kind 7: a threshold that is no smaller, and within the limit.
   pub sound-told : (t : ℕ)
       → site .threshold ≤ t
       → t ≤ siteLimit
@@ -114,6 +122,7 @@ module _ {settings : Settings} {site : Site} (sound : SoundSite settings site) w
     threshold-within = within;
   }
 
+  -- Kind 6 counts at most the site's arrivals.
   pub upTo-within : (value : ℕ) → upTo value (site .histogram) ≤ site .arrivals
   upTo-within value =
       omega (arith, upTo-le-sum value (site .histogram), sound .histogram-sum)
@@ -149,6 +158,7 @@ module _ {settings : Settings} {site : Site} {arrival : Arrival}
       value-counted (arrival .value) (taken .known .value-known) in
       omega (arith, sound .histogram-length)
 
+  -- An accepted arrival leaves the site sound.
   pub sound-observed : SoundSite settings (observed settings site arrival .site)
   sound-observed =
       let reported = reported-sound (sound .threshold-positive) counted

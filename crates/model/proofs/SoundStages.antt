@@ -29,6 +29,7 @@ use Rattle.model.proofs.Stages.{Reports, Announces, Stage, reporting, p
 
 -- ---- A network at rest
 
+-- At rest all sites are informed, and nothing is on its way.
 pub together-of-sound : {settings : Settings} {network : Network}
     → Sound settings network
     → Together settings network (settings .sites) 0
@@ -46,6 +47,7 @@ together-of-sound {settings} {network} sound = record {
   );
 }
 
+-- And the other way round, where the coordinator is idle with signals to come.
 pub sound-of-together : {settings : Settings} {network : Network}
     → Together settings network (settings .sites) 0
     → network .coordinator .phase ≡ Idle
@@ -65,6 +67,7 @@ sound-of-together {settings} {network} together idle few = record {
   );
 }
 
+-- An idle coordinator of a sound network has fewer than k signals.
 pub few-signals : {settings : Settings} {network : Network}
     → Sound settings network
     → network .coordinator .signals < settings .sites
@@ -131,6 +134,7 @@ module _ {settings : Settings} {network : Network} {arrival : Arrival}
   steps-enough false true = omega arith
   steps-enough false false = omega arith
 
+  -- The arrival is observed, and its own messages wait.
   pub start-stage : Stage settings
       (withSite network (arrival .site) (observed settings site arrival .site))
       (firstMessages settings network arrival) (deliveryFuel settings)
@@ -200,6 +204,7 @@ rest-announces {settings} {network} {left} fit a silent =
         sound-of-together (rw all at (a .together)) (rw last at (a .phase-is))
         (omega (arith, fit .sites .at-least))
 
+-- Nothing waits and no kind 7 is to come: the network is sound again.
 pub sound-at-rest : {settings : Settings} {network : Network} {left : ℕ}
     → Settled settings
     → Stage settings network [] left

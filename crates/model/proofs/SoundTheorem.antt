@@ -226,6 +226,7 @@ threshold-small : (settings : Settings) (network : Network)
 threshold-small settings network no-refusal sound =
     omega (arith, threshold-bounded (together-of-sound sound) (settled settings no-refusal))
 
+-- The claims on sound networks, all proved.
 pub sound-claims : SoundClaims
 sound-claims = record {
   fresh-sound = fresh-sound;

@@ -23,6 +23,7 @@ use Rattle.model.proofs.Stages.{Announces, Stage, reporting, polling, h
 
 -- ---- Each by itself, at every stage
 
+-- Every site is sound by itself.
 pub stage-sites : {settings : Settings} {network : Network} {waiting : List Message} {left : ℕ}
     → Stage settings network waiting left
     → (j : ℕ) → j < settings .sites
@@ -54,6 +55,7 @@ announces-phase {settings} {network} fit a = by-phase (ltb (a .j) (settings .sit
         let signals : network .coordinator .signals ≡ 0 = rw last at (a .signals-are) in
         rw idle (omega (arith, fit .sites .at-least))
 
+-- So is the coordinator, with its phase.
 pub stage-coordinator : {settings : Settings} {network : Network} {waiting : List Message}
     {left : ℕ}
     → Settled settings

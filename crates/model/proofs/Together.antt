@@ -25,6 +25,7 @@ use Rattle.model.proofs.Threshold.{threshold-limit}
 use Rattle.model.proofs.DeliveryMessages.{pendingAt}
 use Rattle.model.proofs.SitesInvariant.{arrivalsAt}
 
+-- What holds of all sites and the coordinator, with so many sites informed of its threshold.
 pub record Together (settings : Settings) (network : Network) (informed flight : ℕ) : Type 0 where
   pub all-sites : length (network .sites) ≡ settings .sites
   pub sites-sound : (j : ℕ) → j < settings .sites → SoundSite settings (siteAt network j)
@@ -42,6 +43,7 @@ module _ {settings : Settings} {network : Network} {informed flight : ℕ}
     (together : Together settings network informed flight) where
   -- ---- Bounds
 
+  -- All arrivals are at most k × 10^9.
   pub arrivals-bounded : sumBelow (arrivalsAt (network .sites)) (settings .sites)
       ≤ settings .sites * siteLimit
   arrivals-bounded =
@@ -65,6 +67,7 @@ module _ {settings : Settings} {network : Network} {informed flight : ℕ}
       threshold-limit settings (fit .sites .at-least) siteLimit base (fit .epsilon .at-most)
       (omega arith) (omega (arith, total-bounded))
 
+  -- The coordinator's own threshold is such a one.
   pub threshold-bounded : Settled settings
       → 3 * network .coordinator .threshold ≤ siteLimit
   threshold-bounded fit =
@@ -122,6 +125,7 @@ module _ {settings : Settings} {network : Network} {informed flight : ℕ}
 
   -- ---- The coordinator changed
 
+  -- Its total gains what was on its way, and its threshold does not fall.
   pub together-coordinator : (c : Coordinator) (informed′ flight′ : ℕ)
       → SoundNumbers settings c
       → network .coordinator .threshold ≤ c .threshold

@@ -26,11 +26,13 @@ use Rattle.model.specs.Network.{Network, siteAt, withSite, Delivered, ha
 
 -- ---- A delivery that goes on
 
+-- The network now, the messages that wait, the oldest first, and all that went out so far.
 pub record Delivery : Type 0 where
   pub network : Network
   pub waiting : List Message
   pub log : List Message
 
+-- A delivery, in this order.
 abbrev pub delivery : Network → List Message → List Message → Delivery
 delivery network waiting log = record { network = network; waiting = waiting; log = log }
 
@@ -39,6 +41,7 @@ abbrev pub joining : Delivered → List Message → List Message → Delivery
 joining after waiting log =
     delivery (after .network) (waiting ++ after .messages) (log ++ after .messages)
 
+-- The head of the queue goes first; a kind 7 is asked for only while nothing waits.
 abbrev pub stepWith : Settings → Network → List Message → List Message → Delivery
 stepWith settings network [] log =
     if isAnnouncing (network .coordinator .phase)
@@ -46,9 +49,11 @@ stepWith settings network [] log =
     else delivery network [] log
 stepWith settings network (m ∷ waiting) log = joining (handOver settings network m) waiting log
 
+-- One step of the model's delivery.
 abbrev pub deliveryStep : Settings → Delivery → Delivery
 deliveryStep settings d = stepWith settings (d .network) (d .waiting) (d .log)
 
+-- So many steps of it.
 abbrev pub deliverySteps : ℕ → Settings → Delivery → Delivery
 deliverySteps zero settings d = d
 deliverySteps (suc more) settings d = deliverySteps more settings (deliveryStep settings d)
@@ -57,6 +62,7 @@ deliverySteps (suc more) settings d = deliverySteps more settings (deliveryStep 
 abbrev pub outcome : Delivery → Delivered
 outcome d = record { network = d .network; messages = d .log }
 
+-- The arrival is observed, and its own messages wait.
 abbrev pub deliveryOf : Settings → Network → Arrival → Delivery
 deliveryOf settings network arrival =
     let after = observed settings (siteAt network (arrival .site)) arrival in
@@ -71,6 +77,7 @@ messageRefusal settings network m =
 
 -- ---- The claims
 
+-- Every message has been handed over, and no kind 7 is to come.
 pub record Resting (d : Delivery) : Type 0 where
   pub nothing-waits : d .waiting ≡ []
   pub idle : d .network .coordinator .phase ≡ Idle

@@ -24,6 +24,7 @@ use Rattle.model.specs.DeliveryClaims.{Delivery, delivery, joining, deli
 
 -- ---- Deliveries that any caller may do
 
+-- The deliveries that come of any order of steps that a caller may take.
 pub data Reached (settings : Settings) (start : Delivery) : ℕ → Delivery → Type 0 where
   begun : Reached settings start 0 start
   -- the head of the queue is handed to whom it is for; the answer joins the queue
@@ -38,6 +39,7 @@ pub data Reached (settings : Settings) (start : Delivery) : ℕ → Delivery →
 
 -- ---- What holds of them
 
+-- Of a delivery d, n steps after an arrival at a sound network.
 pub record InMidDelivery (settings : Settings) (network : Network) (arrival : Arrival) (n : ℕ)
     (d : Delivery) : Type 0 where
   -- the head of the queue is accepted by whom it is for: never 5, 6, 7, 9 or 10
@@ -67,6 +69,7 @@ pub record InMidDelivery (settings : Settings) (network : Network) (arrival : Ar
       → isAnnouncing (d .network .coordinator .phase) ≡ false
       → outcome d ≡ afterArrival settings network arrival
 
+-- For settings that pass their test and every sound network.
 pub record SoundClaims : Type 0 where
   -- "Started fresh"
   pub fresh-sound : (settings : Settings)

@@ -13,7 +13,7 @@ use Rattle.model.specs.Refusals.{when}
 use Rattle.model.specs.Limits.{mostMessages}
 use Rattle.model.specs.Site.{reportsItem, reportsCount}
 use Rattle.model.specs.Network.{Network, siteAt, deliveryFuel, afterArrival}
-use Rattle.model.specs.DeliveryClaims.{delivery, deliverySteps, outcome, deliveryOf, Resting, DeliveryClaims}
+use Rattle.model.specs.DeliveryClaims.{delivery, deliverySteps, outcome, deliveryOf, deliveredWith, Resting, DeliveryClaims}
 use Rattle.model.proofs.DeliverySteps.{delivered-is-steps}
 use Rattle.model.proofs.ArrivalParts.{firstMessages, ArrivalCase, noCountReport, countReported, closesOne, closesMore, arrival-case, networkThen, messagesThen, closeCount, length-firstMessages, length-messagesThen}
 use Rattle.model.proofs.AfterArrival.{delivers-after, after-arrival}
@@ -81,11 +81,11 @@ module _ (settings : Settings) (network : Network) (arrival : Arrival)
       (omega arith)
 
   more-fuel : (more : ℕ)
-      → outcome
-      (deliverySteps (deliveryFuel settings + more) settings (deliveryOf settings network arrival))
+      → deliveredWith (deliveryFuel settings + more) settings network arrival
       ≡ afterArrival settings network arrival
   more-fuel more =
-      ap outcome (ends-there more) ∙ sym (after-arrival settings network arrival idle which)
+      delivered-is-steps (deliveryFuel settings + more) settings _ _ _
+      ∙ (ap outcome (ends-there more) ∙ sym (after-arrival settings network arrival idle which))
 
   comes-to-rest : Resting
       (deliverySteps (deliveryFuel settings) settings (deliveryOf settings network arrival))

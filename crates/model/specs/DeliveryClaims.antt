@@ -6,6 +6,7 @@
 --   deliveryStep settings delivery          the next step; a delivery at rest stays as it is
 --   deliverySteps n settings delivery       n steps of it
 --   deliveryOf settings network arrival     the delivery that an arrival sets off, at its start
+--   deliveredWith fuel settings network arrival   `afterArrival` with other fuel
 --   messageRefusal settings network m       why it is refused by whom it is for, or accepted
 --   Resting delivery                        nothing waits, and the coordinator is idle
 --   DeliveryClaims                          few messages, and a complete delivery
@@ -77,6 +78,12 @@ messageRefusal settings network m =
 
 -- ---- The claims
 
+-- The model's delivery after an arrival, with other fuel.
+abbrev pub deliveredWith : ℕ → Settings → Network → Arrival → Delivered
+deliveredWith fuel settings network arrival =
+    let start = deliveryOf settings network arrival in
+    delivered fuel settings (start .network) (start .waiting) (start .log)
+
 -- Every message has been handed over, and no kind 7 is to come.
 pub record Resting (d : Delivery) : Type 0 where
   pub nothing-waits : d .waiting ≡ []
@@ -101,6 +108,5 @@ pub record DeliveryClaims : Type 0 where
   -- More fuel changes nothing.
   pub more-fuel : (settings : Settings) (network : Network) (arrival : Arrival) (more : ℕ)
       → network .coordinator .phase ≡ Idle
-      → outcome
-      (deliverySteps (deliveryFuel settings + more) settings (deliveryOf settings network arrival))
+      → deliveredWith (deliveryFuel settings + more) settings network arrival
       ≡ afterArrival settings network arrival

@@ -96,7 +96,7 @@ pub record DeliveryClaims : Type 0 where
   pub few-messages : (settings : Settings) (network : Network) (arrival : Arrival)
       → network .coordinator .phase ≡ Idle
       → length (afterArrival settings network arrival .messages) ≤ mostMessages (settings .sites)
-  -- The model's delivery is so many steps: it drops nothing but what it names.
+  -- The model's delivery takes so many of these steps; `Resting` says what it leaves waiting.
   pub is-steps : (fuel : ℕ) (settings : Settings) (network : Network) (waiting log : List Message)
       → delivered fuel settings network waiting log
       ≡ outcome (deliverySteps fuel settings (delivery network waiting log))

@@ -31,8 +31,8 @@ abbrev pub allUnreported : List Site → ℕ
 allUnreported [] = 0
 allUnreported (site ∷ sites) = unreportedIn (site .counters) + allUnreported sites
 
--- An estimate grows only by what was unreported, and an arrival adds one to that. The arrivals taken
--- in between are the difference of all arrivals; no difference is written.
+-- An estimate grows only by what was unreported, and an arrival adds one to that. The arrivals
+-- taken in between are the difference of all arrivals; no difference is written.
 pub record Grown (before after : Network) : Type 0 where
   pub estimate-grows : (item : ℕ)
       → estimateOf after item + allUnreported (after .sites) + allArrivals (before .sites)

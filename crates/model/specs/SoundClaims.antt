@@ -1,6 +1,6 @@
 -- What is claimed of every sound network, arisen or not: it stays sound, and a delivery may be done
--- by any caller: each message is due and carries the right amount, and asking for kind 7 early comes
--- to the same. (Document 01, "Full delivery", "Refused" rows 5, 6, 7, 9, 10 and 11.)
+-- by any caller: each message is due and carries the right amount, and asking for kind 7 early
+-- comes to the same. (Document 01, "Full delivery", "Refused" rows 5, 6, 7, 9, 10 and 11.)
 --
 --   Reached settings start n d      a delivery after n steps: hand-overs of the head of the queue,
 --                                   and kinds 7 asked for at any time

@@ -1,5 +1,5 @@
--- A sound network: what document 01's list "Inconsistent" denies, as facts of the model's values. It
--- is the meaning of refusal 11 but for the limits 10^11 and 10^14, which only memory that never
+-- A sound network: what document 01's list "Inconsistent" denies, as facts of the model's values.
+-- It is the meaning of refusal 11 but for the limits 10^11 and 10^14, which only memory that never
 -- arose can pass (a number may pass them within a call).
 --
 --   SoundCounter universe arrivals threshold counter   a counter in use
@@ -35,8 +35,8 @@ pub record SoundCounter (universe arrivals threshold : ℕ) (counter : Counter) 
   pub count-within : counter .count ≤ arrivals
   pub unreported-below : unreported counter < threshold
 
--- "slots in use above c; .. a deck above its limit; class counts not summing to draws; .. pending not
--- below the threshold; a deck's threshold 0 or above 1,000,000,000"
+-- "slots in use above c; .. a deck above its limit; class counts not summing to draws; .. pending
+-- not below the threshold; a deck's threshold 0 or above 1,000,000,000"
 pub record SoundSite (settings : Settings) (site : Site) : Type 0 where
   pub few-counters : length (site .counters) ≤ settings .capacity
   pub counters-sound : (place : ℕ) → place < length (site .counters)

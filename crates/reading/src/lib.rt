@@ -1,5 +1,6 @@
-// Reading the coordinator: the list of heavy hitters, the margin of an item and the tracked quantile.
-// The record and the memory are not changed; the calls have no `requires` and test all they are given.
+// Reading the coordinator: the list of heavy hitters, the margin of an item and the tracked
+// quantile. The record and the memory are not changed; the calls have no `requires` and test all
+// they are given.
 ghost use mathlib.Core.Path.{_≡_};
 ghost use Prim.Native.Nat.{_*_, _≤_, _<_};
 ghost use lib.ListN.{length};
@@ -93,8 +94,8 @@ fn write_listed(
     }
 }
 
-// The items with a share of the arrivals, in rising order. They are counted first, so that a list with
-// too few places stays as it was.
+// The items with a share of the arrivals, in rising order. They are counted first, so that a list
+// with too few places stays as it was.
 pub fn list_heavy_hitters(
     settings: Settings,
     coordinator: CoordinatorRecord,

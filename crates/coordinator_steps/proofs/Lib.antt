@@ -4,4 +4,5 @@ pub mod MemoryLaws
 pub mod StepLaws
 pub mod ShapeLaws
 pub mod Kept
+pub mod WithinLaws
 pub mod Receives

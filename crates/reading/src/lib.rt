@@ -84,13 +84,13 @@ fn write_listed(
 {
     let items = settings.universe as usize;
     let mut count = 0;
-    let mut item = 0;
-    while item < items {
-        if is_listed(settings, coordinator.total, memory[item]) {
-            list[count] = item as u32;
+    let mut next = 0;
+    while next < items {
+        if is_listed(settings, coordinator.total, memory[next]) {
+            list[count] = next as u32;
             count += 1;
         }
-        item += 1;
+        next += 1;
     }
 }
 

@@ -71,10 +71,12 @@ pub record Interval (low high : ℕ) : Type 0 where
   pub low-below : low < high
   pub high-within : high ≤ topValue
 
+-- A close that probes an interval.
 pub record HalvingAt (settings : Settings) (signals site low high : ℕ) : Type 0 where
   pub closing : ClosingAt settings signals site
   pub interval : Interval low high
 
+-- What each phase asks of the signals, its site and its interval.
 abbrev pub SoundPhase : Settings → ℕ → Phase → Type 0
 SoundPhase settings signals Idle = signals < settings .sites
 SoundPhase settings signals (Collecting site) = ClosingAt settings signals site
@@ -88,6 +90,7 @@ sumOfPhase (Collecting site) = 0
 sumOfPhase (Probing site low high sum) = sum
 sumOfPhase (Announcing site) = 0
 
+-- The coordinator by itself: its numbers and its phase.
 pub record SoundCoordinator (settings : Settings) (c : Coordinator) : Type 0 where
   pub numbers : SoundNumbers settings c
   pub phase-sound : SoundPhase settings (c .signals) (c .phase)
@@ -96,6 +99,7 @@ pub record SoundCoordinator (settings : Settings) (c : Coordinator) : Type 0 whe
 abbrev pub estimateOf : Network → ℕ → ℕ
 estimateOf network item = getD (network .coordinator .estimates) item 0
 
+-- The coordinator's count of a value; 0 past the end.
 abbrev pub countOfValue : Network → ℕ → ℕ
 countOfValue network value = getD (network .coordinator .histogram) value 0
 

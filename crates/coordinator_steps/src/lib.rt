@@ -1,5 +1,5 @@
-// The steps of a coordinator, without tests: what a message that was accepted does to its record and
-// memory. They are internal: an entry point of this crate and the batch call, which have tested
+// The steps of a coordinator, without tests: what a message that was accepted does to its record
+// and memory. They are internal: an entry point of this crate and the batch call, which have tested
 // settings, memory and message, call them.
 ghost use mathlib.Core.Path.{_≡_};
 ghost use mathlib.Core.List.{List};
@@ -280,8 +280,8 @@ fn announcement_of(site: u32, threshold: u64, base: u64) -> Message
     }
 }
 
-// The next kind 7 of a coordinator that announces; after the last it is at rest. In another phase it
-// stays as it is.
+// The next kind 7 of a coordinator that announces; after the last it is at rest. In another phase
+// it stays as it is.
 pub fn announce_step(settings: Settings, coordinator: CoordinatorRecord) -> Answered
     requires { ⌜ AnnounceAsks settings coordinator ⌝ }
     ensures { λ r. ⌜ ((memory : List ℕ) → r ≡ answerOf (announced settings (coordinatorIn settings coordinator memory))) ⌝ }
@@ -303,7 +303,8 @@ pub fn announce_step(settings: Settings, coordinator: CoordinatorRecord) -> Answ
     }
 }
 
-// Any message that is accepted. Kinds 1 and 2 touch one number of the memory at most, the others none.
+// Any message that is accepted. Kinds 1 and 2 touch one number of the memory at most, the others
+// none.
 pub fn receive_step(
     settings: Settings,
     coordinator: CoordinatorRecord,

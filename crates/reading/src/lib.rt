@@ -1,5 +1,6 @@
-// Reading the coordinator: the list of heavy hitters, the margin of an item and the tracked quantile.
-// The record and the memory are not changed; the calls have no `requires` and test all they are given.
+// Reading the coordinator: the list of heavy hitters, the margin of an item and the tracked
+// quantile. The record and the memory are not changed; the calls have no `requires` and test all
+// they are given.
 ghost use mathlib.Core.Path.{_≡_};
 ghost use Prim.Native.Nat.{_*_, _≤_, _<_};
 ghost use lib.ListN.{length};
@@ -83,18 +84,18 @@ fn write_listed(
 {
     let items = settings.universe as usize;
     let mut count = 0;
-    let mut item = 0;
-    while item < items {
-        if is_listed(settings, coordinator.total, memory[item]) {
-            list[count] = item as u32;
+    let mut next = 0;
+    while next < items {
+        if is_listed(settings, coordinator.total, memory[next]) {
+            list[count] = next as u32;
             count += 1;
         }
-        item += 1;
+        next += 1;
     }
 }
 
-// The items with a share of the arrivals, in rising order. They are counted first, so that a list with
-// too few places stays as it was.
+// The items with a share of the arrivals, in rising order. They are counted first, so that a list
+// with too few places stays as it was.
 pub fn list_heavy_hitters(
     settings: Settings,
     coordinator: CoordinatorRecord,

@@ -14,10 +14,10 @@ use Rattle.reading.proofs.write_listed.Statement.{statement}
 use Rattle.reading.proofs.write_listed.Tie as tie
 
 abbrev Inv-loop : tie.InvT-loop
-Inv-loop settings coordinator memory list₀ items count₀ item₀ list count item = Writing settings (coordinatorIn settings coordinator memory) list₀ list count item
+Inv-loop settings coordinator memory list₀ items count₀ next₀ list count next = Writing settings (coordinatorIn settings coordinator memory) list₀ list count next
 
 abbrev μ-loop : tie.MeasureT-loop
-μ-loop settings coordinator memory list₀ items count₀ item₀ list count item = settings .universe - item
+μ-loop settings coordinator memory list₀ items count₀ next₀ list count next = settings .universe - next
 
 cast-items : tie.Need-cast-items Inv-loop μ-loop
 cast-items c = search needs
@@ -43,7 +43,7 @@ is-listed-requires c κs =
     let at-loop = c .before .before in
     let start = at-loop .before .before .before .before in
     sides-ask (start .args .settings) (start .args .coordinator) (start .args .memory .now) (start .pre .0)
-    (at-loop .loop .item) (c .before .loop-test .taken)
+    (at-loop .loop .next) (c .before .loop-test .taken)
 
 cast-list : tie.Need-cast-list Inv-loop μ-loop
 cast-list c =
@@ -64,7 +64,7 @@ place c =
     let settings = start .args .settings in
     let numbers = start .args .coordinator in
     let memory = start .args .memory .now in
-    let item = at-loop .loop .item in
+    let item = at-loop .loop .next in
     let inside = c .before .before .before .loop-test .taken in
     place-left settings (coordinatorIn settings numbers memory) (start .args .list .now)
     (at-loop .loop .count) item (start .pre .1) (at-loop .loop .inv .counting) inside
@@ -86,8 +86,8 @@ add-count c =
     let left = place c in
     search needs
 
-add-item : tie.Need-add-item Inv-loop μ-loop
-add-item c = search needs
+add-next : tie.Need-add-next Inv-loop μ-loop
+add-next c = search needs
 
 loop-less : tie.Need-loop-less Inv-loop μ-loop
 loop-less c = search needs
@@ -102,7 +102,7 @@ loop-again c =
     let here = coordinatorIn settings numbers memory in
     let before = start .args .list .now in
     let count = at-loop .loop .count in
-    let item = at-loop .loop .item in
+    let item = at-loop .loop .next in
     let inside = c .before .before .before .loop-test .taken in
     let rule = sym (c .before .is-listed .ensures ∙ listed-is settings numbers memory (start .pre .0) item inside) in
     ⊎-elim
@@ -124,7 +124,7 @@ returns c =
     let at-loop = c .before in
     let start = at-loop .before .before .before .before .args in
     writing-end (start .settings) (coordinatorIn (start .settings) (start .coordinator) (start .memory .now))
-    (start .list .now) (at-loop .loop .list) (at-loop .loop .count) (at-loop .loop .item) (at-loop .loop .inv)
+    (start .list .now) (at-loop .loop .list) (at-loop .loop .count) (at-loop .loop .next) (at-loop .loop .inv)
     (c .loop-test .left)
 
 pub write-listed-spec : {M : Type 1} → statement M
@@ -142,7 +142,7 @@ write-listed-spec =
     mul-list
     slice-write-list
     add-count
-    add-item
+    add-next
     loop-less
     loop-again
     same-length

@@ -22,7 +22,8 @@ use Rattle.model.specs.SiteMemory.{sum}
 use Rattle.model.specs.Coordinator.{Coordinator, freshCoordinator, withPhase, withTotal, withBase, withQuantile, atRest}
 use Rattle.model.specs.SoundNetwork.{SoundNumbers}
 use Rattle.model.proofs.Threshold.{threshold-mono, threshold-of-zero}
-use Rattle.model.proofs.SoundSites.{sum-zeros, sum-oneMore, value-counted}
+use Rattle.model.proofs.SoundSites.{sum-zeros, sum-oneMore}
+use Rattle.model.proofs.ReportLaws.{value-counted}
 
 -- A fresh coordinator has sound numbers.
 pub numbers-fresh : (settings : Settings) → SoundNumbers settings (freshCoordinator settings)

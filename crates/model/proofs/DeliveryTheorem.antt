@@ -1,7 +1,6 @@
 -- Full delivery keeps what specs/DeliveryClaims.antt claims: few messages, and nothing left over.
 -- Both from the closed form of a delivery, case by case. PROOF.md section 4.
 use mathlib.Core.Path.{_≡_, refl, sym, ap, _∙_}
-use mathlib.Core.Bool.{Bool, true, false}
 use mathlib.Core.List.{[]}
 use Prim.Native.Nat.{ℕ, _+_, _*_, _≤_}
 use native.Mathlib.Omega.{arith}
@@ -9,13 +8,13 @@ use lib.ListN.{length}
 use Rattle.model.specs.declared.Settings.{Settings}
 use Rattle.model.specs.declared.Arrival.{Arrival}
 use Rattle.model.specs.declared.Phase.the-variants.{Idle}
-use Rattle.model.specs.Refusals.{when}
 use Rattle.model.specs.Limits.{mostMessages}
 use Rattle.model.specs.Site.{reportsItem, reportsCount}
 use Rattle.model.specs.Network.{Network, siteAt, deliveryFuel, afterArrival}
 use Rattle.model.specs.DeliveryClaims.{delivery, deliverySteps, outcome, deliveryOf, deliveredWith, Resting, DeliveryClaims}
 use Rattle.model.proofs.DeliverySteps.{delivered-is-steps}
 use Rattle.model.proofs.ArrivalParts.{firstMessages, ArrivalCase, noCountReport, countReported, closesOne, closesMore, arrival-case, networkThen, messagesThen, closeCount, length-firstMessages, length-messagesThen}
+use Rattle.model.proofs.ReportLaws.{when-le}
 use Rattle.model.proofs.AfterArrival.{delivers-after, after-arrival}
 
 -- ---- Few messages
@@ -27,13 +26,9 @@ first-at-most-two settings network arrival =
     omega (
       arith,
       length-firstMessages settings network arrival,
-      at-most-one (reportsItem settings (siteAt network (arrival .site)) arrival),
-      at-most-one (reportsCount (siteAt network (arrival .site))),
+      when-le (reportsItem settings (siteAt network (arrival .site)) arrival),
+      when-le (reportsCount (siteAt network (arrival .site))),
     )
-  where
-    at-most-one : (due : Bool) → when due 1 ≤ 1
-    at-most-one true = omega arith
-    at-most-one false = omega arith
 
 -- A close has at most 23 * k messages.
 close-at-most : (settings : Settings) (network : Network) (arrival : Arrival)

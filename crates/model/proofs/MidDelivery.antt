@@ -78,7 +78,7 @@ ask-early settings network t base i zero log announces fuel enough =
 ask-early settings network t base i (suc w) log announces zero enough = absurd (omega arith)
 ask-early settings network t base i (suc w) log announces (suc fuel) enough =
     let told : Network = handOver settings network (announcement i t base) .network in
-    rw (append-nil, append-nil)
+    rw (append-nil (announcements t base (suc i) w), append-nil log)
     (ask-early settings told t base (suc i) w log announces fuel (omega arith)
     ∙ simp append-nil)
 

@@ -19,7 +19,7 @@ use Rattle.model.specs.declared.Settings.{Settings}
 use Rattle.model.specs.declared.Arrival.{Arrival}
 use Rattle.model.specs.Choice.{if_then_else_}
 use Rattle.model.specs.Refusals.{accepted, siteFull}
-use Rattle.model.specs.Limits.{topValue, valueCount, siteLimit}
+use Rattle.model.specs.Limits.{valueCount, siteLimit}
 use Rattle.model.specs.Counters.{Counter, unreported, lostBy}
 use Rattle.model.specs.Site.{Site, freshSite, addressRefusal, arrivalRefusal, oneMoreAt, placementIn, placeFor, countersWith, reportsItem, reportsCount, observed, upTo}
 use Rattle.model.specs.SiteMemory.{sum}
@@ -28,6 +28,7 @@ use Rattle.model.proofs.RefusalLaws.{both-accepted, passed}
 use Rattle.model.proofs.Counting.{placementFor-is}
 use Rattle.model.proofs.NetworkInvariant.{ArrivalKnown, known-of-no-refusal}
 use Rattle.model.proofs.DeliveryLoops.{polled, told}
+use Rattle.model.proofs.ReportLaws.{value-counted}
 use Rattle.model.proofs.SoundCounters.{counter-wider, CountedSound, counted-sound, reported-sound, unreported-observed}
 
 -- ---- Lists of numbers
@@ -51,11 +52,6 @@ upTo-le-sum zero [] = omega arith
 upTo-le-sum (suc value) [] = omega arith
 upTo-le-sum zero (x ∷ xs) = omega arith
 upTo-le-sum (suc value) (x ∷ xs) = omega (arith, upTo-le-sum value xs)
-
--- Values up to the top value have a place in a histogram.
-pub value-counted : (value : ℕ) → value ≤ topValue → value < valueCount
-unfolding valueCount
-value-counted value known = omega arith
 
 -- ---- Accepted arrivals
 

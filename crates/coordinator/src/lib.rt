@@ -123,7 +123,8 @@ pub fn receive(
     message: Message,
     memory: &mut [u64],
 ) -> Received
-    ensures { λ r. ⌜ Receives settings coordinator message (now (memory .entry)) (now (memory .exit)) r ⌝ }
+    ensures { λ r. ⌜ Receives settings coordinator message (now (memory .entry))
+        (now (memory .exit)) r ⌝ }
 {
     let refusal = receive_refusal(settings, coordinator, message, memory);
     if refusal != ACCEPTED {

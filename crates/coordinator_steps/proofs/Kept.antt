@@ -1,16 +1,18 @@
--- What a step leaves: a coordinator of the same shape and size, and memory from which it is read back.
+-- What a step leaves: a coordinator of the same shape and size, and memory from which it is read
+-- back.
 --
---   shape-receives, shape-announced     the shape is kept by every accepted message and announcement
+--   shape-receives, shape-announced     the shape is kept by every accepted message and
+--      announcement
 --   Sized, sized-in, sized-receives, sized-announced    as many numbers as the settings say
 --   receives-cases, announced-cases     a property of what a step leaves, case by case
 --   read-back                           the step's record and memory hold the model's coordinator
-use mathlib.Core.Path.{_≡_, refl, ap, sym, _∙_, subst}
+use mathlib.Core.Path.{_≡_, refl, ap, _∙_, subst}
 use mathlib.Core.Bool.{Bool, true, false}
-use mathlib.Core.List.{List, []}
+use mathlib.Core.List.{List}
 use Prim.Native.Nat.{ℕ, _+_, _≤_, _<_}
 use native.Mathlib.Omega.{arith}
 use lib.Dec.{eqb, ltb}
-use lib.ListN.{length, getD, set, take, drop, length-set, length-drop}
+use lib.ListN.{length, drop, length-set, length-drop}
 use lib.Seq.{length-take-le}
 use borrow.Author.Tests.{ltb-true, eqb-true, eqb-false}
 use Rattle.model.specs.declared.Settings.{Settings}
@@ -25,14 +27,14 @@ use Rattle.model.specs.Settings.{settingsRefusal}
 use Rattle.model.specs.Messages.{noMessage}
 use Rattle.model.specs.Site.{oneMoreAt}
 use Rattle.model.specs.Coordinator.{Coordinator, withPhase, atRest, takesItemReport, takesCountReport, takesPollAnswer, takesProbeAnswer, receivesIn, coordinatorReceives, coordinatorRefusal, announcedIn, announced}
-use Rattle.model.specs.CoordinatorMemory.{coordinatorIn, coordinatorRecord, coordinatorMemory, coordinatorWords}
+use Rattle.model.specs.CoordinatorMemory.{coordinatorIn, coordinatorRecord, coordinatorWords}
 use Rattle.coordinator_steps.specs.declared.Answered.{Answered}
-use Rattle.coordinator_steps.specs.Steps.{SettingsFit, answerOf, Does}
+use Rattle.coordinator_steps.specs.Steps.{Does}
 use Rattle.coordinator_steps.specs.Ready.{PhaseShape, CoordinatorShape}
 use Rattle.coordinator_steps.proofs.Accepted.{MessageAccepted, message-accepted, count-report-of-idle, count-amount-of-report, value-of-report, kind-of-collecting, amount-of-poll-answer}
 use Rattle.coordinator_steps.proofs.MemoryLaws.{written-coordinator}
 use Rattle.coordinator_steps.proofs.StepLaws.{settings-fit, value-known, NumbersKept, poll-kept, probe-kept}
-use Rattle.coordinator_steps.proofs.ShapeLaws.{shape-as, shape-item, shape-count, shape-poll, shape-probe, shape-in}
+use Rattle.coordinator_steps.proofs.ShapeLaws.{shape-item, shape-count, shape-poll, shape-probe, shape-in}
 
 -- ---- Size
 
@@ -119,8 +121,10 @@ module _ (settings : Settings) (c : Coordinator) (m : Message) where
               (ltb (site + 1) (settings .sites)) (phase-is (Collecting site) collecting)
               (amount-of-poll-answer settings c m taken
               (kind-of-collecting settings c m taken site collecting)) refl;
-          probe = λ site low high total probing. shape-probe settings fit c m shape site low high total
-              (ltb (site + 1) (settings .sites)) (phase-is (Probing site low high total) probing) refl;
+          probe = λ site low high total probing. shape-probe settings fit c m shape site low high
+              total
+              (ltb (site + 1) (settings .sites)) (phase-is (Probing site low high total) probing)
+              refl;
           nothing = shape;
         })
 

@@ -7,27 +7,24 @@
 use mathlib.Core.Path.{_≡_, refl, ap, sym, _∙_, subst}
 use mathlib.Core.Bool.{Bool, true, false}
 use mathlib.Core.List.{List, [], _∷_}
-use Prim.Native.Nat.{ℕ, _+_, _*_, _/_, _≤_, _<_, max}
+use Prim.Native.Nat.{ℕ, zero, suc, _+_, _*_, _/_, _≤_, _<_}
 use native.Mathlib.Nat.{le-div-iff-mul-le, div-mul-le-self, mul-le-mul-left}
 use native.Mathlib.Omega.{arith}
 use lib.Dec.{eqb, ltb, leb}
 use lib.ListN.{length}
-use borrow.Author.Tests.{eqb-true, eqb-false, ltb-true, leb-true, leb-false, eq-eqb}
+use borrow.Author.Tests.{eqb-true, eqb-false, ltb-true, leb-true, eq-eqb}
 use Rattle.model.specs.declared.Settings.{Settings}
 use Rattle.model.specs.declared.Message.{Message}
 use Rattle.model.specs.declared.Phase.{Phase}
 use Rattle.model.specs.declared.Phase.the-variants.{Idle, Collecting, Probing, Announcing}
 use Rattle.model.specs.Choice.{if_then_else_}
-use Rattle.model.specs.Refusals.{accepted}
-use Rattle.model.specs.Limits.{topValue, valueCount}
-use Rattle.model.specs.Settings.{settingsRefusal, thresholdOf}
+use Rattle.model.specs.Limits.{topValue}
+use Rattle.model.specs.Settings.{thresholdOf}
 use Rattle.model.specs.Site.{oneMoreAt}
 use Rattle.model.specs.SiteMemory.{sum}
-use Rattle.model.specs.Coordinator.{Coordinator, withPhase, withTotal, withBase, withQuantile, atRest, takesItemReport, takesCountReport, takesPollAnswer, takesProbeAnswer, closed, narrowed, halved, middle, enough, closesRound, receivesIn, coordinatorReceives, coordinatorRefusal, announcedIn, announced}
+use Rattle.model.specs.Coordinator.{Coordinator, withPhase, withTotal, withBase, withQuantile, takesItemReport, takesCountReport, takesPollAnswer, takesProbeAnswer, closed, narrowed, halved, middle, enough, closesRound}
 use Rattle.coordinator_steps.specs.Steps.{SettingsFit}
 use Rattle.coordinator_steps.specs.Ready.{ClosingShape, PhaseShape, CoordinatorShape}
-use Rattle.coordinator_steps.proofs.Accepted.{MessageAccepted, message-accepted, count-report-of-idle, count-amount-of-report, value-of-report, kind-of-collecting, amount-of-poll-answer}
-use Rattle.coordinator_steps.proofs.StepLaws.{settings-fit, value-known}
 
 -- ---- The threshold
 
@@ -49,12 +46,13 @@ sum-one-more : (numbers : List ℕ) (i : ℕ)
     → i < length numbers
     → sum (oneMoreAt numbers i) ≡ sum numbers + 1
 sum-one-more [] i inside = absurd (omega arith)
-sum-one-more (x ∷ xs) Prim.Native.Nat.zero inside = omega arith
-sum-one-more (x ∷ xs) (Prim.Native.Nat.suc i) inside =
+sum-one-more (x ∷ xs) zero inside = omega arith
+sum-one-more (x ∷ xs) (suc i) inside =
     omega (arith, sum-one-more xs i (omega arith))
 
 module _ (settings : Settings) (fit : SettingsFit settings) where
-  pub shape-as : {c c′ : Coordinator} → c ≡ c′ → CoordinatorShape settings c′ → CoordinatorShape settings c
+  pub shape-as : {c c′ : Coordinator} → c ≡ c′ → CoordinatorShape settings c′ → CoordinatorShape
+      settings c
   shape-as same shape = subst (CoordinatorShape settings) (sym same) shape
 
   -- ---- Kinds 1 and 2
@@ -117,7 +115,8 @@ module _ (settings : Settings) (fit : SettingsFit settings) where
     shape-closed true all below high =
         let threshold = thresholdOf settings (c .total + m .a) in
         let above : 2 ≤ threshold = leb-true _ _ high in
-        shape-as {c′ = withBase c (c .total + m .a) threshold (Probing 0 0 topValue 0)} (rw high refl)
+        shape-as {c′ = withBase c (c .total + m .a) threshold (Probing 0 0 topValue 0)}
+        (rw high refl)
         (record {
           phase-shape = record {
             closing = record { all-signalled = all; site-known = omega (arith, fit .sites-some) };
@@ -131,7 +130,8 @@ module _ (settings : Settings) (fit : SettingsFit settings) where
         })
     shape-closed false all below low =
         let threshold = thresholdOf settings (c .total + m .a) in
-        let rises = threshold-rises settings (c .base) (c .total + m .a) fit (omega (arith, shape .base-within)) in
+        let rises = threshold-rises settings (c .base) (c .total + m .a) fit
+        (omega (arith, shape .base-within)) in
         shape-as {c′ = withBase c (c .total + m .a) threshold (Announcing 0)} (rw low refl)
         (record {
           phase-shape = record { all-signalled = all; site-known = omega (arith, fit .sites-some) };
@@ -161,7 +161,8 @@ module _ (settings : Settings) (fit : SettingsFit settings) where
         })
     shape-poll site false closing below last =
         shape-as (rw last refl)
-        (shape-closed (leb 2 (thresholdOf settings (c .total + m .a))) (closing .all-signalled) below refl)
+        (shape-closed (leb 2 (thresholdOf settings (c .total + m .a))) (closing .all-signalled)
+        below refl)
 
     -- ---- Kind 6
 
@@ -209,10 +210,12 @@ module _ (settings : Settings) (fit : SettingsFit settings) where
         → CoordinatorShape settings (halved settings c low high count .coordinator)
     shape-halved low high count true all order top many =
         shape-as (rw many refl)
-        (shape-narrowed low (middle low high) (eqb low (middle low high)) all (omega arith) (omega arith) refl)
+        (shape-narrowed low (middle low high) (eqb low (middle low high)) all (omega arith)
+        (omega arith) refl)
     shape-halved low high count false all order top few =
         shape-as (rw few refl)
-        (shape-narrowed (middle low high + 1) high (eqb (middle low high + 1) high) all (omega arith) top refl)
+        (shape-narrowed (middle low high + 1) high (eqb (middle low high + 1) high) all
+        (omega arith) top refl)
 
     pub shape-probe : (site low high total : ℕ) (test : Bool)
         → PhaseShape settings (c .signals) (Probing site low high total)

@@ -1,20 +1,19 @@
--- A step's numbers grow by no more than the amount of its message: the threshold for kinds 1, 2 and 4,
--- at most 1,000,000,000 for kind 6 (document 01: a number may pass the limit within a call).
+-- A step's numbers grow by no more than the amount of its message: the threshold for kinds 1, 2 and
+-- 4, at most 1,000,000,000 for kind 6 (document 01: a number may pass the limit within a call).
 --
 --   set-within                          a number set within the limit
 --   poll-grows, probe-grows             total and sum after kinds 4 and 6
 --   within-receives, within-announced   the limit, raised by the amount
-use mathlib.Core.Path.{_≡_, refl, ap, sym, _∙_}
+use mathlib.Core.Path.{_≡_, refl}
 use mathlib.Core.Bool.{Bool, true, false}
 use mathlib.Core.List.{List, [], _∷_}
-use Prim.Native.Nat.{ℕ, zero, suc, _+_, _≤_, _<_}
+use Prim.Native.Nat.{ℕ, zero, suc, _+_, _≤_}
 use native.Mathlib.Omega.{arith}
 use lib.Dec.{eqb, ltb, leb}
 use lib.ListN.{getD, set}
 use Rattle.model.specs.declared.Settings.{Settings}
 use Rattle.model.specs.declared.Message.{Message}
-use Rattle.model.specs.declared.Phase.{Phase}
-use Rattle.model.specs.declared.Phase.the-variants.{Idle, Collecting, Probing, Announcing}
+use Rattle.model.specs.declared.Phase.the-variants.{Idle, Collecting, Probing}
 use Rattle.model.specs.Choice.{if_then_else_}
 use Rattle.model.specs.Limits.{siteLimit}
 use Rattle.model.specs.Settings.{thresholdOf}
@@ -23,7 +22,7 @@ use Rattle.model.specs.Coordinator.{Coordinator, enough, closed, narrowed, halv
 use Rattle.coordinator_steps.specs.Ready.{phaseSum, CoordinatorWithin}
 use Rattle.coordinator_steps.proofs.Accepted.{MessageAccepted, item-amount-of-report, count-amount-of-report, kind-of-collecting, kind-of-probing, amount-of-poll-answer, amount-of-probe-answer}
 use Rattle.coordinator_steps.proofs.StepLaws.{NumbersKept, poll-kept, probe-kept}
-use Rattle.coordinator_steps.proofs.Kept.{Cases, receives-cases, announced-cases}
+use Rattle.coordinator_steps.proofs.Kept.{receives-cases, announced-cases}
 
 -- ---- Numbers of a list
 
@@ -60,7 +59,8 @@ pub poll-grows : (settings : Settings) (c : Coordinator) (site : ℕ) (m : Messa
 poll-grows settings c site m true test =
     record { total-most = rw test (omega arith); sum-most = rw test (omega arith) }
 poll-grows settings c site m false test =
-    let last = grown-closed settings c (c .total + m .a) (leb 2 (thresholdOf settings (c .total + m .a))) refl in
+    let last = grown-closed settings c (c .total + m .a)
+    (leb 2 (thresholdOf settings (c .total + m .a))) refl in
     record { total-most = rw test (last .total-most); sum-most = rw test (last .sum-most) }
 
 grown-narrowed : (c : Coordinator) (low high : ℕ) (single : Bool)
@@ -84,7 +84,8 @@ grown-halved settings c low high count false test =
 pub probe-grows : (settings : Settings) (c : Coordinator) (site low high total : ℕ) (m : Message)
     (more : Bool)
     → ltb (site + 1) (settings .sites) ≡ more
-    → Grown (c .total) (total + m .b) (takesProbeAnswer settings c site low high total m .coordinator)
+    → Grown (c .total) (total + m .b) (takesProbeAnswer settings c site low high total m
+    .coordinator)
 probe-grows settings c site low high total m true test =
     record { total-most = rw test (omega arith); sum-most = rw test (omega arith) }
 probe-grows settings c site low high total m false test =
@@ -105,8 +106,10 @@ within-of-kept : (limit more : ℕ) {c c′ : Coordinator}
     → CoordinatorWithin more c′
 within-of-kept limit more rises within kept grown = record {
   total-within = grown .total-most;
-  estimates-within = λ item. rw (kept .estimates-kept) (omega (arith, within .estimates-within item));
-  histogram-within = λ value. rw (kept .histogram-kept) (omega (arith, within .histogram-within value));
+  estimates-within = λ item. rw (kept .estimates-kept)
+      (omega (arith, within .estimates-within item));
+  histogram-within = λ value. rw (kept .histogram-kept)
+      (omega (arith, within .histogram-within value));
   sum-within = grown .sum-most;
 }
 
@@ -143,14 +146,24 @@ module _ (settings : Settings) (c : Coordinator) (m : Message) (limit amount : �
     total-within = omega (arith, within .total-within);
     estimates-within = set-within more (c .estimates) (m .a) _
         (λ j. omega (arith, within .estimates-within j))
-        (omega (arith, within .estimates-within (m .a), item-amount-of-report settings c m taken is));
+        (omega (
+          arith,
+          within .estimates-within (m .a),
+          item-amount-of-report settings c m taken
+              is,
+        ));
     histogram-within = λ value. omega (arith, within .histogram-within value);
     sum-within = omega (arith, within .sum-within);
   }
 
   within-count : m .kind ≡ 2 → CoordinatorWithin more (takesCountReport settings c m .coordinator)
   within-count is = record {
-    total-within = omega (arith, within .total-within, count-amount-of-report settings c m taken is);
+    total-within = omega (
+      arith,
+      within .total-within,
+      count-amount-of-report settings c m taken
+          is,
+    );
     estimates-within = λ item. omega (arith, within .estimates-within item);
     histogram-within = value-within (eqb (c .threshold) 1);
     sum-within = phase-none (closesRound settings c);

@@ -1,8 +1,10 @@
 -- Laws of refusal chains and of a choice by the refusal.
 --
---   refused-first, accepted-first    a chain whose first part refuses, and one whose first part does not
+--   refused-first, accepted-first    a chain whose first part refuses, and one whose first part
+--      does not
 --   last-row                         a chain whose first part accepts: its last row decides
---   accepts, refuses, refuses-by                 what is chosen where a call accepts, and where it refuses
+--   accepts, refuses, refuses-by                 what is chosen where a call accepts, and where it
+--      refuses
 use mathlib.Core.Path.{_≡_, refl, ap, sym, _∙_}
 use mathlib.Core.Bool.{Bool}
 use Prim.Native.Nat.{ℕ, zero, suc}

@@ -1,10 +1,10 @@
--- A consistent coordinator is ready for a step, and after it for the next one: whatever the step was,
--- the shape is kept, and the numbers are at most twice the limit.
+-- A consistent coordinator is ready for a step, and after it for the next one: whatever the step
+-- was, the shape is kept, and the numbers are at most twice the limit.
 --
 --   ready-after-message, ready-after-announcement
 use mathlib.Core.Path.{_≡_}
 use mathlib.Core.Bool.{true}
-use Prim.Native.Nat.{ℕ, _+_, _≤_}
+use Prim.Native.Nat.{_+_, _≤_}
 use native.Mathlib.Omega.{arith}
 use Rattle.model.specs.declared.Settings.{Settings}
 use Rattle.model.specs.declared.Message.{Message}
@@ -20,7 +20,8 @@ use Rattle.coordinator_steps.proofs.Kept.{Sized, shape-receives, shape-announce
 use Rattle.coordinator_steps.proofs.WithinLaws.{within-receives, within-announced}
 use Rattle.coordinator_tests.proofs.ReadyLaws.{consistent-facts, within-more}
 
-module _ (settings : Settings) (c : Coordinator) (settings-accepted : settingsRefusal settings ≡ accepted)
+module _ (settings : Settings) (c : Coordinator)
+    (settings-accepted : settingsRefusal settings ≡ accepted)
     (consistent : coordinatorConsistent settings c ≡ true) where
   -- The threshold is at most base + 1, and base at most the total: the amount is at most limit + 1.
   pub ready-after-message : (m : Message)
@@ -43,7 +44,8 @@ module _ (settings : Settings) (c : Coordinator) (settings-accepted : settingsRe
       record {
         shape = shape-receives settings c m settings-accepted sized (facts .shape) taken;
         within = within-more (coordinatorLimit + amount) readyLimit _ (omega arith)
-            (within-receives settings c m coordinatorLimit amount (facts .within) taken threshold-most
+            (within-receives settings c m coordinatorLimit amount (facts .within) taken
+            threshold-most
             (omega arith));
       }
 

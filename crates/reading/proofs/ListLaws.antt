@@ -10,7 +10,7 @@ use mathlib.Core.List.{List, [], _∷_, _++_, append-assoc, append-nil}
 use Prim.Native.Nat.{ℕ, zero, suc, _+_, _-_, _≤_, _<_}
 use native.Mathlib.Numerals.{add-one}
 use native.Mathlib.Omega.{arith}
-use lib.ListN.{length, getD, set, drop, length-append, length-set}
+use lib.ListN.{length, set, drop, length-append, length-set}
 use lib.Seq.{drop-cons, set-at, append-snoc}
 use Rattle.model.specs.declared.Settings.{Settings}
 use Rattle.model.specs.Choice.{if_then_else_}
@@ -38,8 +38,10 @@ module _ (settings : Settings) (c : Coordinator) where
       let there : item + 1 + more ≡ item + suc more = omega arith in
       ap (λ (n : ℕ). listedFrom n item settings c) one-more
       ∙ ap (λ (l : List ℕ). oneListed item ++ l) (snoc-from more (item + 1))
-      ∙ sym (append-assoc (oneListed item) (listedFrom more (item + 1) settings c) (oneListed (item + 1 + more)))
-      ∙ ap (λ (n : ℕ). (oneListed item ++ listedFrom more (item + 1) settings c) ++ oneListed n) there
+      ∙ sym (append-assoc (oneListed item) (listedFrom more (item + 1) settings c)
+      (oneListed (item + 1 + more)))
+      ∙ ap (λ (n : ℕ). (oneListed item ++ listedFrom more (item + 1) settings c) ++ oneListed n)
+      there
 
   pub listed-snoc : (items : ℕ)
       → listedBelow (items + 1) ≡ listedBelow items ++ oneListed items
@@ -76,7 +78,8 @@ module _ (settings : Settings) (c : Coordinator) where
 
   longer : (items : ℕ) → Longer items
   longer items =
-      let whole : length (listedBelow (items + 1)) ≡ length (listedBelow items) + length (oneListed items) =
+      let whole : length (listedBelow (items + 1)) ≡ length (listedBelow items) + length
+      (oneListed items) =
       ap length (listed-snoc items) ∙ length-append (listedBelow items) (oneListed items) in
       record {
         no-less = omega arith;
@@ -91,7 +94,8 @@ module _ (settings : Settings) (c : Coordinator) where
       rw (add-one items) at more
 
   -- Among more items no fewer are listed.
-  pub listed-le : (items more : ℕ) → length (listedBelow items) ≤ length (listedBelow (items + more))
+  pub listed-le : (items more : ℕ) → length (listedBelow items) ≤ length
+      (listedBelow (items + more))
   listed-le items zero =
       let same : items + 0 ≡ items = omega arith in
       rw same (omega arith)
@@ -163,7 +167,8 @@ module _ (settings : Settings) (c : Coordinator) where
       let next = counting-yes count item so-far inside yes-listed in
       let rest : item + 1 + (settings .universe - (item + 1)) ≡ settings .universe = omega arith in
       let bound = listed-le (item + 1) (settings .universe - (item + 1)) in
-      let whole : length (listedBelow (item + 1)) ≤ length (heavyHitters settings c) = rw rest at bound in
+      let whole : length (listedBelow (item + 1)) ≤ length (heavyHitters settings c) = rw rest at
+      bound in
       omega (arith, next .counted)
 
   -- The item goes to the first place that is left.
@@ -177,7 +182,8 @@ module _ (settings : Settings) (c : Coordinator) where
     counting = counting-yes count item (so-far .counting) inside yes-listed;
     same-length = length-set now count item ∙ so-far .same-length;
     written = ap (λ (l : List ℕ). set l count item) (so-far .written)
-        ∙ ap (λ (l : List ℕ). set (listedBelow item ++ l) count item) (drop-cons before count 0 left)
+        ∙ ap (λ (l : List ℕ). set (listedBelow item ++ l) count item)
+        (drop-cons before count 0 left)
         ∙ set-at (listedBelow item) _ _ item count (sym (so-far .counting .counted))
         ∙ sym (append-snoc (listedBelow item) item (drop (suc count) before))
         ∙ ap (λ (l : List ℕ). l ++ drop (suc count) before) (sym (listed-yes item yes-listed))

@@ -1,5 +1,5 @@
--- What a coordinator that passed its tests is worth to the functions that read it, and the search for
--- the least value.
+-- What a coordinator that passed its tests is worth to the functions that read it, and the search
+-- for the least value.
 --
 --   read-asks, margin-tested        accepted tests give what reading asks
 --   sides-ask, listed-is            the list rule of an item, by the number in memory
@@ -8,7 +8,7 @@
 --   quantile-none, quantile-counted, quantile-kept     the cases of `quantileOf`
 use mathlib.Core.Path.{_≡_, refl, ap, sym, _∙_}
 use mathlib.Core.Bool.{Bool, true, false}
-use mathlib.Core.List.{List, [], _∷_}
+use mathlib.Core.List.{List, _∷_}
 use Prim.Native.Nat.{ℕ, _+_, _-_, _*_, _≤_, _<_}
 use native.Mathlib.Numerals.{add-one}
 use native.Mathlib.Omega.{arith}
@@ -16,19 +16,16 @@ use lib.ListN.{length, getD, take, drop, length-take, drop-of-length-le}
 use lib.Seq.{getD-take, drop-cons}
 use lib.Dec.{leb}
 use borrow.Author.Tests.{le-leb, lt-leb, leb-false, eq-eqb, ne-eqb}
-use Rattle.laws.proofs.Tests.{both-true}
 use Rattle.model.specs.declared.Settings.{Settings}
 use Rattle.model.specs.declared.CoordinatorRecord.{CoordinatorRecord}
-use Rattle.model.specs.declared.Quantile.{Quantile}
 use Rattle.model.specs.declared.Quantile.the-variants.{Nothing, Value}
 use Rattle.model.specs.Refusals.{accepted}
-use Rattle.model.specs.Limits.{valueCount, coordinatorLimit}
+use Rattle.model.specs.Limits.{coordinatorLimit}
 use Rattle.model.specs.Coordinator.{Coordinator, enough}
-use Rattle.model.specs.CoordinatorMemory.{coordinatorIn, coordinatorWords, coordinatorMemoryRefusal, coordinatorConsistent, allWithin}
+use Rattle.model.specs.CoordinatorMemory.{coordinatorIn, coordinatorMemoryRefusal}
 use Rattle.model.specs.Reading.{isListed, leastValue, leastValueFrom, quantileOf}
 use Rattle.model.proofs.RefusalLaws.{both-accepted, passed}
 use Rattle.model.proofs.SettingsLaws.{settled}
-use Rattle.coordinator_steps.proofs.StepLaws.{valueCount-is}
 use Rattle.coordinator_tests.proofs.ConsistencyLaws.{histogram-part}
 use Rattle.coordinator_tests.proofs.ReadyLaws.{tested, consistent-facts}
 use Rattle.reading.specs.Contracts.{ReadAsks, SidesAsk, ValuesAsk, ruleHolds, marginRefusal}
@@ -45,7 +42,8 @@ read-asks settings numbers memory none =
     }
 
 -- Accepted tests of the margin: those of every call, and a known item.
-pub record MarginTested (settings : Settings) (numbers : CoordinatorRecord) (item : ℕ) (memory : List ℕ)
+pub record MarginTested (settings : Settings) (numbers : CoordinatorRecord) (item : ℕ)
+    (memory : List ℕ)
     : Type 0 where
   pub asks : ReadAsks settings numbers memory
   pub item-known : item < settings .universe
@@ -55,7 +53,8 @@ pub margin-tested : (settings : Settings) (numbers : CoordinatorRecord) (item : 
     → MarginTested settings numbers item memory
 margin-tested settings numbers item memory none =
     let rows = both-accepted (coordinatorMemoryRefusal settings numbers memory) _ none in
-    let item-row = passed (leb (settings .universe) item) 6 _ (omega arith) (rows .later-accepted) in
+    let item-row = passed (leb (settings .universe) item) 6 _ (omega arith)
+    (rows .later-accepted) in
     record {
       asks = read-asks settings numbers memory (rows .first-accepted);
       item-known = leb-false _ _ (item-row .test-failed);
@@ -126,7 +125,8 @@ module _ (rank total : ℕ) (counts : List ℕ) where
       → leastValueFrom rank total value below (drop value counts)
       ≡ elim test [
         | true ↦ Value value
-        | false ↦ leastValueFrom rank total (value + 1) (below + getD counts value 0) (drop (value + 1) counts)
+        | false ↦ leastValueFrom rank total (value + 1) (below + getD counts value 0)
+            (drop (value + 1) counts)
       ]
   from-on value below test inside decides =
       ap (leastValueFrom rank total value below) (drop-on value inside)

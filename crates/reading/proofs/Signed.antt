@@ -1,5 +1,5 @@
--- The signed difference of two numbers below 2 ^ 62 (document 01: the margin): what the subtraction of
--- two casts to 64 signed bits gives, and that it fits.
+-- The signed difference of two numbers below 2 ^ 62 (document 01: the margin): what the subtraction
+-- of two casts to 64 signed bits gives, and that it fits.
 --
 --   subtraction-is-difference    of integers
 --   difference-fits              64 signed bits hold it
@@ -9,7 +9,7 @@ use mathlib.Core.Bool.{Bool, true, false}
 use Prim.Native.Nat.{ℕ, zero, suc, _≤_, _<_}
 use native.Mathlib.Omega.{arith}
 use lib.Dec.{leb}
-use lib.IntN.{ℤ, pos, negsuc, _-ℤ_}
+use lib.IntN.{pos, negsuc, _-ℤ_}
 use mir.Syntax.{w64}
 use mir.Val.{SFits, toZ}
 use mir.Facts.{toZ-pos}

@@ -1,5 +1,5 @@
--- Reading the coordinator (document 01, "Reading the desk"): what the calls promise, where they accept
--- and where they refuse, and what the functions behind them ask.
+-- Reading the coordinator (document 01, "Reading the desk"): what the calls promise, where they
+-- accept and where they refuse, and what the functions behind them ask.
 --
 --   listRefusal, marginRefusal        the chains of tests; the quantile has the memory tests alone
 --   Lists, ReadsMargin, ReadsQuantile the promises
@@ -7,20 +7,18 @@
 use mathlib.Core.Path.{_≡_}
 use mathlib.Core.Bool.{Bool, true, _&&_}
 use mathlib.Core.List.{List}
-use lib.IntN.{ℤ, pos}
-use Prim.Native.Nat.{ℕ, _+_, _-_, _*_, _≤_, _<_}
+use lib.IntN.{pos}
+use Prim.Native.Nat.{ℕ, _-_, _*_, _≤_}
 use lib.Dec.{leb, ltb}
-use lib.ListN.{length, getD}
+use lib.ListN.{length}
 use Rattle.model.specs.declared.Settings.{Settings}
 use Rattle.model.specs.declared.CoordinatorRecord.{CoordinatorRecord}
-use Rattle.model.specs.declared.Quantile.{Quantile}
 use Rattle.model.specs.declared.Quantile.the-variants.{Nothing}
 use Rattle.model.specs.Choice.{if_then_else_, isZero}
 use Rattle.model.specs.Refusals.{when, _orElse_, accepted, unknownItem, listTooShort}
 use Rattle.model.specs.Limits.{valueCount, coordinatorLimit}
 use Rattle.model.specs.Settings.{settingsRefusal}
 use Rattle.model.specs.SiteMemory.{overwrite}
-use Rattle.model.specs.Coordinator.{Coordinator}
 use Rattle.model.specs.CoordinatorMemory.{coordinatorIn, coordinatorWords, coordinatorConsistent, coordinatorMemoryRefusal, allWithin}
 use Rattle.model.specs.Reading.{heavyHitters, margin, quantileOf}
 use Rattle.reading.specs.declared.Listed.{Listed}
@@ -33,7 +31,8 @@ use Rattle.reading.specs.declared.QuantileRead.{QuantileRead}
 abbrev pub listRefusal : Settings → CoordinatorRecord → List ℕ → ℕ → ℕ
 listRefusal settings numbers memory places =
     coordinatorMemoryRefusal settings numbers memory
-    orElse when (ltb places (length (heavyHitters settings (coordinatorIn settings numbers memory))))
+    orElse when (ltb places (length (heavyHitters settings
+    (coordinatorIn settings numbers memory))))
     listTooShort
     orElse accepted
 
@@ -61,7 +60,8 @@ marginRefusal settings numbers item memory =
     orElse when (leb (settings .universe) item) unknownItem
     orElse accepted
 
-pub record ReadsMargin (settings : Settings) (numbers : CoordinatorRecord) (item : ℕ) (memory : List ℕ)
+pub record ReadsMargin (settings : Settings) (numbers : CoordinatorRecord) (item : ℕ)
+    (memory : List ℕ)
     (r : Margin) : Type 0 where
   pub refusal : r .refusal ≡ marginRefusal settings numbers item memory
   pub margin-is :
@@ -84,10 +84,11 @@ pub record ReadsQuantile (settings : Settings) (numbers : CoordinatorRecord) (me
 -- ---- What is asked inside
 
 -- A coordinator that passed the tests 1 to 4 and 11.
-pub record ReadAsks (settings : Settings) (numbers : CoordinatorRecord) (memory : List ℕ) : Type 0 where
-  pub settings-accepted : settingsRefusal settings ≡ accepted
-  pub memory-long : coordinatorWords settings ≤ length memory
-  pub consistent : coordinatorConsistent settings (coordinatorIn settings numbers memory) ≡ true
+pub record ReadAsks (settings : Settings) (numbers : CoordinatorRecord) (memory : List ℕ) : Type 0
+  where
+    pub settings-accepted : settingsRefusal settings ≡ accepted
+    pub memory-long : coordinatorWords settings ≤ length memory
+    pub consistent : coordinatorConsistent settings (coordinatorIn settings numbers memory) ≡ true
 
 -- Both sides of the list rule fit.
 pub record SidesAsk (settings : Settings) (total number : ℕ) : Type 0 where

@@ -58,7 +58,8 @@ fn is_listed(settings: Settings, total: u64, number: u64) -> bool
 // How many items are listed.
 fn count_listed(settings: Settings, coordinator: CoordinatorRecord, memory: &[u64]) -> usize
     requires { ⌜ ReadAsks settings coordinator (now memory) ⌝ }
-    ensures { λ r. ⌜ r ≡ length (heavyHitters settings (coordinatorIn settings coordinator (now (memory .entry)))) ⌝ }
+    ensures { λ r. ⌜ r ≡ length (heavyHitters settings
+        (coordinatorIn settings coordinator (now (memory .entry)))) ⌝ }
 {
     let items = settings.universe as usize;
     let mut count = 0;
@@ -79,8 +80,12 @@ fn write_listed(
     memory: &[u64],
     list: &mut [u32],
 )
-    requires { ⌜ ReadAsks settings coordinator (now memory) × (length (heavyHitters settings (coordinatorIn settings coordinator (now memory))) ≤ length (now list)) ⌝ }
-    ensures { λ r. ⌜ now (list .exit) ≡ overwrite (heavyHitters settings (coordinatorIn settings coordinator (now (memory .entry)))) (now (list .entry)) ⌝ }
+    requires { ⌜ ReadAsks settings coordinator (now memory) ×
+        (length (heavyHitters settings (coordinatorIn settings coordinator (now memory))) ≤ length
+        (now list)) ⌝ }
+    ensures { λ r. ⌜ now (list .exit) ≡ overwrite
+        (heavyHitters settings (coordinatorIn settings coordinator (now (memory .entry))))
+        (now (list .entry)) ⌝ }
 {
     let items = settings.universe as usize;
     let mut count = 0;
@@ -102,7 +107,8 @@ pub fn list_heavy_hitters(
     memory: &[u64],
     list: &mut [u32],
 ) -> Listed
-    ensures { λ r. ⌜ Lists settings coordinator (now (memory .entry)) (now (list .entry)) (now (list .exit)) r ⌝ }
+    ensures { λ r. ⌜ Lists settings coordinator (now (memory .entry)) (now (list .entry))
+        (now (list .exit)) r ⌝ }
 {
     let refusal = coordinator_memory_refusal(settings, coordinator, memory);
     if refusal != ACCEPTED {
@@ -206,7 +212,8 @@ fn least_value(rank: u32, total: u64, counts: &[u64]) -> Quantile
 // 1, later from the record.
 fn quantile_value(settings: Settings, coordinator: CoordinatorRecord, memory: &[u64]) -> Quantile
     requires { ⌜ ReadAsks settings coordinator (now memory) ⌝ }
-    ensures { λ r. ⌜ r ≡ quantileOf settings (coordinatorIn settings coordinator (now (memory .entry))) ⌝ }
+    ensures { λ r. ⌜ r ≡ quantileOf settings (coordinatorIn settings coordinator
+        (now (memory .entry))) ⌝ }
 {
     if coordinator.threshold == 1 {
         if coordinator.total == 0 {

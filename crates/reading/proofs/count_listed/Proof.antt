@@ -11,7 +11,8 @@ use Rattle.reading.proofs.count_listed.Statement.{statement}
 use Rattle.reading.proofs.count_listed.Tie as tie
 
 abbrev Inv-loop : tie.InvT-loop
-Inv-loop settings coordinator memory items count₀ item₀ count item = Counting settings (coordinatorIn settings coordinator memory) count item
+Inv-loop settings coordinator memory items count₀ item₀ count item = Counting settings
+    (coordinatorIn settings coordinator memory) count item
 
 abbrev μ-loop : tie.MeasureT-loop
 μ-loop settings coordinator memory items count₀ item₀ count item = settings .universe - item
@@ -36,7 +37,8 @@ is-listed-requires : tie.Need-is-listed-requires Inv-loop μ-loop
 is-listed-requires c κs =
     let at-loop = c .before .before in
     let start = at-loop .before .before .before in
-    sides-ask (start .args .settings) (start .args .coordinator) (start .args .memory .now) (start .pre)
+    sides-ask (start .args .settings) (start .args .coordinator) (start .args .memory .now)
+    (start .pre)
     (at-loop .loop .item) (c .before .loop-test .taken)
 
 add-count : tie.Need-add-count Inv-loop μ-loop
@@ -47,7 +49,8 @@ add-count c =
       arith,
       at-loop .loop .inv .counted,
       at-loop .loop .inv .place,
-      listed-few (start .args .settings) (coordinatorIn (start .args .settings) (start .args .coordinator) (start .args .memory .now)) (at-loop .loop .item),
+      listed-few (start .args .settings) (coordinatorIn (start .args .settings)
+          (start .args .coordinator) (start .args .memory .now)) (at-loop .loop .item),
     )
 
 add-item : tie.Need-add-item Inv-loop μ-loop
@@ -66,19 +69,23 @@ loop-again c =
     let here = coordinatorIn settings numbers memory in
     let item = at-loop .loop .item in
     let inside = c .before .before .before .loop-test .taken in
-    let rule = sym (c .before .is-listed .ensures ∙ listed-is settings numbers memory (start .pre) item inside) in
+    let rule = sym (c .before .is-listed .ensures ∙ listed-is settings numbers memory (start .pre)
+    item inside) in
     ⊎-elim
     (λ w. rw (w .1)
-    (counting-yes settings here (at-loop .loop .count) item (at-loop .loop .inv) inside (rule ∙ w .0 .taken)))
+    (counting-yes settings here (at-loop .loop .count) item (at-loop .loop .inv) inside
+    (rule ∙ w .0 .taken)))
     (λ w. rw (w .1)
-    (counting-no settings here (at-loop .loop .count) item (at-loop .loop .inv) inside (rule ∙ w .0 .left)))
+    (counting-no settings here (at-loop .loop .count) item (at-loop .loop .inv) inside
+    (rule ∙ w .0 .left)))
     (c .if1 .came)
 
 returns : tie.Need-returns Inv-loop μ-loop
 returns c =
     let at-loop = c .before in
     let start = at-loop .before .before .before .args in
-    counting-end (start .settings) (coordinatorIn (start .settings) (start .coordinator) (start .memory .now))
+    counting-end (start .settings) (coordinatorIn (start .settings) (start .coordinator)
+    (start .memory .now))
     (at-loop .loop .count) (at-loop .loop .item) (at-loop .loop .inv) (c .loop-test .left)
 
 pub count-listed-spec : {M : Type 1} → statement M

@@ -13,7 +13,8 @@ use Rattle.reading.proofs.least_value.Statement.{statement}
 use Rattle.reading.proofs.least_value.Tie as tie
 
 abbrev Inv-loop : tie.InvT-loop
-Inv-loop rank total counts needed below₀ value₀ below value = Searching rank total counts below value
+Inv-loop rank total counts needed below₀ value₀ below value = Searching rank total counts below
+    value
 
 abbrev μ-loop : tie.MeasureT-loop
 μ-loop rank total counts needed below₀ value₀ below value = length counts - value
@@ -40,7 +41,8 @@ add-below c =
       c .before .loop-test .taken,
       start .pre .few,
       valueCount-is,
-      within-at coordinatorLimit (start .args .counts .now) (start .pre .counts-within) (at-loop .loop .value),
+      within-at coordinatorLimit (start .args .counts .now) (start .pre .counts-within)
+          (at-loop .loop .value),
     )
 
 mul-if1 : tie.Need-mul-if1 Inv-loop μ-loop
@@ -53,7 +55,8 @@ mul-if1 c =
       c .before .loop-test .taken,
       start .pre .few,
       valueCount-is,
-      within-at coordinatorLimit (start .args .counts .now) (start .pre .counts-within) (at-loop .loop .value),
+      within-at coordinatorLimit (start .args .counts .now) (start .pre .counts-within)
+          (at-loop .loop .value),
     )
 
 cast-t12 : tie.Need-cast-t12 Inv-loop μ-loop
@@ -66,7 +69,8 @@ returns c =
     let at-loop = c .before .before .before in
     let start = at-loop .before .args in
     sym
-    (searching-found (start .rank) (start .total) (start .counts .now) (at-loop .loop .below) (at-loop .loop .value)
+    (searching-found (start .rank) (start .total) (start .counts .now) (at-loop .loop .below)
+    (at-loop .loop .value)
     (at-loop .loop .inv) (c .before .before .loop-test .taken) (c .if1 .taken))
 
 add-value : tie.Need-add-value Inv-loop μ-loop
@@ -79,9 +83,11 @@ loop-again : tie.Need-loop-again Inv-loop μ-loop
 loop-again c =
     let at-loop = c .before .before .before in
     let start = at-loop .before in
-    searching-on (start .args .rank) (start .args .total) (start .args .counts .now) (at-loop .loop .below)
+    searching-on (start .args .rank) (start .args .total) (start .args .counts .now)
+    (at-loop .loop .below)
     (at-loop .loop .value) (at-loop .loop .inv) (c .before .before .loop-test .taken)
-    (within-at coordinatorLimit (start .args .counts .now) (start .pre .counts-within) (at-loop .loop .value))
+    (within-at coordinatorLimit (start .args .counts .now) (start .pre .counts-within)
+    (at-loop .loop .value))
     (c .if1 .left)
 
 returns-2 : tie.Need-returns-2 Inv-loop μ-loop
@@ -89,7 +95,8 @@ returns-2 c =
     let at-loop = c .before in
     let start = at-loop .before .args in
     sym
-    (searching-end (start .rank) (start .total) (start .counts .now) (at-loop .loop .below) (at-loop .loop .value)
+    (searching-end (start .rank) (start .total) (start .counts .now) (at-loop .loop .below)
+    (at-loop .loop .value)
     (at-loop .loop .inv) (c .loop-test .left))
 
 pub least-value-spec : {M : Type 1} → statement M

@@ -23,7 +23,8 @@ returns : tie.Need-returns
 returns c =
     let tests = c .before in
     let start = tests .before .before .before .args in
-    let first = coordinatorMemoryRefusal (start .settings) (start .coordinator) (start .memory .now) in
+    let first = coordinatorMemoryRefusal (start .settings) (start .coordinator)
+    (start .memory .now) in
     let places = length (start .list .now) in
     let refusal = listRefusal (start .settings) (start .coordinator) (start .memory .now) places in
     let result-is = tests .coordinator-memory-refusal .ensures in
@@ -44,12 +45,15 @@ returns-2 : tie.Need-returns-2
 returns-2 c =
     let tests = c .before .before .before in
     let start = tests .before .before .before .args in
-    let first = coordinatorMemoryRefusal (start .settings) (start .coordinator) (start .memory .now) in
-    let hitters = heavyHitters (start .settings) (coordinatorIn (start .settings) (start .coordinator) (start .memory .now)) in
+    let first = coordinatorMemoryRefusal (start .settings) (start .coordinator)
+    (start .memory .now) in
+    let hitters = heavyHitters (start .settings)
+    (coordinatorIn (start .settings) (start .coordinator) (start .memory .now)) in
     let places = length (start .list .now) in
     let refusal = listRefusal (start .settings) (start .coordinator) (start .memory .now) places in
     let none = sym (tests .coordinator-memory-refusal .ensures) ∙ c .before .before .if1 .left in
-    let short = lt-ltb places (length hitters) (omega (arith, c .if2 .taken, c .before .count-listed .ensures)) in
+    let short = lt-ltb places (length hitters)
+    (omega (arith, c .if2 .taken, c .before .count-listed .ensures)) in
     let twelve : refusal ≡ 12 = last-row first 12 (ltb places (length hitters)) true none short in
     record {
       refusal = sym twelve;
@@ -77,7 +81,8 @@ cast-t12 c =
       arith,
       counted .count-listed .ensures,
       settled (start .settings) (asks .settings-accepted) .universe,
-      listed-few (start .settings) (coordinatorIn (start .settings) (start .coordinator) (start .memory .now)) (start .settings .universe),
+      listed-few (start .settings) (coordinatorIn (start .settings) (start .coordinator)
+          (start .memory .now)) (start .settings .universe),
     )
 
 same-length : tie.Need-same-length
@@ -88,8 +93,10 @@ returns-3 c =
     let counted = c .before .before .before .before .before in
     let tests = counted .before .before in
     let start = tests .before .before .before .args in
-    let first = coordinatorMemoryRefusal (start .settings) (start .coordinator) (start .memory .now) in
-    let hitters = heavyHitters (start .settings) (coordinatorIn (start .settings) (start .coordinator) (start .memory .now)) in
+    let first = coordinatorMemoryRefusal (start .settings) (start .coordinator)
+    (start .memory .now) in
+    let hitters = heavyHitters (start .settings)
+    (coordinatorIn (start .settings) (start .coordinator) (start .memory .now)) in
     let places = length (start .list .now) in
     let refusal = listRefusal (start .settings) (start .coordinator) (start .memory .now) places in
     let none = sym (tests .coordinator-memory-refusal .ensures) ∙ counted .before .if1 .left in

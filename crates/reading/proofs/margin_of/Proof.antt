@@ -21,7 +21,8 @@ subtract-requires : tie.Need-subtract-requires
 subtract-requires c κs =
     let start = c .before in
     let settings = start .args .settings in
-    let share : 2 * settings .phi - settings .epsilon ≤ 2000 = omega (arith, start .pre .phi-small) in
+    let share : 2 * settings .phi - settings .epsilon ≤ 2000 = omega
+    (arith, start .pre .phi-small) in
     omega (
       arith,
       c .side-needed .ensures,

@@ -15,7 +15,8 @@ coordinator-memory-refusal-requires c κs = search needs
 returns : tie.Need-returns
 returns c =
     let start = c .before .before .before .args in
-    let first = coordinatorMemoryRefusal (start .settings) (start .coordinator) (start .memory .now) in
+    let first = coordinatorMemoryRefusal (start .settings) (start .coordinator)
+    (start .memory .now) in
     let result-is = c .before .coordinator-memory-refusal .ensures in
     result-is ∙ sym (refused-first first _ (λ none. c .if1 .taken (result-is ∙ none)))
 
@@ -23,17 +24,21 @@ returns-2 : tie.Need-returns-2
 returns-2 c =
     let tests = c .before .before .before in
     let start = tests .before .before .args in
-    let first = coordinatorMemoryRefusal (start .settings) (start .coordinator) (start .memory .now) in
+    let first = coordinatorMemoryRefusal (start .settings) (start .coordinator)
+    (start .memory .now) in
     let none = sym (tests .coordinator-memory-refusal .ensures) ∙ c .before .before .if1 .left in
-    sym (last-row first 6 (leb (start .settings .universe) (start .item)) true none (le-leb _ _ (c .if2 .taken)))
+    sym (last-row first 6 (leb (start .settings .universe) (start .item)) true none
+    (le-leb _ _ (c .if2 .taken)))
 
 returns-3 : tie.Need-returns-3
 returns-3 c =
     let tests = c .before .before .before in
     let start = tests .before .before .args in
-    let first = coordinatorMemoryRefusal (start .settings) (start .coordinator) (start .memory .now) in
+    let first = coordinatorMemoryRefusal (start .settings) (start .coordinator)
+    (start .memory .now) in
     let none = sym (tests .coordinator-memory-refusal .ensures) ∙ c .before .before .if1 .left in
-    sym (last-row first 6 (leb (start .settings .universe) (start .item)) false none (lt-leb _ _ (c .if2 .left)))
+    sym (last-row first 6 (leb (start .settings .universe) (start .item)) false none
+    (lt-leb _ _ (c .if2 .left)))
 
 pub margin-refusal-spec : {M : Type 1} → statement M
 margin-refusal-spec =

@@ -14,7 +14,8 @@ returns : tie.Need-returns
 returns c =
     let start = c .before .before .before .before .before .args in
     sym
-    (quantile-none (start .settings) (coordinatorIn (start .settings) (start .coordinator) (start .memory .now))
+    (quantile-none (start .settings) (coordinatorIn (start .settings) (start .coordinator)
+    (start .memory .now))
     (c .before .before .if1 .taken) (c .if2 .taken))
 
 cast-items : tie.Need-cast-items
@@ -34,12 +35,17 @@ part-least-value-start c = search needs
 
 part-least-value-end : tie.Need-part-least-value-end
 part-least-value-end c =
-    omega (arith, c .before .before .before .before .before .before .pre .memory-long, valueCount-is)
+    omega (
+      arith,
+      c .before .before .before .before .before .before .pre .memory-long,
+      valueCount-is,
+    )
 
 least-value-requires : tie.Need-least-value-requires
 least-value-requires c κs =
     let start = c .before .before .before .before .before .before .before in
-    values-ask (start .args .settings) (start .args .coordinator) (start .args .memory .now) (start .pre)
+    values-ask (start .args .settings) (start .args .coordinator) (start .args .memory .now)
+    (start .pre)
 
 returns-2 : tie.Need-returns-2
 returns-2 c =
@@ -56,7 +62,8 @@ returns-3 : tie.Need-returns-3
 returns-3 c =
     let start = c .before .before .before .args in
     sym
-    (quantile-kept (start .settings) (coordinatorIn (start .settings) (start .coordinator) (start .memory .now))
+    (quantile-kept (start .settings) (coordinatorIn (start .settings) (start .coordinator)
+    (start .memory .now))
     (c .if1 .left))
 
 pub quantile-value-spec : {M : Type 1} → statement M

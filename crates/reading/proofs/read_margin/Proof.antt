@@ -21,7 +21,8 @@ returns : tie.Need-returns
 returns c =
     let tests = c .before in
     let start = tests .before .before .args in
-    let refusal = marginRefusal (start .settings) (start .coordinator) (start .item) (start .memory .now) in
+    let refusal = marginRefusal (start .settings) (start .coordinator) (start .item)
+    (start .memory .now) in
     let result-is = tests .margin-refusal .ensures in
     record {
       refusal = result-is;
@@ -32,7 +33,8 @@ mul-number : tie.Need-mul-number
 mul-number c =
     let tests = c .before in
     let start = tests .before .before in
-    let facts = margin-tested (start .args .settings) (start .args .coordinator) (start .args .item) (start .args .memory .now)
+    let facts = margin-tested (start .args .settings) (start .args .coordinator) (start .args .item)
+    (start .args .memory .now)
     (sym (tests .margin-refusal .ensures) ∙ c .if1 .left) in
     omega (arith, facts .item-known, facts .asks .memory-long, start .good)
 
@@ -40,7 +42,8 @@ shared-slice-read-number : tie.Need-shared-slice-read-number
 shared-slice-read-number c =
     let tests = c .before .before in
     let start = tests .before .before .args in
-    let facts = margin-tested (start .settings) (start .coordinator) (start .item) (start .memory .now)
+    let facts = margin-tested (start .settings) (start .coordinator) (start .item)
+    (start .memory .now)
     (sym (tests .margin-refusal .ensures) ∙ c .before .if1 .left) in
     omega (arith, facts .item-known, facts .asks .memory-long)
 
@@ -48,9 +51,11 @@ margin-of-requires : tie.Need-margin-of-requires
 margin-of-requires c κs =
     let tests = c .before .before in
     let start = tests .before .before .args in
-    let facts = margin-tested (start .settings) (start .coordinator) (start .item) (start .memory .now)
+    let facts = margin-tested (start .settings) (start .coordinator) (start .item)
+    (start .memory .now)
     (sym (tests .margin-refusal .ensures) ∙ c .before .if1 .left) in
-    sides-ask (start .settings) (start .coordinator) (start .memory .now) (facts .asks) (start .item)
+    sides-ask (start .settings) (start .coordinator) (start .memory .now) (facts .asks)
+    (start .item)
     (facts .item-known)
 
 returns-2 : tie.Need-returns-2
@@ -67,7 +72,8 @@ returns-2 c =
       refusal = tests .margin-refusal .ensures;
       margin-is = toZ-ofZ fits
           ∙ c .margin-of .ensures
-          ∙ ap (λ (number : ℕ). difference (2000 * number) (sideNeeded settings (start .coordinator .total)))
+          ∙ ap (λ (number : ℕ). difference (2000 * number)
+          (sideNeeded settings (start .coordinator .total)))
           (sym (getD-take (settings .universe) memory (start .item) 0 (facts .item-known)))
           ∙ accepts refusal _ _ none;
     }

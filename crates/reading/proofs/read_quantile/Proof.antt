@@ -13,7 +13,8 @@ coordinator-memory-refusal-requires c κs = search needs
 returns : tie.Need-returns
 returns c =
     let start = c .before .before .before .args in
-    let refusal = coordinatorMemoryRefusal (start .settings) (start .coordinator) (start .memory .now) in
+    let refusal = coordinatorMemoryRefusal (start .settings) (start .coordinator)
+    (start .memory .now) in
     let result-is = c .before .coordinator-memory-refusal .ensures in
     record {
       refusal = result-is;
@@ -30,11 +31,13 @@ returns-2 : tie.Need-returns-2
 returns-2 c =
     let tests = c .before .before in
     let start = tests .before .before .args in
-    let refusal = coordinatorMemoryRefusal (start .settings) (start .coordinator) (start .memory .now) in
+    let refusal = coordinatorMemoryRefusal (start .settings) (start .coordinator)
+    (start .memory .now) in
     let result-is = tests .coordinator-memory-refusal .ensures in
     record {
       refusal = result-is;
-      quantile = c .quantile-value .ensures ∙ accepts refusal _ _ (sym result-is ∙ c .before .if1 .left);
+      quantile = c .quantile-value .ensures ∙ accepts refusal _ _
+          (sym result-is ∙ c .before .if1 .left);
     }
 
 pub read-quantile-spec : {M : Type 1} → statement M

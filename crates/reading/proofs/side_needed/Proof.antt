@@ -22,7 +22,8 @@ mul-result : tie.Need-mul-result
 mul-result c =
     let start = c .before .before in
     let settings = start .args .settings in
-    let share : 2 * settings .phi - settings .epsilon ≤ 2000 = omega (arith, start .pre .phi-small) in
+    let share : 2 * settings .phi - settings .epsilon ≤ 2000 = omega
+    (arith, start .pre .phi-small) in
     omega (arith, mul-le-mul share (start .pre .total-within))
 
 returns : tie.Need-returns

@@ -1,5 +1,5 @@
--- The invariant is `Writing`: the items listed among those passed stand at the front of the list, and
--- from there on it is as it was. A listed item has a place, since all of them have.
+-- The invariant is `Writing`: the items listed among those passed stand at the front of the list,
+-- and from there on it is as it was. A listed item has a place, since all of them have.
 use lib.ListN.{length}
 use native.Mathlib.Omega.{arith}
 use mathlib.Core.Logic.{⊎-elim}
@@ -14,10 +14,12 @@ use Rattle.reading.proofs.write_listed.Statement.{statement}
 use Rattle.reading.proofs.write_listed.Tie as tie
 
 abbrev Inv-loop : tie.InvT-loop
-Inv-loop settings coordinator memory list₀ items count₀ next₀ list count next = Writing settings (coordinatorIn settings coordinator memory) list₀ list count next
+Inv-loop settings coordinator memory list₀ items count₀ next₀ list count next = Writing settings
+    (coordinatorIn settings coordinator memory) list₀ list count next
 
 abbrev μ-loop : tie.MeasureT-loop
-μ-loop settings coordinator memory list₀ items count₀ next₀ list count next = settings .universe - next
+μ-loop settings coordinator memory list₀ items count₀ next₀ list count next = settings .universe -
+    next
 
 cast-items : tie.Need-cast-items Inv-loop μ-loop
 cast-items c = search needs
@@ -25,7 +27,8 @@ cast-items c = search needs
 loop-holds : tie.Need-loop-holds Inv-loop μ-loop
 loop-holds c =
     let start = c .before .before .before .args in
-    writing-start (start .settings) (coordinatorIn (start .settings) (start .coordinator) (start .memory .now))
+    writing-start (start .settings) (coordinatorIn (start .settings) (start .coordinator)
+    (start .memory .now))
     (start .list .now)
 
 mul-is-listed : tie.Need-mul-is-listed Inv-loop μ-loop
@@ -42,7 +45,8 @@ is-listed-requires : tie.Need-is-listed-requires Inv-loop μ-loop
 is-listed-requires c κs =
     let at-loop = c .before .before in
     let start = at-loop .before .before .before .before in
-    sides-ask (start .args .settings) (start .args .coordinator) (start .args .memory .now) (start .pre .0)
+    sides-ask (start .args .settings) (start .args .coordinator) (start .args .memory .now)
+    (start .pre .0)
     (at-loop .loop .next) (c .before .loop-test .taken)
 
 cast-list : tie.Need-cast-list Inv-loop μ-loop
@@ -68,7 +72,8 @@ place c =
     let inside = c .before .before .before .loop-test .taken in
     place-left settings (coordinatorIn settings numbers memory) (start .args .list .now)
     (at-loop .loop .count) item (start .pre .1) (at-loop .loop .inv .counting) inside
-    (sym (c .before .is-listed .ensures ∙ listed-is settings numbers memory (start .pre .0) item inside)
+    (sym (c .before .is-listed .ensures ∙ listed-is settings numbers memory (start .pre .0)
+    item inside)
     ∙ c .if1 .taken)
 
 mul-list : tie.Need-mul-list Inv-loop μ-loop
@@ -104,12 +109,14 @@ loop-again c =
     let count = at-loop .loop .count in
     let item = at-loop .loop .next in
     let inside = c .before .before .before .loop-test .taken in
-    let rule = sym (c .before .is-listed .ensures ∙ listed-is settings numbers memory (start .pre .0) item inside) in
+    let rule = sym (c .before .is-listed .ensures ∙ listed-is settings numbers memory
+    (start .pre .0) item inside) in
     ⊎-elim
     (λ w. rw (w .1, w .2)
     (writing-yes settings here before (at-loop .loop .list) count item (at-loop .loop .inv) inside
     (rule ∙ w .0 .taken)
-    (place-left settings here before count item (start .pre .1) (at-loop .loop .inv .counting) inside
+    (place-left settings here before count item (start .pre .1)
+    (at-loop .loop .inv .counting) inside
     (rule ∙ w .0 .taken))))
     (λ w. rw (w .1, w .2)
     (writing-no settings here before (at-loop .loop .list) count item (at-loop .loop .inv) inside
@@ -123,8 +130,10 @@ returns : tie.Need-returns Inv-loop μ-loop
 returns c =
     let at-loop = c .before in
     let start = at-loop .before .before .before .before .args in
-    writing-end (start .settings) (coordinatorIn (start .settings) (start .coordinator) (start .memory .now))
-    (start .list .now) (at-loop .loop .list) (at-loop .loop .count) (at-loop .loop .next) (at-loop .loop .inv)
+    writing-end (start .settings) (coordinatorIn (start .settings) (start .coordinator)
+    (start .memory .now))
+    (start .list .now) (at-loop .loop .list) (at-loop .loop .count) (at-loop .loop .next)
+    (at-loop .loop .inv)
     (c .loop-test .left)
 
 pub write-listed-spec : {M : Type 1} → statement M

@@ -11,7 +11,7 @@ use Rattle.model.specs.declared.Message.{Message}
 use Rattle.model.specs.declared.Quantile.{Quantile}
 use Rattle.model.specs.declared.Quantile.the-variants.{Nothing, Value}
 use Rattle.model.specs.Refusals.{accepted, tooFewCounters}
-use Rattle.model.specs.Settings.{settingsRefusal, thresholdOf, allowance}
+use Rattle.model.specs.Settings.{settingsWith, settingsRefusal, thresholdOf, allowance}
 use Rattle.model.specs.Lines.{writeFields, lineFeed}
 use Rattle.model.specs.Messages.{itemReport, countReport, poll, pollAnswer, announcement}
 use Rattle.model.specs.Counters.{Counter, counterAt, unreported}
@@ -22,16 +22,6 @@ use Rattle.model.specs.Runs.{Run, runOf}
 use Rattle.model.specs.Transcript.{transcript, endLine, messageLines, listedWord, classWord, messagesWord, spaced}
 
 -- ---- The settings and arrivals of the instances
-
-abbrev pub settingsWith : ℕ → ℕ → ℕ → ℕ → ℕ → ℕ → Settings
-settingsWith k e p q c u = record {
-  sites = k;
-  epsilon = e;
-  phi = p;
-  rank = q;
-  capacity = c;
-  universe = u;
-}
 
 -- "Settings A: 1;1000;1000;500;6;10."
 abbrev pub settingsA : Settings

@@ -1,4 +1,5 @@
--- Document 01 as definitions over numbers and lists, one file for each of its notions, in its order.
+-- Document 01 as definitions over numbers and lists, one file for each of its notions, in its
+-- order.
 pub mod Choice
 pub mod Refusals
 pub mod Limits
@@ -15,5 +16,10 @@ pub mod Reading
 pub mod Network
 pub mod NetworkMemory
 pub mod Runs
+pub mod Claims
 pub mod Transcript
 pub mod Instances
+pub mod SoundNetwork
+pub mod DeliveryClaims
+pub mod SoundClaims
+pub mod NumberClaims

@@ -26,24 +26,36 @@ pub data Fields : Type 0 where
   malformed : Fields
   fields : List ℕ → List ℕ → Fields
 
--- The number with the mark that ends it, and what the bytes after the mark give.
-abbrev pub endedBy : ℕ → Number → (ℕ → List ℕ → Fields) → Fields
-endedBy mark noNumber go-on = malformed
-endedBy mark (number value []) go-on = malformed
-endedBy mark (number value (byte ∷ rest)) go-on =
-    if eqb byte mark then go-on value rest else malformed
+-- A number that a mark ends; the bytes after it are those after the mark.
+abbrev pub beforeMark : ℕ → Number → Number
+beforeMark mark noNumber = noNumber
+beforeMark mark (number value []) = noNumber
+beforeMark mark (number value (byte ∷ rest)) = if eqb byte mark then number value rest else noNumber
+
+abbrev pub readField : ℕ → List ℕ → Number
+readField mark bytes = beforeMark mark (readNumber bytes)
 
 abbrev pub withField : ℕ → Fields → Fields
 withField value malformed = malformed
 withField value (fields values rest) = fields (value ∷ values) rest
 
+-- So many fields, semicolons between, and a last mark.
+abbrev pub readFieldsTo : ℕ → ℕ → List ℕ → Fields
+readFieldsTo last zero bytes = malformed
+readFieldsTo last (suc zero) bytes =
+    elim (readField last bytes) [
+      | noNumber ↦ malformed
+      | number value rest ↦ fields (value ∷ []) rest
+    ]
+readFieldsTo last (suc (suc more)) bytes =
+    elim (readField semicolon bytes) [
+      | noNumber ↦ malformed
+      | number value rest ↦ withField value (readFieldsTo last (suc more) rest)
+    ]
+
 -- "in decimal, semicolons between, line feed last": a line of one field or more.
 abbrev pub readFields : ℕ → List ℕ → Fields
-readFields zero bytes = malformed
-readFields (suc zero) bytes =
-    endedBy lineFeed (readNumber bytes) (λ value rest. fields (value ∷ []) rest)
-readFields (suc (suc more)) bytes =
-    endedBy semicolon (readNumber bytes) (λ value rest. withField value (readFields (suc more) rest))
+readFields count bytes = readFieldsTo lineFeed count bytes
 
 abbrev pub writeFields : List ℕ → List ℕ
 writeFields [] = []

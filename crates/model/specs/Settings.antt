@@ -1,5 +1,6 @@
 -- Settings, the threshold that a base gives, binary digits and the allowance.
 --
+--   settingsWith k e p q c u     the settings with these numbers
 --   settingsRefusal settings     1, 2 or 3, or accepted
 --   thresholdOf settings base    at least 1, also at base 0
 --   digits n                     0 has no digits
@@ -11,6 +12,17 @@ use Rattle.model.specs.declared.Settings.{Settings}
 use Rattle.model.specs.Choice.{between, isZero}
 use Rattle.model.specs.Refusals.{when, _orElse_, accepted, settingOutOfRange, phiBelowEpsilon, tooFewCounters}
 use Rattle.model.specs.Limits.{mostSites, allowanceFactor}
+
+-- The settings k, e, p, q, c and u, in document 01's order.
+abbrev pub settingsWith : ℕ → ℕ → ℕ → ℕ → ℕ → ℕ → Settings
+settingsWith k e p q c u = record {
+  sites = k;
+  epsilon = e;
+  phi = p;
+  rank = q;
+  capacity = c;
+  universe = u;
+}
 
 -- "Decks k 1 to 32. Leeway e 2 to 1000, list share p 1 to 1000, rank q 1 to 1000, all in
 -- thousandths. Slots c 1 to 3000 for each deck. Code space u 1 to 65,536."

@@ -1,0 +1,2 @@
+-- What the three exported functions promise.
+pub mod Contracts

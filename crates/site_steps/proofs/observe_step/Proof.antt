@@ -1,0 +1,74 @@
+-- `site_steps::observe_step` meets its contract: the arrival stored, and the messages gathered.
+use native.Mathlib.Omega.{arith}
+use borrow.Author.Needs.{needs}
+use Rattle.site_steps.proofs.StoreLaws.{observed-step}
+use Rattle.site_steps.proofs.observe_step.Statement.{statement}
+use Rattle.site_steps.proofs.observe_step.Tie as tie
+
+store-arrival-requires : tie.Need-store-arrival-requires
+store-arrival-requires c κs = search needs
+
+add-pending : tie.Need-add-pending
+add-pending c = search needs
+
+value-reported-requires : tie.Need-value-reported-requires
+value-reported-requires c κs = search needs
+
+add-t15 : tie.Need-add-t15
+add-t15 c = search needs
+
+pending-after-requires : tie.Need-pending-after-requires
+pending-after-requires c κs = search needs
+
+cast-item : tie.Need-cast-item
+cast-item c = search needs
+
+make-message-requires : tie.Need-make-message-requires
+make-message-requires c κs = search needs
+
+make-message-requires-2 : tie.Need-make-message-requires-2
+make-message-requires-2 c κs = search needs
+
+gather-requires : tie.Need-gather-requires
+gather-requires c κs = search needs
+
+same-length : tie.Need-same-length
+same-length c =
+    let earlier = c .before .before .before .before .before .before .before in
+    let at-store-arrival = earlier .before .before .before .before in
+    at-store-arrival .store-arrival .kept .1 .1 .1 .0
+
+returns : tie.Need-returns
+returns c =
+    let at-make-message2 = c .before in
+    let at-make-message = at-make-message2 .before in
+    let at-pending-after = at-make-message .before .before in
+    let at-value-reported = at-pending-after .before .before in
+    let at-store-arrival = at-value-reported .before .before .before .before .before in
+    let start = at-store-arrival .before .before .before in
+    let a = start .args in
+    let stored = at-store-arrival .store-arrival in
+    observed-step (a .settings) (a .site) (a .arrival) (a .memory .now) (stored .last .1 .1 .1 .0)
+    (stored .result) (stored .ensures)
+    (at-pending-after .pending-after .result) (at-value-reported .value-reported .result)
+    (at-pending-after .pending-after .ensures) (at-value-reported .value-reported .ensures)
+    (at-make-message .make-message .result) (at-make-message2 .make-message2 .result)
+    (c .gather .result)
+    (at-make-message .make-message .ensures) (at-make-message2 .make-message2 .ensures)
+    (c .gather .ensures)
+
+pub observe-step-spec : {M : Type 1} → statement M
+observe-step-spec =
+    tie.close
+    (tie.spec
+    store-arrival-requires
+    add-pending
+    value-reported-requires
+    add-t15
+    pending-after-requires
+    cast-item
+    make-message-requires
+    make-message-requires-2
+    gather-requires
+    same-length
+    returns)

@@ -1,0 +1,106 @@
+-- Each turn of the loop takes a digit into the number, as `moreDigits` does.
+use mathlib.Core.Path.{_≡_, sym, _∙_}
+use Prim.Native.Nat.{_-_, _<_}
+use native.Mathlib.Omega.{arith}
+use lib.ListN.{length, getD, drop}
+use borrow.Author.Needs.{needs}
+use Rattle.model.specs.Decimal.{moreDigits}
+use Rattle.worklist.specs.Reading.{Reading}
+use Rattle.worklist.proofs.ReadingLaws.{reading-begins, reading-room, reading-on, reading-long, reading-stop, reading-end}
+use Rattle.worklist.proofs.more_digits.Statement.{statement}
+use Rattle.worklist.proofs.more_digits.Tie as tie
+
+abbrev Inv-loop : tie.InvT-loop
+Inv-loop bytes start first next₀ value₀ more₀ next value more =
+    Reading bytes (moreDigits 6 first (drop start bytes)) next value more
+
+abbrev μ-loop : tie.MeasureT-loop
+μ-loop bytes start first next₀ value₀ more₀ next value more = length bytes - next
+
+loop-holds : tie.Need-loop-holds Inv-loop μ-loop
+loop-holds c =
+    let args = c .before .args in
+    let within = c .before .pre in
+    reading-begins (args .bytes .now) (args .start) (args .first) (within .0) (within .1)
+
+shared-slice-read-byte : tie.Need-shared-slice-read-byte Inv-loop μ-loop
+shared-slice-read-byte c = search needs
+
+is-digit-requires : tie.Need-is-digit-requires Inv-loop μ-loop
+is-digit-requires c κs = search needs
+
+no-number-requires : tie.Need-no-number-requires Inv-loop μ-loop
+no-number-requires c κs = search needs
+
+returns : tie.Need-returns Inv-loop μ-loop
+returns c =
+    let turn = c .before .before .before .before .before in
+    let found = c .before .before in
+    let digit = sym (found .before .is-digit .ensures) ∙ found .if1 .taken in
+    rw (c .no-number .ensures)
+    (reading-long (turn .loop-test .taken) digit
+    (rw (c .before .if2 .taken) at (turn .before .loop .inv)))
+
+-- A digit may still come, so the value is below a million and ten times it fits.
+value-small : (c : tie.Else2 Inv-loop μ-loop)
+    → c .before .before .before .before .before .loop .value < 1000000
+value-small c =
+    let head = c .before .before .before .before .before in
+    reading-room _ (omega (arith, c .if2 .left)) (head .loop .inv)
+
+mul-value : tie.Need-mul-value Inv-loop μ-loop
+mul-value c = record { fits = omega (arith, value-small c) }
+
+digit-value-requires : tie.Need-digit-value-requires Inv-loop μ-loop
+digit-value-requires c κs = sym (c .before .before .is-digit .ensures) ∙ c .before .if1 .taken
+
+add-value : tie.Need-add-value Inv-loop μ-loop
+add-value c = record { fits = omega (arith, value-small (c .before), c .digit-value .ensures .1) }
+
+sub-more : tie.Need-sub-more Inv-loop μ-loop
+sub-more c = search needs
+
+add-next : tie.Need-add-next Inv-loop μ-loop
+add-next c = search needs
+
+loop-less : tie.Need-loop-less Inv-loop μ-loop
+loop-less c = search needs
+
+loop-again : tie.Need-loop-again Inv-loop μ-loop
+loop-again c =
+    let turn = c .before .before .before .before .before in
+    let found = c .before .before in
+    let digit = sym (found .before .is-digit .ensures) ∙ found .if1 .taken in
+    rw (c .digit-value .ensures .0)
+    (reading-on _ (omega (arith, c .before .if2 .left)) (turn .loop-test .taken) digit
+    (turn .before .loop .inv))
+
+returns-2 : tie.Need-returns-2 Inv-loop μ-loop
+returns-2 c =
+    let turn = c .before .before .before in
+    let other = sym (c .before .is-digit .ensures) ∙ c .if1 .left in
+    reading-stop _ (turn .loop-test .taken) other (turn .before .loop .inv)
+
+returns-3 : tie.Need-returns-3 Inv-loop μ-loop
+returns-3 c = reading-end _ (c .loop-test .left) (c .before .loop .inv)
+
+pub more-digits-spec : {M : Type 1} → statement M
+more-digits-spec =
+    tie.close
+    (tie.spec
+    Inv-loop
+    μ-loop
+    loop-holds
+    shared-slice-read-byte
+    is-digit-requires
+    no-number-requires
+    returns
+    mul-value
+    digit-value-requires
+    add-value
+    sub-more
+    add-next
+    loop-less
+    loop-again
+    returns-2
+    returns-3)

@@ -1,0 +1,51 @@
+-- The digits are written where they fit, and otherwise nothing is.
+use native.Mathlib.Omega.{arith}
+use Prim.Native.Nat.{_+_, _≤_}
+use lib.ListN.{length}
+use Rattle.model.specs.Decimal.{decimal}
+use Rattle.worklist.proofs.WritingLaws.{not-written, all-written}
+use borrow.Author.Needs.{needs}
+use Rattle.worklist.proofs.write_decimal.Statement.{statement}
+use Rattle.worklist.proofs.write_decimal.Tie as tie
+
+count-decimal-requires : tie.Need-count-decimal-requires
+count-decimal-requires c κs = search needs
+
+returns : tie.Need-returns
+returns c =
+    let args = c .before .before .before .args in
+    not-written (args .n) (args .at) (args .bytes .now) (omega arith)
+
+sub-if2 : tie.Need-sub-if2
+sub-if2 c = search needs
+
+returns-2 : tie.Need-returns-2
+returns-2 c =
+    let args = c .before .before .before .before .args in
+    not-written (args .n) (args .at) (args .bytes .now)
+    (omega (arith, c .before .before .count-decimal .ensures))
+
+put-digits-requires : tie.Need-put-digits-requires
+put-digits-requires c κs = search needs
+
+same-length : tie.Need-same-length
+same-length c = search needs
+
+returns-3 : tie.Need-returns-3
+returns-3 c =
+    let args = c .before .before .before .before .before .before .before .before .args in
+    all-written (args .n) (args .at) (args .bytes .now) _ _
+    (omega (arith, c .before .before .before .before .before .before .count-decimal .ensures))
+    (c .before .before .put-digits .ensures)
+
+pub write-decimal-spec : {M : Type 1} → statement M
+write-decimal-spec =
+    tie.close
+    (tie.spec
+    count-decimal-requires
+    returns
+    sub-if2
+    returns-2
+    put-digits-requires
+    same-length
+    returns-3)

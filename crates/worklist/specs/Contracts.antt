@@ -1,0 +1,100 @@
+-- The contracts of reading and writing decimal numbers and lines.
+use mathlib.Core.Path.{_≡_}
+use mathlib.Core.Bool.{Bool, false, not}
+use mathlib.Core.List.{List, [], _∷_, _++_}
+use Prim.Native.Nat.{ℕ, _+_, _≤_, _<_}
+use lib.Dec.{leb}
+use lib.ListN.{length, take, drop}
+use Rattle.worklist.specs.declared.NumberRead.{NumberRead}
+use Rattle.worklist.specs.declared.ThreeRead.{ThreeRead}
+use Rattle.worklist.specs.declared.LineRead.{LineRead}
+use Rattle.model.specs.Choice.{if_then_else_}
+use Rattle.model.specs.Refusals.{when, malformedLine}
+use Rattle.model.specs.Decimal.{Number, noNumber, number, moreDigits, readNumber, decimal}
+use Rattle.model.specs.Lines.{Fields, malformed, fields, beforeMark, readField, readFieldsTo, readLine}
+
+-- ---- Reading
+
+-- The number that an answer of the reader stands for, with the bytes after it.
+abbrev pub numberIn : List ℕ → NumberRead → Number
+numberIn bytes answer =
+    if answer .found then number (answer .value) (drop (answer .next) bytes) else noNumber
+
+-- The answer where no number stands.
+abbrev pub notRead : NumberRead
+notRead = record { found = false; value = 0; next = 0 }
+
+-- The answer is the definition's number; it fits seven digits and ends within the bytes.
+pub record NumberSays (bytes : List ℕ) (expected : Number) (answer : NumberRead) : Type 0 where
+  pub is : numberIn bytes answer ≡ expected
+  pub within : answer .next ≤ length bytes
+  pub small : answer .value < 10000000
+
+-- A number that was read, ended by a mark.
+abbrev pub endedNumber : ℕ → List ℕ → NumberRead → Number
+endedNumber mark bytes answer = beforeMark mark (number (answer .value) (drop (answer .next) bytes))
+
+-- The answer where no three fields stand.
+abbrev pub noThree : ThreeRead
+noThree = record { found = false; first = 0; second = 0; third = 0; next = 0 }
+
+-- What each function reads: the digits after a first one, a number, a number that was read with the
+-- mark after it, and a field, at a place of the bytes.
+abbrev pub DigitsSay : List ℕ → ℕ → ℕ → NumberRead → Type 0
+DigitsSay bytes start first answer =
+    NumberSays bytes (moreDigits 6 first (drop start bytes)) answer
+
+abbrev pub NumberAt : List ℕ → ℕ → NumberRead → Type 0
+NumberAt bytes at answer = NumberSays bytes (readNumber (drop at bytes)) answer
+
+abbrev pub EndedSays : ℕ → List ℕ → NumberRead → NumberRead → Type 0
+EndedSays mark bytes begun answer = NumberSays bytes (endedNumber mark bytes begun) answer
+
+abbrev pub FieldAt : ℕ → List ℕ → ℕ → NumberRead → Type 0
+FieldAt mark bytes at answer = NumberSays bytes (readField mark (drop at bytes)) answer
+
+-- The fields that an answer of the reader stands for, with the bytes after them.
+abbrev pub threeIn : List ℕ → ThreeRead → Fields
+threeIn bytes answer =
+    if answer .found
+    then fields (answer .first ∷ answer .second ∷ answer .third ∷ []) (drop (answer .next) bytes)
+    else malformed
+
+-- The answer is the definition's fields; it ends within the bytes, and is all zeros if malformed.
+pub record ThreeSays (bytes : List ℕ) (expected : Fields) (answer : ThreeRead) : Type 0 where
+  pub is : threeIn bytes answer ≡ expected
+  pub within : answer .next ≤ length bytes
+  pub zeros : answer .found ≡ false → answer ≡ noThree
+
+-- Three fields at a place of the bytes.
+abbrev pub ThreeAt : ℕ → List ℕ → ℕ → ThreeRead → Type 0
+ThreeAt last bytes at answer = ThreeSays bytes (readFieldsTo last 3 (drop at bytes)) answer
+
+-- The line test: 13 for a malformed first line; its arrival and the bytes it takes, all zeros if
+-- it is malformed.
+pub record LineSays (bytes : List ℕ) (answer : LineRead) : Type 0 where
+  pub refusal : answer .refusal ≡ when (not (readLine bytes .wellFormed)) malformedLine
+  pub arrival : answer .arrival ≡ readLine bytes .arrival
+  pub used : answer .used ≡ readLine bytes .used
+
+-- ---- Writing
+
+-- Whether a number's digits fit from a place on.
+abbrev pub fits : ℕ → ℕ → List ℕ → Bool
+fits n place bytes = leb (place + length (decimal n)) (length bytes)
+
+-- Bytes with others written over them from a place on.
+abbrev pub writtenAt : ℕ → List ℕ → List ℕ → List ℕ
+writtenAt place written bytes =
+    take place bytes ++ written ++ drop (place + length written) bytes
+
+-- The digits of a number written from a place on where they fit, and how many they are.
+pub record DigitsPut (n place : ℕ) (before after : List ℕ) (answer : ℕ) : Type 0 where
+  pub count : answer ≡ length (decimal n)
+  pub bytes : after ≡ writtenAt place (decimal n) before
+
+-- The digits of a number written from a place on, and how many they are; where they don't fit,
+-- nothing is written and the answer is 0.
+pub record DecimalSays (n place : ℕ) (before after : List ℕ) (answer : ℕ) : Type 0 where
+  pub count : answer ≡ (if fits n place before then length (decimal n) else 0)
+  pub bytes : after ≡ (if fits n place before then writtenAt place (decimal n) before else before)

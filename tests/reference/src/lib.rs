@@ -1,0 +1,15 @@
+//! A separate implementation of document 01: sites that watch a stream of
+//! arrivals, a coordinator that knows its heavy hitters and one quantile, and
+//! the messages between them.
+//!
+//! Every public call takes its numbers as any bits. What does not pass is
+//! refused by its number, and a refused call changes nothing.
+
+pub mod coordinator;
+pub mod drawtrack;
+pub mod message;
+pub mod network;
+pub mod refusal;
+pub mod settings;
+pub mod site;
+pub mod worklist;

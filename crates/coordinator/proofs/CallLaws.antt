@@ -1,17 +1,17 @@
 -- The entry points: their chains of refusals, and what they hand back by these.
 --
---   Cleared, cleared-start, cleared-on, cleared-end    the walk that clears the memory
+--   Cleared, cleared-on                                the walk that clears the memory
+--   fresh-memory                                       the fresh coordinator is zeros alone
 --   start-long, step-asks, announce-asks               what an accepted call may hand to a step
 --   hands-refused, hands-accepted                      the record `Hands`
 use mathlib.Core.Path.{_≡_, refl, ap, sym, _∙_}
 use mathlib.Core.List.{List, _++_}
 use Prim.Native.Nat.{ℕ, suc, _+_, _≤_, _<_}
-use native.Mathlib.Numerals.{add-one}
 use native.Mathlib.Omega.{arith}
 use lib.Dec.{ltb}
 use borrow.Author.Tests.{ltb-false}
-use lib.ListN.{length, set, drop, replicate, length-replicate, replicate-append-replicate}
-use lib.Seq.{drop-cons, set-at, append-snoc}
+use lib.ListN.{length, set, replicate, length-set, replicate-append-replicate}
+use Rattle.laws.proofs.FlatMemory.{filled-on}
 use Rattle.model.specs.declared.Settings.{Settings}
 use Rattle.model.specs.declared.Message.{Message}
 use Rattle.model.specs.declared.CoordinatorRecord.{CoordinatorRecord}
@@ -32,35 +32,26 @@ use Rattle.coordinator.specs.Calls.{Hands, startRefusal, receiveRefusal,
 use Rattle.coordinator_tests.proofs.Chains.{accepts, refuses}
 use Rattle.coordinator_tests.proofs.ReadyLaws.{tested, ready-of-consistent}
 
--- ---- Memory cleared from its first place on
+-- ---- The fresh coordinator in memory
 
-pub record Cleared (before now : List ℕ) (i : ℕ) : Type 0 where
-  pub cleared : now ≡ replicate i 0 ++ drop i before
+-- While the memory is cleared: zeros up to place i, and from there the numbers as they were.
+pub record Cleared (before now : List ℕ) (count i : ℕ) : Type 0 where
+  pub place : i ≤ count
+  pub same-length : length now ≡ length before
+  pub cleared : now ≡ overwrite (replicate i 0) before
 
 module _ (before : List ℕ) where
-  pub cleared-start : Cleared before before 0
-  cleared-start = record { cleared = refl }
-
-  -- Place i is the first of what was left.
-  pub cleared-on : (now : List ℕ) (i : ℕ)
-      → Cleared before now i
-      → i < length before
-      → Cleared before (set now i 0) (i + 1)
-  cleared-on now i so-far inside = record {
+  pub cleared-on : (now : List ℕ) (count i : ℕ)
+      → Cleared before now count i
+      → i < count
+      → count ≤ length before
+      → Cleared before (set now i 0) count (i + 1)
+  cleared-on now count i so-far more fits = record {
+    place = omega arith;
+    same-length = length-set now i 0 ∙ so-far .same-length;
     cleared = ap (λ (l : List ℕ). set l i 0) (so-far .cleared)
-        ∙ ap (λ (l : List ℕ). set (replicate i 0 ++ l) i 0) (drop-cons before i 0 inside)
-        ∙ set-at (replicate i 0) _ _ 0 i (length-replicate i 0)
-        ∙ sym (append-snoc (replicate i 0) 0 (drop (suc i) before))
-        ∙ ap (λ (l : List ℕ). l ++ drop (suc i) before) (replicate-append-replicate i 1 0)
-        ∙ ap (λ (n : ℕ). replicate (i + 1) 0 ++ drop n before) (sym (add-one i));
+        ∙ filled-on before i 0 (omega arith);
   }
-
-  pub cleared-end : (now : List ℕ) (i : ℕ)
-      → Cleared before now i
-      → now ≡ overwrite (replicate i 0) before
-  cleared-end now i so-far =
-      so-far .cleared
-      ∙ ap (λ (n : ℕ). replicate i 0 ++ drop n before) (sym (length-replicate i 0))
 
   -- The fresh coordinator is zeros alone.
   pub fresh-memory : (settings : Settings)

@@ -12,7 +12,7 @@ use native.Mathlib.Omega.{arith}
 use lib.Dec.{eqb, ltb, leb}
 use lib.ListN.{length, take, drop}
 use borrow.Author.Tests.{leb-true, lt-ltb, le-ltb, eq-eqb, ne-eqb}
-use Rattle.laws.proofs.Tests.{both-true}
+use Rattle.laws.proofs.Tests.{both-true, and-false}
 use Rattle.model.specs.declared.Settings.{Settings}
 use Rattle.model.specs.declared.CoordinatorRecord.{CoordinatorRecord}
 use Rattle.model.specs.Refusals.{when, _orElse_, accepted, memoryTooShort, memoryInconsistent}
@@ -26,10 +26,6 @@ use Rattle.coordinator_steps.proofs.StepLaws.{valueCount-is}
 use Rattle.coordinator_tests.proofs.Chains.{refused-first, accepted-first}
 
 -- ---- The parts of the test
-
-and-false : (test : Bool) → (test && false) ≡ false
-and-false true = refl
-and-false false = refl
 
 last-four : (s e h l : Bool) → (s && e && h && l) ≡ (l && (e && h && s))
 last-four true e h true = refl

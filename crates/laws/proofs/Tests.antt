@@ -2,7 +2,6 @@
 --
 --   both-true        both tests of a conjunction hold
 --   neither-of-or    neither test of a disjunction holds that fails
---   or-false         a disjunction with a test that fails
 --   false-of-not     what a test's negation says of it: it fails
 --   true-of-not      and it holds
 --   ltb-is-not-leb   b < a is the negation of a ≤ b, as tests

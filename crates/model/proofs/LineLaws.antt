@@ -19,7 +19,8 @@ module _ (last : ℕ) (bytes : List ℕ) where
 
   pub fields-more : (more value : ℕ) (rest : List ℕ)
       → readField semicolon bytes ≡ number value rest
-      → readFieldsTo last (suc (suc more)) bytes ≡ withField value (readFieldsTo last (suc more) rest)
+      → readFieldsTo last (suc (suc more)) bytes
+      ≡ withField value (readFieldsTo last (suc more) rest)
   fields-more more value rest here = rw (here, readFieldsTo)
 
   pub fields-more-none : (more : ℕ)

@@ -221,6 +221,7 @@ read-back-fields n (next ∷ ns) rest small =
     ap (readFields (length (n ∷ (next ∷ ns))))
     (append-assoc (decimal n ++ (semicolon ∷ [])) others rest
     ∙ append-assoc (decimal n) (semicolon ∷ []) (others ++ rest))
-    ∙ fields-more lineFeed (decimal n ++ (semicolon ∷ (others ++ rest))) (length ns) n (others ++ rest)
+    ∙ fields-more lineFeed (decimal n ++ (semicolon ∷ (others ++ rest))) (length ns) n
+    (others ++ rest)
     (read-back-field semicolon n (others ++ rest) below refl)
     ∙ ap (withField n) (read-back-fields next ns rest (both .second-true))

@@ -58,7 +58,8 @@ module _ (bytes : List ℕ) (at last : ℕ) (first : NumberRead)
           three-none bytes
           (after-first
           ∙ ap (withField (first .value))
-          (fields-more-none last (drop (first .next) bytes) 0 (number-missing reads-second missing)))
+          (fields-more-none last (drop (first .next) bytes) 0
+          (number-missing reads-second missing)))
 
       module _ (found-second : second .found ≡ true) (third : NumberRead)
           (reads-third : NumberSays bytes (readField last (drop (second .next) bytes)) third) where
@@ -78,7 +79,8 @@ module _ (bytes : List ℕ) (at last : ℕ) (first : NumberRead)
             three-none bytes
             (after-second
             ∙ ap (λ (others : Fields). withField (first .value) (withField (second .value) others))
-            (fields-last-none last (drop (second .next) bytes) (number-missing reads-third missing)))
+            (fields-last-none last (drop (second .next) bytes)
+            (number-missing reads-third missing)))
 
         pub three-found : third .found ≡ true
             → ThreeSays bytes (readFieldsTo last 3 (drop at bytes))
@@ -92,7 +94,8 @@ module _ (bytes : List ℕ) (at last : ℕ) (first : NumberRead)
         three-found found = record {
           is = sym
               (after-second
-              ∙ ap (λ (others : Fields). withField (first .value) (withField (second .value) others))
+              ∙ ap
+              (λ (others : Fields). withField (first .value) (withField (second .value) others))
               (fields-last last (drop (second .next) bytes) _ _ (number-found reads-third found)));
           within = reads-third .within;
           zeros = λ impossible. absurd (true≢false impossible);

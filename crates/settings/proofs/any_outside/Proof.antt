@@ -1,5 +1,5 @@
--- Some setting is outside its range: the ranges before it hold, and its own fails. Each place of the
--- code where a range was passed is named by it.
+-- Some setting is outside its range: the ranges before it hold, and its own fails. Each place of
+-- the code where a range was passed is named by it.
 use borrow.Author.Needs.{needs}
 use Rattle.model.specs.Choice.{between}
 use Rattle.laws.proofs.Tests.{false-of-not, true-of-not}

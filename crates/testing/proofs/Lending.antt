@@ -6,7 +6,7 @@
 --   exported-handed, exported-kept
 use Prim.Native.Nat.{ℕ, _≤_}
 use mathlib.Core.Path.{_≡_, sym, _∙_}
-use mathlib.Core.Bool.{Bool, true, false, _&&_}
+use mathlib.Core.Bool.{Bool, true, false, _&&_, false≢true}
 use mathlib.Core.List.{List}
 use lib.ListN.{length, getD}
 use lib.Dec.{leb}
@@ -68,18 +68,16 @@ pub exported-handed : (fits : Bool) (Handed Unchanged : Type 0)
     → fits ≡ true
     → Handed
     → Exported fits Handed Unchanged
-exported-handed false Handed Unchanged fit handed = absurd fit
-exported-handed true Handed Unchanged fit handed = record {
+exported-handed fits Handed Unchanged fit handed = record {
   handed = λ _. handed;
-  kept = λ unfit. absurd unfit;
+  kept = λ unfit. absurd (false≢true (sym unfit ∙ fit));
 }
 
 pub exported-kept : (fits : Bool) (Handed Unchanged : Type 0)
     → fits ≡ false
     → Unchanged
     → Exported fits Handed Unchanged
-exported-kept true Handed Unchanged unfit kept = absurd unfit
-exported-kept false Handed Unchanged unfit kept = record {
-  handed = λ fit. absurd fit;
+exported-kept fits Handed Unchanged unfit kept = record {
+  handed = λ fit. absurd (false≢true (sym unfit ∙ fit));
   kept = λ _. kept;
 }

@@ -10,15 +10,17 @@ use mathlib.Core.Path.{_≡_}
 use mathlib.Core.Bool.{Bool, true, false, _&&_}
 use mathlib.Core.List.{List, [], _∷_, map}
 use Prim.Native.Nat.{ℕ}
-use lib.IntN.{ℤ}
+use lib.IntN.{ℤ, pos}
 use lib.Dec.{leb}
 use lib.ListN.{length}
 use Rattle.model.specs.declared.Settings.{Settings}
 use Rattle.model.specs.declared.Arrival.{Arrival}
 use Rattle.model.specs.declared.Message.{Message}
 use Rattle.model.specs.declared.CoordinatorRecord.{CoordinatorRecord}
+use Rattle.model.specs.Choice.{if_then_else_, isZero}
+use Rattle.model.specs.Reading.{margin}
 use Rattle.model.specs.SiteMemory.{overwrite}
-use Rattle.model.specs.CoordinatorMemory.{coordinatorMemoryRefusal}
+use Rattle.model.specs.CoordinatorMemory.{coordinatorIn, coordinatorMemoryRefusal}
 use Rattle.site_steps.specs.declared.Observed.{Observed}
 use Rattle.site_steps.specs.declared.Answered.{Answered}
 use Rattle.site.specs.declared.StartedSites.{StartedSites}
@@ -27,9 +29,8 @@ use Rattle.coordinator.specs.declared.StartedCoordinator.{StartedCoordinator}
 use Rattle.coordinator.specs.declared.Received.{Received}
 use Rattle.coordinator.specs.Calls as coordinator
 use Rattle.reading.specs.declared.Listed.{Listed}
-use Rattle.reading.specs.declared.Margin.{Margin}
 use Rattle.reading.specs.declared.QuantileRead.{QuantileRead}
-use Rattle.reading.specs.Contracts.{listRefusal, marginRefusal, Lists, ReadsMargin, ReadsQuantile}
+use Rattle.reading.specs.Contracts.{listRefusal, marginRefusal, Lists, ReadsQuantile}
 use Rattle.testing.specs.Numbers.{settingsFrom, siteFrom, siteNumbers, sitesNumbers, oneMessage, twoMessages, coordinatorFits, coordinatorFrom, coordinatorNumbers, quantileNumbers}
 
 -- ---- What is lent
@@ -186,25 +187,26 @@ ListExported settings numbers memory list out answer =
     (HandsList (settingsFrom settings) (coordinatorFrom numbers) memory list out answer)
     (Kept (list ∷ (out ∷ [])) answer)
 
--- The margin, with its sign.
-pub record HandsMargin (settings : Settings) (c : CoordinatorRecord) (item : ℕ) (memory : List ℕ)
-    (after : ℤ) (answer : ℕ) : Type 0 where
-  pub refusal : answer ≡ marginRefusal settings c item memory
-  pub read : Margin
-  pub says : ReadsMargin settings c item memory read
-  pub margin-is : after ≡ read .margin
-
--- Refused by the boundary, with the lent margin as it was.
-pub record MarginKept (before after : ℤ) (answer : ℕ) : Type 0 where
-  pub refused : answer ≡ unfit
-  pub unchanged : after ≡ before
-
-abbrev pub MarginExported : List ℕ → List ℕ → ℕ → List ℕ → ℤ → ℤ → ℕ → Type 0
-MarginExported settings numbers item memory before after answer =
+-- The refusal of the margin, and the margin with its sign: two calls, each with one answer.
+abbrev pub MarginRefusalExported : List ℕ → List ℕ → ℕ → List ℕ → ℕ → Type 0
+MarginRefusalExported settings numbers item memory answer =
     Exported
     (coordinatorLent settings numbers 0 0)
-    (HandsMargin (settingsFrom settings) (coordinatorFrom numbers) item memory after answer)
-    (MarginKept before after answer)
+    (answer ≡ marginRefusal (settingsFrom settings) (coordinatorFrom numbers) item memory)
+    (answer ≡ unfit)
+
+abbrev pub marginRead : Settings → CoordinatorRecord → ℕ → List ℕ → ℤ
+marginRead settings c item memory =
+    if isZero (marginRefusal settings c item memory)
+    then margin settings (coordinatorIn settings c memory) item
+    else pos 0
+
+abbrev pub MarginExported : List ℕ → List ℕ → ℕ → List ℕ → ℤ → Type 0
+MarginExported settings numbers item memory answer =
+    Exported
+    (coordinatorLent settings numbers 0 0)
+    (answer ≡ marginRead (settingsFrom settings) (coordinatorFrom numbers) item memory)
+    (answer ≡ pos 0)
 
 -- The quantile: two numbers.
 pub record HandsQuantile (settings : Settings) (c : CoordinatorRecord) (memory : List ℕ)

@@ -2,7 +2,7 @@
 ghost use mathlib.Core.Path.{_≡_};
 ghost use lib.ListN.{length};
 ghost use Rattle.model.specs.Messages.{message};
-ghost use Rattle.testing.specs.Calls.{lent, StartCoordinatorExported, CoordinatorReceiveExported, AnnouncementExported, ListExported, MarginExported, QuantileExported};
+ghost use Rattle.testing.specs.Calls.{lent, StartCoordinatorExported, CoordinatorReceiveExported, AnnouncementExported, ListExported, MarginRefusalExported, MarginExported, QuantileExported};
 use crate::lends::UNFIT;
 use crate::lends::coordinator_lent;
 use crate::lends::places_lent;
@@ -105,24 +105,40 @@ pub extern "C" fn testing_list_heavy_hitters(
     UNFIT
 }
 
-// `reading::read_margin`: the margin goes to `margin`.
+// The refusal of `reading::read_margin`.
 #[no_mangle]
 pub extern "C" fn testing_read_margin(
     settings: &[u32],
     numbers: &[u64],
     item: u32,
     memory: &[u64],
-    margin: &mut i64,
 ) -> u32
-    ensures { λ r. ⌜ MarginExported (now (settings .entry)) (now (numbers .entry)) item (now (memory .entry)) (now (margin .entry)) (now (margin .exit)) r ⌝ }
+    ensures { λ r. ⌜ MarginRefusalExported (now (settings .entry)) (now (numbers .entry)) item (now (memory .entry)) r ⌝ }
 {
     if coordinator_lent(settings, numbers, 0, 0) {
         let before = coordinator_from(numbers);
         let read = reading::read_margin(settings_from(settings), before, item, memory);
-        *margin = read.margin;
         return read.refusal;
     }
     UNFIT
+}
+
+// The margin of `reading::read_margin`; 0 where what is lent does not fit.
+#[no_mangle]
+pub extern "C" fn testing_margin(
+    settings: &[u32],
+    numbers: &[u64],
+    item: u32,
+    memory: &[u64],
+) -> i64
+    ensures { λ r. ⌜ MarginExported (now (settings .entry)) (now (numbers .entry)) item (now (memory .entry)) r ⌝ }
+{
+    if coordinator_lent(settings, numbers, 0, 0) {
+        let before = coordinator_from(numbers);
+        let read = reading::read_margin(settings_from(settings), before, item, memory);
+        return read.margin;
+    }
+    0
 }
 
 // `reading::read_quantile`: whether there is one, and its value, go to `out`.

@@ -1,52 +1,74 @@
+-- What is lent fits, and the items are listed or refused; or nothing is changed.
+use mathlib.Core.Path.{refl, sym, _∙_}
+use mathlib.Core.List.{[], _∷_}
+use lib.ListN.{length}
+use Rattle.testing.proofs.Lending.{coordinator-is, exported-handed, exported-kept}
+use Rattle.testing.proofs.Writing.{written}
 use borrow.Author.Needs.{needs}
 use Rattle.testing.proofs.coordinators.testing_list_heavy_hitters.Statement.{statement}
 use Rattle.testing.proofs.coordinators.testing_list_heavy_hitters.Tie as tie
-use Rattle.testing.proofs.coordinators.testing_list_heavy_hitters.Reads as reads
-use Rattle.testing.proofs.coordinators.testing_list_heavy_hitters.Lts as lts
-use Rattle.reading.proofs.list_heavy_hitters.Reads as list-heavy-hitters-reads
-use Rattle.testing.proofs.lends.coordinator_lent.Reads as coordinator-lent-reads
-use Rattle.testing.proofs.numbers.coordinator_from.Reads as coordinator-from-reads
-use Rattle.testing.proofs.numbers.settings_from.Reads as settings-from-reads
 
--- src/coordinators.rt:99:8
 coordinator-lent-requires : tie.Need-coordinator-lent-requires
 coordinator-lent-requires c κs = search needs
 
--- src/coordinators.rt:100:13
 coordinator-from-requires : tie.Need-coordinator-from-requires
-coordinator-from-requires c κs = ?
+coordinator-from-requires c κs =
+    let at-if1 = c in
+    let a = at-if1 .before .before .before .before .before .before .before .args in
+    let lends = coordinator-is (a .settings .now) (a .numbers .now) (length (a .out .now)) 1
+        (sym (at-if1 .before .coordinator-lent .ensures) ∙ at-if1 .if1 .taken) in
+    (lends .numbers-long, lends .held)
 
--- src/coordinators.rt:101:50
 settings-from-requires : tie.Need-settings-from-requires
-settings-from-requires c κs = ?
+settings-from-requires c κs =
+    let at-if1 = c .before in
+    let a = at-if1 .before .before .before .before .before .before .before .args in
+    (coordinator-is (a .settings .now) (a .numbers .now) (length (a .out .now)) 1
+    (sym (at-if1 .before .coordinator-lent .ensures) ∙ at-if1 .if1 .taken)) .lends .settings-long
 
--- src/coordinators.rt:101:13
 list-heavy-hitters-requires : tie.Need-list-heavy-hitters-requires
 list-heavy-hitters-requires c κs = search needs
 
--- src/coordinators.rt:102:18
 cast-out : tie.Need-cast-out
 cast-out c = search needs
 
--- src/coordinators.rt:102:9
 slice-write-out : tie.Need-slice-write-out
-slice-write-out c = ?
+slice-write-out c =
+    let at-if1 = c .before .before .before .before .before .before .before in
+    let a = at-if1 .before .before .before .before .before .before .before .args in
+    (coordinator-is (a .settings .now) (a .numbers .now) (length (a .out .now)) 1
+    (sym (at-if1 .before .coordinator-lent .ensures) ∙ at-if1 .if1 .taken)) .lends .places-enough
 
--- src/coordinators.rt:103:9
 same-length : tie.Need-same-length
 same-length c = search needs
 
--- src/coordinators.rt:103:9
 same-length-2 : tie.Need-same-length-2
 same-length-2 c = search needs
 
--- src/coordinators.rt:103:9
 returns : tie.Need-returns
-returns c = ?
+returns c =
+    let at-list-heavy-hitters = c .before .before .before in
+    let at-settings-from = at-list-heavy-hitters .before .before in
+    let at-coordinator-from = at-settings-from .before in
+    let at-if1 = at-coordinator-from .before in
+    let a = at-if1 .before .before .before .before .before .before .before .args in
+    let says =
+        rw (at-settings-from .settings-from .ensures, at-coordinator-from .coordinator-from .ensures)
+        at (at-list-heavy-hitters .list-heavy-hitters .ensures) in
+    exported-handed _ _ _ (sym (at-if1 .before .coordinator-lent .ensures) ∙ at-if1 .if1 .taken)
+    record {
+      refusal = says .refusal;
+      listed = at-list-heavy-hitters .list-heavy-hitters .result;
+      says = says;
+      out-is =
+          written (at-list-heavy-hitters .list-heavy-hitters .result .count ∷ []) (a .out .now)
+          (coordinator-is (a .settings .now) (a .numbers .now) (length (a .out .now)) 1 (sym (at-if1 .before .coordinator-lent .ensures) ∙ at-if1 .if1 .taken) .lends .places-enough);
+    }
 
--- src/coordinators.rt:89:1
 returns-2 : tie.Need-returns-2
-returns-2 c = ?
+returns-2 c =
+    exported-kept _ _ _ (sym (c .before .coordinator-lent .ensures) ∙ c .if1 .left)
+    (record { refused = refl; unchanged = refl })
 
 pub testing-list-heavy-hitters-spec : {M : Type 1} → statement M
 testing-list-heavy-hitters-spec =

@@ -1,44 +1,58 @@
+-- The settings and the places fit, and the coordinator is started; or nothing is changed.
+use mathlib.Core.Path.{refl, sym, _∙_}
+use lib.ListN.{length}
+use Rattle.testing.proofs.Lending.{places-are, exported-handed, exported-kept}
 use borrow.Author.Needs.{needs}
 use Rattle.testing.proofs.coordinators.testing_start_coordinator.Statement.{statement}
 use Rattle.testing.proofs.coordinators.testing_start_coordinator.Tie as tie
-use Rattle.testing.proofs.coordinators.testing_start_coordinator.Reads as reads
-use Rattle.testing.proofs.coordinators.testing_start_coordinator.Lts as lts
-use Rattle.coordinator.proofs.start_coordinator.Reads as start-coordinator-reads
-use Rattle.testing.proofs.lends.places_lent.Reads as places-lent-reads
-use Rattle.testing.proofs.numbers.settings_from.Reads as settings-from-reads
-use Rattle.testing.proofs.numbers.write_coordinator.Reads as write-coordinator-reads
 
--- src/coordinators.rt:27:8
 places-lent-requires : tie.Need-places-lent-requires
 places-lent-requires c κs = search needs
 
--- src/coordinators.rt:28:54
 settings-from-requires : tie.Need-settings-from-requires
-settings-from-requires c κs = ?
+settings-from-requires c κs =
+    let at-if1 = c in
+    let a = at-if1 .before .before .before .before .before .args in
+    (places-are (a .settings .now) (length (a .numbers .now)) 10
+    (sym (at-if1 .before .places-lent .ensures) ∙ at-if1 .if1 .taken)) .settings-long
 
--- src/coordinators.rt:28:13
 start-coordinator-requires : tie.Need-start-coordinator-requires
 start-coordinator-requires c κs = search needs
 
--- src/coordinators.rt:30:9
 write-coordinator-requires : tie.Need-write-coordinator-requires
-write-coordinator-requires c κs = ?
+write-coordinator-requires c κs =
+    let at-if1 = c .before .before .before .before .before .before .before in
+    let a = at-if1 .before .before .before .before .before .args in
+    (places-are (a .settings .now) (length (a .numbers .now)) 10
+    (sym (at-if1 .before .places-lent .ensures) ∙ at-if1 .if1 .taken)) .places-enough
 
--- src/coordinators.rt:31:9
 same-length : tie.Need-same-length
 same-length c = search needs
 
--- src/coordinators.rt:31:9
 same-length-2 : tie.Need-same-length-2
 same-length-2 c = search needs
 
--- src/coordinators.rt:31:9
 returns : tie.Need-returns
-returns c = ?
+returns c =
+    let at-write-coordinator = c .before .before in
+    let at-start-coordinator = at-write-coordinator .before .before .before .before .before in
+    let at-settings-from = at-start-coordinator .before .before in
+    let at-if1 = at-settings-from .before in
+    let says =
+        rw (at-settings-from .settings-from .ensures)
+        at (at-start-coordinator .start-coordinator .ensures) in
+    exported-handed _ _ _ (sym (at-if1 .before .places-lent .ensures) ∙ at-if1 .if1 .taken)
+    record {
+      refusal = says .refusal;
+      started = at-start-coordinator .start-coordinator .result;
+      says = says;
+      numbers-are = at-write-coordinator .write-coordinator .ensures;
+    }
 
--- src/coordinators.rt:19:1
 returns-2 : tie.Need-returns-2
-returns-2 c = ?
+returns-2 c =
+    exported-kept _ _ _ (sym (c .before .places-lent .ensures) ∙ c .if1 .left)
+    (record { refused = refl; unchanged = refl })
 
 pub testing-start-coordinator-spec : {M : Type 1} → statement M
 testing-start-coordinator-spec =

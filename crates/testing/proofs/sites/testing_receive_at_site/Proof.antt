@@ -1,58 +1,78 @@
+-- What is lent fits, and the message is taken or refused; or nothing is changed.
+use mathlib.Core.Path.{refl, sym, _∙_}
+use lib.ListN.{length}
+use Rattle.testing.proofs.Lending.{site-is, exported-handed, exported-kept}
 use borrow.Author.Needs.{needs}
 use Rattle.testing.proofs.sites.testing_receive_at_site.Statement.{statement}
 use Rattle.testing.proofs.sites.testing_receive_at_site.Tie as tie
-use Rattle.testing.proofs.sites.testing_receive_at_site.Reads as reads
-use Rattle.testing.proofs.sites.testing_receive_at_site.Lts as lts
-use Rattle.site.proofs.receive.Reads as receive-reads
-use Rattle.testing.proofs.lends.site_lent.Reads as site-lent-reads
-use Rattle.testing.proofs.numbers.settings_from.Reads as settings-from-reads
-use Rattle.testing.proofs.numbers.site_from.Reads as site-from-reads
-use Rattle.testing.proofs.numbers.write_message.Reads as write-message-reads
-use Rattle.testing.proofs.numbers.write_site.Reads as write-site-reads
 
--- src/sites.rt:82:8
 site-lent-requires : tie.Need-site-lent-requires
 site-lent-requires c κs = search needs
 
--- src/sites.rt:89:38
 settings-from-requires : tie.Need-settings-from-requires
-settings-from-requires c κs = ?
+settings-from-requires c κs =
+    let at-if1 = c in
+    let a = at-if1 .before .before .before .before .before .before .before .args in
+    (site-is (a .settings .now) (a .site .now) (length (a .out .now)) 5
+    (sym (at-if1 .before .site-lent .ensures) ∙ at-if1 .if1 .taken)) .lends .settings-long
 
--- src/sites.rt:89:63
 site-from-requires : tie.Need-site-from-requires
-site-from-requires c κs = ?
+site-from-requires c κs =
+    let at-if1 = c .before .before in
+    let a = at-if1 .before .before .before .before .before .before .before .args in
+    (site-is (a .settings .now) (a .site .now) (length (a .out .now)) 5
+    (sym (at-if1 .before .site-lent .ensures) ∙ at-if1 .if1 .taken)) .site-long
 
--- src/sites.rt:89:13
 receive-requires : tie.Need-receive-requires
 receive-requires c κs = search needs
 
--- src/sites.rt:90:9
 write-site-requires : tie.Need-write-site-requires
-write-site-requires c κs = ?
+write-site-requires c κs =
+    let at-if1 = c .before .before .before .before .before in
+    let a = at-if1 .before .before .before .before .before .before .before .args in
+    (site-is (a .settings .now) (a .site .now) (length (a .out .now)) 5
+    (sym (at-if1 .before .site-lent .ensures) ∙ at-if1 .if1 .taken)) .site-long
 
--- src/sites.rt:91:9
 write-message-requires : tie.Need-write-message-requires
-write-message-requires c κs = ?
+write-message-requires c κs =
+    let at-if1 = c .before .before .before .before .before .before .before .before .before in
+    let a = at-if1 .before .before .before .before .before .before .before .args in
+    (site-is (a .settings .now) (a .site .now) (length (a .out .now)) 5
+    (sym (at-if1 .before .site-lent .ensures) ∙ at-if1 .if1 .taken)) .lends .places-enough
 
--- src/sites.rt:92:9
 same-length : tie.Need-same-length
 same-length c = search needs
 
--- src/sites.rt:92:9
 same-length-2 : tie.Need-same-length-2
 same-length-2 c = search needs
 
--- src/sites.rt:92:9
 returns : tie.Need-returns
-returns c = ?
+returns c =
+    let at-write-message = c .before .before in
+    let at-write-site = at-write-message .before .before .before .before in
+    let at-receive = at-write-site .before .before in
+    let at-site-from = at-receive .before in
+    let at-settings-from = at-site-from .before .before in
+    let at-if1 = at-settings-from .before in
+    let says =
+        rw (at-settings-from .settings-from .ensures, at-site-from .site-from .ensures)
+        at (at-receive .receive .ensures) in
+    exported-handed _ _ _ (sym (at-if1 .before .site-lent .ensures) ∙ at-if1 .if1 .taken)
+    record {
+      refusal = says .refusal;
+      answered = at-receive .receive .result;
+      says = says;
+      site-is = at-write-site .write-site .ensures;
+      out-is = at-write-message .write-message .ensures;
+    }
 
--- src/sites.rt:68:1
 same-length-3 : tie.Need-same-length-3
 same-length-3 c = search needs
 
--- src/sites.rt:68:1
 returns-2 : tie.Need-returns-2
-returns-2 c = ?
+returns-2 c =
+    exported-kept _ _ _ (sym (c .before .site-lent .ensures) ∙ c .if1 .left)
+    (record { refused = refl; unchanged = refl })
 
 pub testing-receive-at-site-spec : {M : Type 1} → statement M
 testing-receive-at-site-spec =

@@ -1,5 +1,7 @@
 -- What is lent fits, and the answer is the margin; or it is 0.
 use mathlib.Core.Path.{refl, sym, _∙_}
+use mir.Syntax.{w64}
+use mir.ValLaws.{toZ-ofZ}
 use Rattle.testing.proofs.Lending.{coordinator-is, exported-handed, exported-kept}
 use borrow.Author.Needs.{needs}
 use Rattle.testing.proofs.coordinators.testing_margin.Statement.{statement}
@@ -35,7 +37,8 @@ returns c =
     let says =
         rw (at-settings-from .settings-from .ensures, at-coordinator-from .coordinator-from .ensures)
         at (at-read-margin .read-margin .ensures) in
-    ?
+    exported-handed _ _ _ (sym (at-if1 .before .coordinator-lent .ensures) ∙ at-if1 .if1 .taken)
+    (toZ-ofZ w64 (at-read-margin .read-margin .result .margin) (record { sfits = c .struct-told .given .1 .0 .1 }) ∙ says .margin-is)
 
 returns-2 : tie.Need-returns-2
 returns-2 c =

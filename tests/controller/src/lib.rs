@@ -35,9 +35,8 @@ pub fn test_settings(n: Numbers) -> u32 {
 pub fn allowance(n: Numbers, arrivals: u64, before: u64) -> (u32, u64) {
     let mut messages = before;
     // SAFETY: the pointer is to a local that lives through the call.
-    let refusal = unsafe {
-        tracker_allowance(n[0], n[1], n[2], n[3], n[4], n[5], arrivals, &mut messages)
-    };
+    let refusal =
+        unsafe { tracker_allowance(n[0], n[1], n[2], n[3], n[4], n[5], arrivals, &mut messages) };
     (refusal, messages)
 }
 

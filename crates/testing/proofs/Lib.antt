@@ -1,0 +1,3 @@
+-- Laws that the proofs of the boundary share.
+pub mod Writing
+pub mod Lending

@@ -1,0 +1,3 @@
+-- The boundary's numbers, and what its calls promise.
+pub mod Numbers
+pub mod Calls

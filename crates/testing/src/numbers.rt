@@ -1,0 +1,269 @@
+// Records as plain numbers and back: what crosses the boundary.
+ghost use mathlib.Core.Path.{_≡_};
+ghost use Prim.Native.Nat.{_≤_, max};
+ghost use lib.ListN.{length};
+ghost use Rattle.model.specs.SiteMemory.{overwrite};
+ghost use Rattle.testing.specs.Numbers.{settingsFrom, siteFrom, siteNumbers, sitesNumbers, oneMessage, twoMessages, phaseFrom, phaseNumbers, foundNumbers, greatestHeld, coordinatorFits, coordinatorFrom, coordinatorNumbers, quantileNumbers};
+use model::CoordinatorRecord;
+use model::Message;
+use model::Phase;
+use model::Quantile;
+use model::Settings;
+use model::SiteRecord;
+use model::Sites;
+
+// How many numbers each record takes.
+pub const SETTINGS_NUMBERS: usize = 6;
+
+pub const SITE_NUMBERS: usize = 4;
+
+pub const SITES_NUMBERS: usize = 129;
+
+pub const COORDINATOR_NUMBERS: usize = 10;
+
+// The answer's numbers: how many messages go out, and four for each that may.
+pub const ONE_MESSAGE: usize = 5;
+
+pub const TWO_MESSAGES: usize = 9;
+
+// The settings of six numbers.
+pub fn settings_from(numbers: &[u32]) -> Settings
+    requires { ⌜ 6 ≤ length (now numbers) ⌝ }
+    ensures { λ r. ⌜ r ≡ settingsFrom (now (numbers .entry)) ⌝ }
+{
+    Settings {
+        sites: numbers[0],
+        epsilon: numbers[1],
+        phi: numbers[2],
+        rank: numbers[3],
+        capacity: numbers[4],
+        universe: numbers[5],
+    }
+}
+
+// The site's record of four numbers.
+pub fn site_from(numbers: &[u64]) -> SiteRecord
+    requires { ⌜ 4 ≤ length (now numbers) ⌝ }
+    ensures { λ r. ⌜ r ≡ siteFrom (now (numbers .entry)) ⌝ }
+{
+    SiteRecord {
+        arrivals: numbers[0],
+        pending: numbers[1],
+        threshold: numbers[2],
+        used: numbers[3],
+    }
+}
+
+// The four numbers of a site's record.
+pub fn write_site(numbers: &mut [u64], site: SiteRecord)
+    requires { ⌜ 4 ≤ length (now numbers) ⌝ }
+    ensures { λ r. ⌜ now (numbers .exit) ≡ overwrite (siteNumbers site) (now (numbers .entry)) ⌝ }
+{
+    numbers[0] = site.arrivals;
+    numbers[1] = site.pending;
+    numbers[2] = site.threshold;
+    numbers[3] = site.used;
+}
+
+// All records and the count of messages.
+pub fn write_sites(numbers: &mut [u64], sites: Sites)
+    requires { ⌜ 129 ≤ length (now numbers) ⌝ }
+    ensures { λ r. ⌜ now (numbers .exit) ≡ overwrite (sitesNumbers sites) (now (numbers .entry)) ⌝ }
+{
+    let mut i = 0;
+    while i < 32 {
+        let site = sites.records[i];
+        let at = 4 * i;
+        numbers[at] = site.arrivals;
+        numbers[at + 1] = site.pending;
+        numbers[at + 2] = site.threshold;
+        numbers[at + 3] = site.used;
+        i += 1;
+    }
+    numbers[128] = sites.messages;
+}
+
+// One message and how many there are.
+pub fn write_message(numbers: &mut [u64], count: u32, message: Message)
+    requires { ⌜ 5 ≤ length (now numbers) ⌝ }
+    ensures { λ r. ⌜ now (numbers .exit) ≡ overwrite (oneMessage count message) (now (numbers .entry)) ⌝ }
+{
+    numbers[0] = count as u64;
+    numbers[1] = message.kind as u64;
+    numbers[2] = message.site as u64;
+    numbers[3] = message.a;
+    numbers[4] = message.b;
+}
+
+// Two messages and how many there are.
+pub fn write_messages(numbers: &mut [u64], count: u32, first: Message, second: Message)
+    requires { ⌜ 9 ≤ length (now numbers) ⌝ }
+    ensures { λ r. ⌜ now (numbers .exit) ≡ overwrite (twoMessages count first second) (now (numbers .entry)) ⌝ }
+{
+    numbers[0] = count as u64;
+    numbers[1] = first.kind as u64;
+    numbers[2] = first.site as u64;
+    numbers[3] = first.a;
+    numbers[4] = first.b;
+    numbers[5] = second.kind as u64;
+    numbers[6] = second.site as u64;
+    numbers[7] = second.a;
+    numbers[8] = second.b;
+}
+
+// The five numbers of a phase.
+pub struct PhaseNumbers {
+    pub which: u64,
+    pub site: u32,
+    pub low: u32,
+    pub high: u32,
+    pub sum: u64,
+}
+
+// The larger of two numbers.
+fn larger(x: u64, y: u64) -> u64
+    ensures { λ r. ⌜ r ≡ max x y ⌝ }
+{
+    if x < y {
+        return y;
+    }
+    x
+}
+
+// Whether the numbers are a coordinator's record.
+pub fn coordinator_fits(numbers: &[u64]) -> bool
+    ensures { λ r. ⌜ r ≡ coordinatorFits (now (numbers .entry)) ⌝ }
+{
+    if numbers.len() < COORDINATOR_NUMBERS {
+        return false;
+    }
+    if 3 < numbers[5] {
+        return false;
+    }
+    let single = larger(numbers[3], numbers[4]);
+    let interval = larger(numbers[7], numbers[8]);
+    let phase = larger(numbers[6], interval);
+    larger(single, phase) <= 4294967295
+}
+
+// The phase of five numbers.
+fn phase_from(which: u64, site: u32, low: u32, high: u32, sum: u64) -> Phase
+    ensures { λ r. ⌜ r ≡ phaseFrom which site low high sum ⌝ }
+{
+    if which == 0 {
+        return Phase::Idle;
+    }
+    if which == 1 {
+        return Phase::Collecting(site);
+    }
+    if which == 2 {
+        return Phase::Probing(site, low, high, sum);
+    }
+    Phase::Announcing(site)
+}
+
+// The coordinator's record of ten numbers.
+pub fn coordinator_from(numbers: &[u64]) -> CoordinatorRecord
+    requires { ⌜ (10 ≤ length (now numbers)) × (greatestHeld (now numbers) ≤ 4294967295) ⌝ }
+    ensures { λ r. ⌜ r ≡ coordinatorFrom (now (numbers .entry)) ⌝ }
+{
+    let site = numbers[6] as u32;
+    let low = numbers[7] as u32;
+    let high = numbers[8] as u32;
+    let phase = phase_from(numbers[5], site, low, high, numbers[9]);
+    CoordinatorRecord {
+        total: numbers[0],
+        base: numbers[1],
+        threshold: numbers[2],
+        signals: numbers[3] as u32,
+        quantile: numbers[4] as u32,
+        phase: phase,
+    }
+}
+
+// The numbers of a phase; those that it has not are 0.
+fn phase_numbers(phase: Phase) -> PhaseNumbers
+    ensures { λ r. ⌜ r ≡ phaseNumbers phase ⌝ }
+{
+    match phase {
+        Phase::Idle => PhaseNumbers {
+            which: 0,
+            site: 0,
+            low: 0,
+            high: 0,
+            sum: 0,
+        },
+        Phase::Collecting(site) => PhaseNumbers {
+            which: 1,
+            site: site,
+            low: 0,
+            high: 0,
+            sum: 0,
+        },
+        Phase::Probing(site, low, high, sum) => PhaseNumbers {
+            which: 2,
+            site: site,
+            low: low,
+            high: high,
+            sum: sum,
+        },
+        Phase::Announcing(site) => PhaseNumbers {
+            which: 3,
+            site: site,
+            low: 0,
+            high: 0,
+            sum: 0,
+        },
+    }
+}
+
+// The ten numbers of the coordinator's record.
+pub fn write_coordinator(numbers: &mut [u64], coordinator: CoordinatorRecord)
+    requires { ⌜ 10 ≤ length (now numbers) ⌝ }
+    ensures { λ r. ⌜ now (numbers .exit) ≡ overwrite (coordinatorNumbers coordinator) (now (numbers .entry)) ⌝ }
+{
+    let now_in = coordinator.phase;
+    let phase = phase_numbers(now_in);
+    numbers[0] = coordinator.total;
+    numbers[1] = coordinator.base;
+    numbers[2] = coordinator.threshold;
+    numbers[3] = coordinator.signals as u64;
+    numbers[4] = coordinator.quantile as u64;
+    numbers[5] = phase.which;
+    numbers[6] = phase.site as u64;
+    numbers[7] = phase.low as u64;
+    numbers[8] = phase.high as u64;
+    numbers[9] = phase.sum;
+}
+
+// Whether there is a quantile (1, else 0), and its value.
+pub struct FoundNumbers {
+    pub found: u64,
+    pub value: u32,
+}
+
+// The numbers of a quantile.
+fn found_numbers(quantile: Quantile) -> FoundNumbers
+    ensures { λ r. ⌜ r ≡ foundNumbers quantile ⌝ }
+{
+    match quantile {
+        Quantile::Nothing => FoundNumbers {
+            found: 0,
+            value: 0,
+        },
+        Quantile::Value(value) => FoundNumbers {
+            found: 1,
+            value: value,
+        },
+    }
+}
+
+// The two numbers of a quantile, written.
+pub fn write_quantile(numbers: &mut [u64], quantile: Quantile)
+    requires { ⌜ 2 ≤ length (now numbers) ⌝ }
+    ensures { λ r. ⌜ now (numbers .exit) ≡ overwrite (quantileNumbers quantile) (now (numbers .entry)) ⌝ }
+{
+    let found = found_numbers(quantile);
+    numbers[0] = found.found;
+    numbers[1] = found.value as u64;
+}

@@ -1,0 +1,278 @@
+//! Every call made on the proved code and on the separate implementation, with the same numbers:
+//! answers, records and every place of lent memory are the same afterwards. What is lent has some
+//! numbers more than a call needs, which must keep what they held.
+
+// Each test file uses a part of this module only.
+#![allow(dead_code)]
+
+use boundary::UNFIT;
+use reference::coordinator::{self, CoordinatorRecord};
+use reference::message::{Arrival, Message, Outgoing};
+use reference::refusal;
+use reference::settings::Settings;
+use reference::site::{self, SiteRecord};
+
+/// What stands in lent numbers before a call, and stays where the call has nothing to say.
+const JUNK: u64 = 77;
+
+/// How many calls were made, and how often each refusal was met.
+pub struct Both {
+    pub calls: u64,
+    pub refusals: [u64; 256],
+}
+
+impl Both {
+    pub fn new() -> Both {
+        Both { calls: 0, refusals: [0; 256] }
+    }
+
+    /// Fails unless there were so many calls, with each of these refusals met often enough.
+    pub fn enough(&self, calls: u64, refusals: &[u8], often: u64) {
+        println!("{} calls, refusals {:?}", self.calls, &self.refusals[..15]);
+        assert!(self.calls >= calls, "{} calls only", self.calls);
+        for &number in refusals {
+            let times = self.refusals[usize::from(number)];
+            assert!(times >= often, "refusal {number} was met {times} times");
+        }
+    }
+
+    fn count(&mut self, proved: u32, refusal: u8, call: &str) {
+        self.calls += 1;
+        self.refusals[usize::from(refusal)] += 1;
+        assert_eq!(proved, u32::from(refusal), "{call}");
+    }
+
+    pub fn start_sites(&mut self, settings: [u32; 6], memory: &mut [u32]) -> u8 {
+        let mut proved_memory = memory.to_vec();
+        let mut numbers = [JUNK; 131];
+        let proved = boundary::start_sites(&settings, &mut proved_memory, &mut numbers);
+        let (refusal, sites) = site::start_sites(&Settings::from_numbers(settings), memory);
+        self.count(proved, refusal, "start_sites");
+        let records: Vec<u64> = sites.records.iter().flat_map(|site| site.to_numbers()).collect();
+        assert_eq!(numbers[..128], records);
+        assert_eq!(numbers[128..], [sites.messages, JUNK, JUNK]);
+        assert!(proved_memory == memory, "start_sites {settings:?}");
+        refusal
+    }
+
+    pub fn observe(
+        &mut self,
+        settings: [u32; 6],
+        arrival: Arrival,
+        record: &mut SiteRecord,
+        memory: &mut [u32],
+    ) -> Outgoing<2> {
+        let before = *record;
+        let mut proved_memory = memory.to_vec();
+        let mut numbers = with_junk::<4, 5>(record.to_numbers());
+        let mut out = [JUNK; 11];
+        let numbers_of_arrival = [arrival.site, arrival.item, arrival.value];
+        let proved = boundary::observe(
+            &settings,
+            &mut numbers,
+            numbers_of_arrival,
+            &mut proved_memory,
+            &mut out,
+        );
+        let outgoing = site::observe(&Settings::from_numbers(settings), arrival, record, memory);
+        self.count(proved, outgoing.refusal, "observe");
+        let call = || format!("observe {settings:?} {arrival:?} {before:?}");
+        assert_eq!(numbers, with_junk(record.to_numbers()), "{}", call());
+        assert_eq!(out[0], outgoing.count as u64, "{}", call());
+        assert_eq!(out[1..5], outgoing.messages[0].to_numbers(), "{}", call());
+        assert_eq!(out[5..9], outgoing.messages[1].to_numbers(), "{}", call());
+        assert_eq!(out[9..], [JUNK; 2]);
+        assert!(proved_memory == memory, "{}", call());
+        outgoing
+    }
+
+    pub fn receive_at_site(
+        &mut self,
+        settings: [u32; 6],
+        which: u32,
+        message: Message,
+        record: &mut SiteRecord,
+        memory: &[u32],
+    ) -> Outgoing<1> {
+        let before = *record;
+        let mut numbers = with_junk::<4, 5>(record.to_numbers());
+        let mut out = [JUNK; 6];
+        let sent = sent(message);
+        let proved =
+            boundary::receive_at_site(&settings, &mut numbers, which, sent, memory, &mut out);
+        let rules = Settings::from_numbers(settings);
+        let outgoing = site::receive(&rules, which, message, record, memory);
+        self.count(proved, outgoing.refusal, "receive at a site");
+        let call = || format!("receive {settings:?} {which} {message:?} {before:?}");
+        assert_eq!(numbers, with_junk(record.to_numbers()), "{}", call());
+        assert_eq!(out, message_out(&outgoing), "{}", call());
+        outgoing
+    }
+
+    pub fn start_coordinator(&mut self, settings: [u32; 6], memory: &mut [u64]) -> u8 {
+        let mut proved_memory = memory.to_vec();
+        let mut numbers = [JUNK; 11];
+        let proved = boundary::start_coordinator(&settings, &mut proved_memory, &mut numbers);
+        let rules = Settings::from_numbers(settings);
+        let (refusal, record) = coordinator::start_coordinator(&rules, memory);
+        self.count(proved, refusal, "start_coordinator");
+        assert_eq!(numbers, with_junk(record.to_numbers()));
+        assert!(proved_memory == memory, "start_coordinator {settings:?}");
+        refusal
+    }
+
+    pub fn receive_at_coordinator(
+        &mut self,
+        settings: [u32; 6],
+        message: Message,
+        record: &mut CoordinatorRecord,
+        memory: &mut [u64],
+    ) -> Outgoing<1> {
+        let before = *record;
+        let mut proved_memory = memory.to_vec();
+        let mut numbers = with_junk::<10, 11>(record.to_numbers());
+        let mut out = [JUNK; 6];
+        let proved = boundary::receive_at_coordinator(
+            &settings,
+            &mut numbers,
+            sent(message),
+            &mut proved_memory,
+            &mut out,
+        );
+        let outgoing = if fits(record) {
+            let rules = Settings::from_numbers(settings);
+            let outgoing = coordinator::receive(&rules, message, record, memory);
+            assert_eq!(out, message_out(&outgoing), "{settings:?} {message:?} {before:?}");
+            outgoing
+        } else {
+            assert_eq!(out, [JUNK; 6]);
+            Outgoing::none(UNFIT as u8)
+        };
+        self.count(proved, outgoing.refusal, "receive at the coordinator");
+        let call = || format!("receive {settings:?} {message:?} {before:?}");
+        assert_eq!(numbers, with_junk(record.to_numbers()), "{}", call());
+        assert!(proved_memory == memory, "{}", call());
+        outgoing
+    }
+
+    pub fn next_announcement(
+        &mut self,
+        settings: [u32; 6],
+        record: &mut CoordinatorRecord,
+        memory: &[u64],
+    ) -> Outgoing<1> {
+        let before = *record;
+        let mut numbers = with_junk::<10, 11>(record.to_numbers());
+        let mut out = [JUNK; 6];
+        let proved = boundary::next_announcement(&settings, &mut numbers, memory, &mut out);
+        let outgoing = if fits(record) {
+            let rules = Settings::from_numbers(settings);
+            let outgoing = coordinator::next_announcement(&rules, record, memory);
+            assert_eq!(out, message_out(&outgoing), "{settings:?} {before:?}");
+            outgoing
+        } else {
+            assert_eq!(out, [JUNK; 6]);
+            Outgoing::none(UNFIT as u8)
+        };
+        self.count(proved, outgoing.refusal, "next_announcement");
+        assert_eq!(numbers, with_junk(record.to_numbers()), "{settings:?} {before:?}");
+        outgoing
+    }
+
+    /// The list with so many places, and how many items it wrote.
+    pub fn list(
+        &mut self,
+        settings: [u32; 6],
+        record: &CoordinatorRecord,
+        memory: &[u64],
+        places: usize,
+    ) -> Result<usize, u8> {
+        let mut proved_list = vec![JUNK as u32; places];
+        let mut list = proved_list.clone();
+        let mut out = [JUNK; 2];
+        let numbers = record.to_numbers();
+        let proved =
+            boundary::list_heavy_hitters(&settings, &numbers, memory, &mut proved_list, &mut out);
+        let rules = Settings::from_numbers(settings);
+        let listed = if fits(record) {
+            coordinator::list_heavy_hitters(&rules, record, memory, &mut list)
+        } else {
+            Err(UNFIT as u8)
+        };
+        self.count(proved, listed.err().unwrap_or(refusal::ACCEPTED), "list");
+        let written = match listed {
+            Ok(count) => count as u64,
+            Err(refusal) if u32::from(refusal) == UNFIT => JUNK,
+            Err(_) => 0,
+        };
+        assert_eq!(out, [written, JUNK], "list {settings:?} {record:?}");
+        assert!(proved_list == list, "list {settings:?} {record:?}");
+        listed
+    }
+
+    pub fn margin(
+        &mut self,
+        settings: [u32; 6],
+        record: &CoordinatorRecord,
+        memory: &[u64],
+        item: u32,
+    ) -> Result<i64, u8> {
+        let (proved, value) = boundary::read_margin(&settings, &record.to_numbers(), item, memory);
+        let rules = Settings::from_numbers(settings);
+        let margin = if fits(record) {
+            coordinator::read_margin(&rules, record, memory, item)
+        } else {
+            Err(UNFIT as u8)
+        };
+        self.count(proved, margin.err().unwrap_or(refusal::ACCEPTED), "margin");
+        assert_eq!(value, margin.unwrap_or(0), "margin {settings:?} {record:?} {item}");
+        margin
+    }
+
+    pub fn quantile(
+        &mut self,
+        settings: [u32; 6],
+        record: &CoordinatorRecord,
+        memory: &[u64],
+    ) -> Result<Option<u32>, u8> {
+        let mut out = [JUNK; 3];
+        let proved = boundary::read_quantile(&settings, &record.to_numbers(), memory, &mut out);
+        let rules = Settings::from_numbers(settings);
+        let quantile = if fits(record) {
+            coordinator::read_quantile(&rules, record, memory)
+        } else {
+            Err(UNFIT as u8)
+        };
+        self.count(proved, quantile.err().unwrap_or(refusal::ACCEPTED), "quantile");
+        let expected = match quantile {
+            Ok(Some(value)) => [1, u64::from(value), JUNK],
+            Err(refusal) if u32::from(refusal) == UNFIT => [JUNK; 3],
+            _ => [0, 0, JUNK],
+        };
+        assert_eq!(out, expected, "quantile {settings:?} {record:?}");
+        quantile
+    }
+}
+
+/// Whether the numbers fit the proved record, which holds some of them in four bytes.
+fn fits(record: &CoordinatorRecord) -> bool {
+    let [_, _, _, signals, quantile, _, site, low, high, _] = record.to_numbers();
+    [signals, quantile, site, low, high].iter().all(|&number| u32::try_from(number).is_ok())
+}
+
+fn with_junk<const FEW: usize, const MORE: usize>(numbers: [u64; FEW]) -> [u64; MORE] {
+    let mut all = [JUNK; MORE];
+    all[..FEW].copy_from_slice(&numbers);
+    all
+}
+
+fn sent(message: Message) -> boundary::Message {
+    let Message { kind, site, a, b } = message;
+    boundary::Message { kind, site, a, b }
+}
+
+/// What a call with one message leaves in six lent numbers.
+fn message_out(outgoing: &Outgoing<1>) -> [u64; 6] {
+    let [kind, site, a, b] = outgoing.messages[0].to_numbers();
+    [outgoing.count as u64, kind, site, a, b, JUNK]
+}

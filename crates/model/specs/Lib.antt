@@ -15,5 +15,7 @@ pub mod Reading
 pub mod Network
 pub mod NetworkMemory
 pub mod Runs
+pub mod Claims
 pub mod Transcript
 pub mod Instances
+pub mod DeliveryClaims

@@ -1,0 +1,103 @@
+-- Lists whose places are changed one after another from the first on: what a loop over the sites
+-- does, with its closed form.
+--
+--   changeFirst default change n xs   the first n places of xs changed, in order; a place past the
+--                                     end is passed over
+--   getD-changeFirst-after            a place from n on is as it was
+--   getD-changeFirst-before           a place below n, within the list, is changed
+--   changeFirst-all                   all places changed is `map`
+--   changeFirst-keeps                 a part of every element that no change touches
+use mathlib.Core.Path.{_≡_, refl, sym, ap, _∙_}
+use mathlib.Core.List.{List, [], _∷_, _++_, map}
+use Prim.Native.Nat.{ℕ, zero, suc, _+_, _*_, _≤_, _<_}
+use native.Mathlib.Omega.{arith}
+use native.Mathlib.Decide.{ℕ-discrete}
+use lib.ListN.{length, getD, set, length-set, length-map}
+use lib.Seq.{getD-set-same, getD-set-other, ext-getD}
+
+-- ---- Places changed in order
+
+abbrev pub changeFirst : {A : Type 0} → A → (A → A) → ℕ → List A → List A
+changeFirst default change zero xs = xs
+changeFirst default change (suc n) xs =
+    set (changeFirst default change n xs) n
+    (change (getD (changeFirst default change n xs) n default))
+
+module _ {A : Type 0} (default : A) (change : A → A) where
+  pub length-changeFirst : (n : ℕ) (xs : List A)
+      → length (changeFirst default change n xs) ≡ length xs
+  length-changeFirst zero xs = refl
+  length-changeFirst (suc n) xs =
+      length-set (changeFirst default change n xs) n _ ∙ length-changeFirst n xs
+
+  -- A place that the loop has not reached is as it was.
+  pub getD-changeFirst-after : (n i : ℕ) (xs : List A)
+      → n ≤ i
+      → getD (changeFirst default change n xs) i default ≡ getD xs i default
+  getD-changeFirst-after zero i xs reached = refl
+  getD-changeFirst-after (suc n) i xs reached =
+      getD-set-other (changeFirst default change n xs) n i _ default (λ same. omega arith)
+      ∙ getD-changeFirst-after n i xs (omega arith)
+
+  -- A place that the loop has passed is changed once.
+  pub getD-changeFirst-before : (n i : ℕ) (xs : List A)
+      → i < n
+      → i < length xs
+      → getD (changeFirst default change n xs) i default ≡ change (getD xs i default)
+  getD-changeFirst-before zero i xs passed inside = absurd (omega arith)
+  getD-changeFirst-before (suc n) i xs passed inside =
+      by-place (ℕ-discrete i n) (λ before. getD-changeFirst-before n i xs before inside)
+    where
+      within : i < length (changeFirst default change n xs)
+      within = omega (arith, length-changeFirst n xs)
+
+      by-place : Dec (i ≡ n)
+          → (i < n → getD (changeFirst default change n xs) i default ≡ change (getD xs i default))
+          → getD (changeFirst default change (suc n) xs) i default ≡ change (getD xs i default)
+      by-place (yes same) earlier =
+          rw (← same)
+          (getD-set-same (changeFirst default change i xs) i _ default (rw (← same) at within)
+          ∙ ap change (getD-changeFirst-after i i xs (omega arith)))
+      by-place (no other) earlier =
+          getD-set-other (changeFirst default change n xs) n i _ default other
+          ∙ earlier (omega arith)
+
+  -- A part that the change keeps is as it was, at every place, past the end too.
+  module _ {B : Type 0} (part : A → B) (kept : (x : A) → part (change x) ≡ part x) where
+    change-keeps : (xs : List A) (n i : ℕ)
+        → part (getD (set xs n (change (getD xs n default))) i default) ≡ part (getD xs i default)
+    change-keeps [] n i = refl
+    change-keeps (x ∷ xs) zero zero = kept x
+    change-keeps (x ∷ xs) zero (suc i) = refl
+    change-keeps (x ∷ xs) (suc n) zero = refl
+    change-keeps (x ∷ xs) (suc n) (suc i) = change-keeps xs n i
+
+    pub changeFirst-keeps : (n i : ℕ) (xs : List A)
+        → part (getD (changeFirst default change n xs) i default) ≡ part (getD xs i default)
+    changeFirst-keeps zero i xs = refl
+    changeFirst-keeps (suc n) i xs =
+        change-keeps (changeFirst default change n xs) n i ∙ changeFirst-keeps n i xs
+
+  -- All places changed: the list mapped.
+  pub changeFirst-all : (n : ℕ) (xs : List A)
+      → length xs ≤ n
+      → changeFirst default change n xs ≡ map change xs
+  changeFirst-all n xs all =
+      ext-getD default (changeFirst default change n xs) (map change xs) same-length same-places
+    where
+      same-length : length (changeFirst default change n xs) ≡ length (map change xs)
+      same-length = length-changeFirst n xs ∙ sym (length-map xs change)
+
+      same-places : (i : ℕ) → i < length (changeFirst default change n xs)
+          → getD (changeFirst default change n xs) i default ≡ getD (map change xs) i default
+      same-places i inside =
+          let within : i < length xs = omega (arith, length-changeFirst n xs) in
+          getD-changeFirst-before n i xs (omega arith) within
+          ∙ sym (getD-map-within change xs i default within)
+        where
+          getD-map-within : (f : A → A) (ys : List A) (j : ℕ) (d : A)
+              → j < length ys
+              → getD (map f ys) j d ≡ f (getD ys j d)
+          getD-map-within f [] j d absent = absurd (omega arith)
+          getD-map-within f (y ∷ ys) zero d absent = refl
+          getD-map-within f (y ∷ ys) (suc j) d absent = getD-map-within f ys j d (omega arith)

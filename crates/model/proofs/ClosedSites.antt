@@ -1,0 +1,69 @@
+-- The sites after a close, by place: pendings 0, the new threshold, all else as it was; and the new
+-- base as a sum over them. PROOF.md section 4.
+--
+--   closedSite t site       a site after a close
+--   getD-sitesClosed        place by place
+--   sitesClosed-map         the list as a whole, where it has at most k sites
+--   baseOf-allPending       the new base, where it has k sites: the total with all pendings
+use mathlib.Core.Path.{_≡_, refl, sym, ap, _∙_}
+use mathlib.Core.List.{List, [], _∷_, _++_, map, map-map}
+use Prim.Native.Nat.{ℕ, zero, suc, _+_, _≤_, _<_}
+use native.Mathlib.Omega.{arith}
+use lib.ListN.{length, getD, length-map}
+use Rattle.laws.proofs.Sums.{sumBelow}
+use Rattle.laws.proofs.Updates.{changeFirst, length-changeFirst, getD-changeFirst-before, changeFirst-keeps, changeFirst-all}
+use Rattle.model.specs.declared.Settings.{Settings}
+use Rattle.model.specs.Site.{Site, freshSite}
+use Rattle.model.specs.NetworkMemory.{allPending}
+use Rattle.model.proofs.DeliveryMessages.{pendingAt}
+use Rattle.model.proofs.DeliveryLoops.{polled, told}
+use Rattle.model.proofs.DeliveryClose.{baseOf, sitesPolled, sitesClosed}
+
+abbrev pub closedSite : ℕ → Site → Site
+closedSite t site = told t (polled site)
+
+pub length-sitesClosed : (settings : Settings) (sites : List Site) (t : ℕ)
+    → length (sitesClosed settings sites t) ≡ length sites
+length-sitesClosed settings sites t =
+    length-changeFirst freshSite (told t) (settings .sites) (sitesPolled settings sites)
+    ∙ length-changeFirst freshSite polled (settings .sites) sites
+
+pub getD-sitesClosed : (settings : Settings) (sites : List Site) (t i : ℕ)
+    → i < settings .sites
+    → i < length sites
+    → getD (sitesClosed settings sites t) i freshSite ≡ closedSite t (getD sites i freshSite)
+getD-sitesClosed settings sites t i below inside =
+    getD-changeFirst-before freshSite (told t) (settings .sites) i (sitesPolled settings sites)
+    below (omega (arith, length-changeFirst freshSite polled (settings .sites) sites))
+    ∙ ap (told t) (getD-changeFirst-before freshSite polled (settings .sites) i sites below inside)
+
+pub sitesClosed-map : (settings : Settings) (sites : List Site) (t : ℕ)
+    → length sites ≤ settings .sites
+    → sitesClosed settings sites t ≡ map (closedSite t) sites
+sitesClosed-map settings sites t few =
+    ap (changeFirst freshSite (told t) (settings .sites))
+    (changeFirst-all freshSite polled (settings .sites) sites few)
+    ∙ (changeFirst-all freshSite (told t) (settings .sites) (map polled sites)
+    (omega (arith, length-map sites polled))
+    ∙ twice sites)
+  where
+    twice : (xs : List Site) → map (told t) (map polled xs) ≡ map (closedSite t) xs
+    twice [] = refl
+    twice (x ∷ xs) = ap {B = List Site} (λ ys. closedSite t x ∷ ys) (twice xs)
+
+-- A sum by place over all places is the sum over the list.
+pub sumBelow-allPending : (sites : List Site)
+    → sumBelow (pendingAt sites) (length sites) ≡ allPending sites
+sumBelow-allPending [] = refl
+sumBelow-allPending (site ∷ sites) =
+    omega (arith, front (pendingAt (site ∷ sites)) (length sites), sumBelow-allPending sites)
+  where
+    front : (f : ℕ → ℕ) (n : ℕ) → sumBelow f (suc n) ≡ f 0 + sumBelow (λ i. f (suc i)) n
+    front f zero = omega arith
+    front f (suc n) = omega (arith, front f n)
+
+pub baseOf-allPending : (settings : Settings) (sites : List Site) (total : ℕ)
+    → length sites ≡ settings .sites
+    → baseOf settings sites total ≡ total + allPending sites
+baseOf-allPending settings sites total all =
+    ap (λ (x : ℕ). total + x) (ap (sumBelow (pendingAt sites)) (sym all) ∙ sumBelow-allPending sites)

@@ -1,0 +1,103 @@
+-- Full delivery keeps what specs/DeliveryClaims.antt claims: few messages, and nothing left over.
+-- Both from the closed form of a delivery, case by case. PROOF.md section 4.
+use mathlib.Core.Path.{_≡_, refl, sym, ap, _∙_}
+use mathlib.Core.Bool.{Bool, true, false}
+use mathlib.Core.List.{List, [], _∷_, _++_}
+use Prim.Native.Nat.{ℕ, _+_, _*_, _≤_}
+use native.Mathlib.Omega.{arith}
+use lib.ListN.{length}
+use Rattle.model.specs.declared.Settings.{Settings}
+use Rattle.model.specs.declared.Arrival.{Arrival}
+use Rattle.model.specs.declared.Message.{Message}
+use Rattle.model.specs.declared.Phase.the-variants.{Idle}
+use Rattle.model.specs.Refusals.{when}
+use Rattle.model.specs.Limits.{mostMessages}
+use Rattle.model.specs.Site.{reportsItem, reportsCount}
+use Rattle.model.specs.Network.{Network, siteAt, deliveryFuel, afterArrival}
+use Rattle.model.specs.DeliveryClaims.{Delivery, delivery, deliverySteps, outcome, deliveryOf, Resting, DeliveryClaims}
+use Rattle.model.proofs.DeliverySteps.{delivered-is-steps}
+use Rattle.model.proofs.ArrivalParts.{firstMessages, ArrivalCase, noCountReport, countReported, closesOne, closesMore, arrival-case, networkThen, messagesThen, closeCount, length-firstMessages, length-messagesThen}
+use Rattle.model.proofs.AfterArrival.{delivers-after, after-arrival}
+
+-- ---- Few messages
+
+pub first-at-most-two : (settings : Settings) (network : Network) (arrival : Arrival)
+    → length (firstMessages settings network arrival) ≤ 2
+first-at-most-two settings network arrival =
+    omega (
+      arith,
+      length-firstMessages settings network arrival,
+      at-most-one (reportsItem settings (siteAt network (arrival .site)) arrival),
+      at-most-one (reportsCount (siteAt network (arrival .site))),
+    )
+  where
+    at-most-one : (due : Bool) → when due 1 ≤ 1
+    at-most-one true = omega arith
+    at-most-one false = omega arith
+
+-- A close has at most 23 * k messages.
+close-at-most : (settings : Settings) (network : Network) (arrival : Arrival)
+    (which : ArrivalCase settings network arrival)
+    → closeCount which ≤ 23 * settings .sites
+close-at-most settings network arrival (noCountReport none) = omega arith
+close-at-most settings network arrival (countReported due few) = omega arith
+close-at-most settings network arrival (closesOne due all one) = omega arith
+close-at-most settings network arrival (closesMore due all more) = omega arith
+
+few-messages : (settings : Settings) (network : Network) (arrival : Arrival)
+    → network .coordinator .phase ≡ Idle
+    → length (afterArrival settings network arrival .messages) ≤ mostMessages (settings .sites)
+few-messages settings network arrival idle =
+    let which : ArrivalCase settings network arrival = arrival-case settings network arrival in
+    rw (after-arrival settings network arrival idle which)
+    (omega (
+      arith,
+      length-messagesThen settings network arrival which,
+      first-at-most-two settings network arrival,
+      close-at-most settings network arrival which,
+    ))
+
+-- ---- A complete delivery
+
+idle-then : (settings : Settings) (network : Network) (arrival : Arrival)
+    (which : ArrivalCase settings network arrival)
+    → networkThen which .coordinator .phase ≡ Idle
+idle-then settings network arrival (noCountReport none) = refl
+idle-then settings network arrival (countReported due few) = refl
+idle-then settings network arrival (closesOne due all one) = refl
+idle-then settings network arrival (closesMore due all more) = refl
+
+module _ (settings : Settings) (network : Network) (arrival : Arrival)
+    (idle : network .coordinator .phase ≡ Idle) where
+  abbrev which : ArrivalCase settings network arrival
+  which = arrival-case settings network arrival
+
+  -- However many steps more, it ends at the same delivery, with nothing waiting.
+  ends-there : (more : ℕ)
+      → deliverySteps (deliveryFuel settings + more) settings (deliveryOf settings network arrival)
+      ≡ delivery (networkThen which) [] (messagesThen which)
+  ends-there more =
+      delivers-after settings network arrival idle which .ends (deliveryFuel settings + more) []
+      (omega arith)
+
+  more-fuel : (more : ℕ)
+      → outcome
+      (deliverySteps (deliveryFuel settings + more) settings (deliveryOf settings network arrival))
+      ≡ afterArrival settings network arrival
+  more-fuel more =
+      ap outcome (ends-there more) ∙ sym (after-arrival settings network arrival idle which)
+
+  comes-to-rest : Resting
+      (deliverySteps (deliveryFuel settings) settings (deliveryOf settings network arrival))
+  comes-to-rest =
+      rw (delivers-after settings network arrival idle which .ends (deliveryFuel settings) []
+      (omega arith))
+      (record { nothing-waits = refl; idle = idle-then settings network arrival which })
+
+pub delivery-claims : DeliveryClaims
+delivery-claims = record {
+  few-messages = few-messages;
+  is-steps = delivered-is-steps;
+  comes-to-rest = comes-to-rest;
+  more-fuel = λ settings network arrival more idle. more-fuel settings network arrival idle more;
+}

@@ -1,0 +1,47 @@
+-- Demands 2 and 3 over every list of arrivals, put together from the invariant of runs.
+use mathlib.Core.Path.{_≡_}
+use mathlib.Core.List.{List}
+use Rattle.model.specs.declared.Settings.{Settings}
+use Rattle.model.specs.declared.Arrival.{Arrival}
+use Rattle.model.specs.Refusals.{accepted}
+use Rattle.model.specs.Settings.{settingsRefusal}
+use Rattle.model.specs.Runs.{runOf}
+use Rattle.model.specs.Claims.{Estimates, Tracks, FewMessages, DemandsOverRuns}
+use Rattle.model.proofs.SettingsLaws.{Settled, settled}
+use Rattle.model.proofs.EstimateBounds.{RunOk, estimates-of-ok}
+use Rattle.model.proofs.ListBounds.{heavy-of-estimates, light-of-estimates}
+use Rattle.model.proofs.QuantileBounds.{quantile-of-ok}
+use Rattle.model.proofs.RunInvariant.{run-ok, messages-of-ok}
+use Rattle.model.proofs.ListLaws.{list-law}
+use Rattle.model.proofs.RunLaws.{runs-cut}
+
+module _ (settings : Settings) (arrivals : List Arrival)
+    (passes : settingsRefusal settings ≡ accepted) where
+  fit : Settled settings
+  fit = settled settings passes
+
+  holds : RunOk settings (runOf settings arrivals)
+  holds = run-ok fit arrivals
+
+  near : Estimates settings (runOf settings arrivals)
+  near = estimates-of-ok fit holds
+
+  tracks : Tracks settings (runOf settings arrivals)
+  tracks = record {
+    heavy-listed = heavy-of-estimates fit near;
+    light-unlisted = light-of-estimates fit near;
+    quantile-within = quantile-of-ok fit holds;
+    at-rest = holds .idle;
+  }
+
+  few-messages : FewMessages settings (runOf settings arrivals)
+  few-messages = messages-of-ok fit holds
+
+pub demands-over-runs : DemandsOverRuns
+demands-over-runs = record {
+  tracks = tracks;
+  few-messages = few-messages;
+  estimates-near = near;
+  list-law = list-law;
+  cuts = runs-cut;
+}

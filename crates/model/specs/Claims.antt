@@ -1,0 +1,184 @@
+-- What is claimed of every run: demands 2 and 3 over all lists of arrivals, and the bounds that later
+-- parts lean on. `DemandsOverRuns` is the whole of it; proofs/Theorem.antt proves it.
+--
+--   counted arrivals                    n: the arrivals that shares, ranks and message bounds count
+--   countOf item arrivals               an item's arrivals; 0 of no arrival
+--   below value, above value            the arrivals of a smaller, of a larger value
+--   Tracks settings run                 list and quantile are right ("demand 2, after each draw")
+--   ListLaw settings coordinator        which items the list holds, and in which order
+--   FewMessages settings run            demand 3: the three bounds on messages
+--   Estimates settings run              how far estimates and total lag behind
+--   QuantilePromise settings run        all that is promised of the quantile
+--   Cuts settings arrivals              a run cut into parts, and a run of what was accepted
+use mathlib.Core.Path.{_≡_}
+use mathlib.Core.Bool.{Bool, true, false, _&&_, _||_}
+use mathlib.Core.List.{List, [], _∷_, _++_}
+use Prim.Native.Nat.{ℕ, _+_, _-_, _*_, _≤_, _<_}
+use lib.Dec.{eqb, ltb}
+use lib.ListN.{length, getD, take}
+use Rattle.model.specs.declared.Settings.{Settings}
+use Rattle.model.specs.declared.Arrival.{Arrival}
+use Rattle.model.specs.declared.Phase.the-variants.{Idle}
+use Rattle.model.specs.declared.Quantile.the-variants.{Nothing, Value}
+use Rattle.model.specs.Refusals.{accepted}
+use Rattle.model.specs.Limits.{messagesPerArrival, allowanceFactor}
+use Rattle.model.specs.Settings.{settingsRefusal, digits, allowance}
+use Rattle.model.specs.Coordinator.{Coordinator}
+use Rattle.model.specs.Reading.{isListed, heavyHitters, quantileOf}
+use Rattle.model.specs.Runs.{Run, runFrom, runOf}
+
+-- ---- Arrivals counted
+
+abbrev pub oneIf : Bool → ℕ
+oneIf true = 1
+oneIf false = 0
+
+-- "n is the draws accepted".
+abbrev pub counted : List Arrival → ℕ
+counted arrivals = length arrivals
+
+abbrev pub countOf : ℕ → List Arrival → ℕ
+countOf item [] = 0
+countOf item (arrival ∷ arrivals) = oneIf (eqb (arrival .item) item) + countOf item arrivals
+
+-- "draws below it" and "draws above it".
+abbrev pub below : ℕ → List Arrival → ℕ
+below value [] = 0
+below value (arrival ∷ arrivals) = oneIf (ltb (arrival .value) value) + below value arrivals
+
+abbrev pub above : ℕ → List Arrival → ℕ
+above value [] = 0
+above value (arrival ∷ arrivals) = oneIf (ltb value (arrival .value)) + above value arrivals
+
+-- ---- The list and the quantile after a run
+
+-- All that is promised of the quantile; a part that leans on it needs nothing else.
+pub record QuantilePromise (settings : Settings) (run : Run) : Type 0 where
+  -- "none" before the first draw, and never after it
+  pub nothing-at-start : counted (run .accepted) ≡ 0
+      → quantileOf settings (run .network .coordinator) ≡ Nothing
+  pub nothing-only-at-start : quantileOf settings (run .network .coordinator) ≡ Nothing
+      → counted (run .accepted) ≡ 0
+  -- "1000 × (draws below it) ≤ (q + e) × n"
+  pub few-below : (value : ℕ)
+      → quantileOf settings (run .network .coordinator) ≡ Value value
+      → 1000 * below value (run .accepted)
+      ≤ (settings .rank + settings .epsilon) * counted (run .accepted)
+  -- "1000 × (draws above it) ≤ (1000 - q + e) × n"
+  pub few-above : (value : ℕ)
+      → quantileOf settings (run .network .coordinator) ≡ Value value
+      → 1000 * above value (run .accepted)
+      ≤ (1000 - settings .rank + settings .epsilon) * counted (run .accepted)
+
+pub record Tracks (settings : Settings) (run : Run) : Type 0 where
+  -- once there is a draw, "each code with p thousandths is listed"
+  pub heavy-listed : (item : ℕ)
+      → 1 ≤ counted (run .accepted)
+      → settings .phi * counted (run .accepted) ≤ 1000 * countOf item (run .accepted)
+      → isListed settings (run .network .coordinator) item ≡ true
+  -- "and none below p - e"
+  pub light-unlisted : (item : ℕ)
+      → 1000 * countOf item (run .accepted)
+      < (settings .phi - settings .epsilon) * counted (run .accepted)
+      → isListed settings (run .network .coordinator) item ≡ false
+  -- the class is "within e"
+  pub quantile-within : QuantilePromise settings run
+  -- between arrivals the coordinator is at rest
+  pub at-rest : run .network .coordinator .phase ≡ Idle
+
+-- ---- The list, of every coordinator
+
+-- Whether a list of items holds an item.
+abbrev pub contains : ℕ → List ℕ → Bool
+contains item [] = false
+contains item (x ∷ xs) = eqb item x || contains item xs
+
+pub record ListLaw (settings : Settings) (coordinator : Coordinator) : Type 0 where
+  -- "A code is listed if ..": an item is in the list exactly if it is one and passes the rule
+  pub listed-exactly : (item : ℕ)
+      → contains item (heavyHitters settings coordinator)
+      ≡ (ltb item (settings .universe) && isListed settings coordinator item)
+  -- "The list is in rising code order."
+  pub rising : (i : ℕ)
+      → i + 1 < length (heavyHitters settings coordinator)
+      → getD (heavyHitters settings coordinator) i 0
+      < getD (heavyHitters settings coordinator) (i + 1) 0
+  -- "if total ≥ 1"
+  pub empty-at-start : coordinator .total ≡ 0
+      → heavyHitters settings coordinator ≡ []
+
+-- ---- Messages
+
+pub record FewMessages (settings : Settings) (run : Run) : Type 0 where
+  -- "e × messages ≤ 150,000 × k × (digits + 1)"
+  pub within-digits : settings .epsilon * length (run .messages)
+      ≤ allowanceFactor * (settings .sites * (digits (counted (run .accepted)) + 1))
+  -- "messages ≤ 25 × n"
+  pub per-arrival : length (run .messages) ≤ messagesPerArrival * counted (run .accepted)
+  -- the allowance is that bound, divided by e
+  pub within-allowance : length (run .messages) ≤ allowance settings (counted (run .accepted))
+
+-- ---- Estimates
+
+-- How far the coordinator's numbers lag behind, for parts that lean on more than the list.
+pub record Estimates (settings : Settings) (run : Run) : Type 0 where
+  -- an estimate is never above an item's arrivals, and below by e / 2000 of all arrivals at most
+  pub estimate-le : (item : ℕ)
+      → getD (run .network .coordinator .estimates) item 0 ≤ countOf item (run .accepted)
+  pub estimate-near : (item : ℕ)
+      → 2000 * countOf item (run .accepted)
+      ≤ 2000 * getD (run .network .coordinator .estimates) item 0
+      + settings .epsilon * counted (run .accepted)
+  -- the total is never above all arrivals, and below by e / 3000 of them at most
+  pub total-le : run .network .coordinator .total ≤ counted (run .accepted)
+  pub total-near : 3000 * counted (run .accepted)
+      ≤ 3000 * run .network .coordinator .total + settings .epsilon * counted (run .accepted)
+  pub total-positive : 1 ≤ counted (run .accepted)
+      → 1 ≤ run .network .coordinator .total
+  -- "for each listed code ..: 6000 × its draws ≥ (6p - 5e) × all draws"
+  pub listed-firm : (item : ℕ)
+      → isListed settings (run .network .coordinator) item ≡ true
+      → (6 * settings .phi - 5 * settings .epsilon) * counted (run .accepted)
+      ≤ 6000 * countOf item (run .accepted)
+
+-- ---- Runs cut into parts
+
+pub record Cuts (settings : Settings) (arrivals : List Arrival) : Type 0 where
+  -- a run goes on where its front ended
+  pub in-parts : (later : List Arrival)
+      → runOf settings (arrivals ++ later) ≡ runFrom settings (runOf settings arrivals) later
+  -- what a front accepted and sent stays, as the front of what the whole accepted and sent
+  pub accepted-stay : (later : List Arrival)
+      → take (length (runOf settings arrivals .accepted))
+      (runOf settings (arrivals ++ later) .accepted)
+      ≡ runOf settings arrivals .accepted
+  pub messages-stay : (later : List Arrival)
+      → take (length (runOf settings arrivals .messages))
+      (runOf settings (arrivals ++ later) .messages)
+      ≡ runOf settings arrivals .messages
+  -- refused arrivals leave no trace: the run over the accepted ones is the same run
+  pub refused-change-nothing : runOf settings (runOf settings arrivals .accepted)
+      ≡ runOf settings arrivals
+  -- and every front of the accepted arrivals is itself accepted whole
+  pub fronts-accepted : (n : ℕ)
+      → runOf settings (take n (runOf settings arrivals .accepted)) .accepted
+      ≡ take n (runOf settings arrivals .accepted)
+
+-- ---- The whole
+
+-- Demands 2 and 3 over runs: for all settings that pass their test and all lists of arrivals, each
+-- list from a fresh start. As every front of a list is a list, they hold after each arrival.
+pub record DemandsOverRuns : Type 0 where
+  pub tracks : (settings : Settings) (arrivals : List Arrival)
+      → settingsRefusal settings ≡ accepted
+      → Tracks settings (runOf settings arrivals)
+  pub few-messages : (settings : Settings) (arrivals : List Arrival)
+      → settingsRefusal settings ≡ accepted
+      → FewMessages settings (runOf settings arrivals)
+  pub estimates-near : (settings : Settings) (arrivals : List Arrival)
+      → settingsRefusal settings ≡ accepted
+      → Estimates settings (runOf settings arrivals)
+  pub list-law : (settings : Settings) (coordinator : Coordinator)
+      → ListLaw settings coordinator
+  pub cuts : (settings : Settings) (arrivals : List Arrival)
+      → Cuts settings arrivals

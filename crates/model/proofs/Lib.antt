@@ -40,3 +40,13 @@ pub mod RunLaws
 pub mod RunInvariant
 pub mod Theorem
 pub mod Instances
+pub mod SoundCounters
+pub mod SoundSites
+pub mod CoordinatorSound
+pub mod Together
+pub mod Stages
+pub mod AcceptedMessages
+pub mod ReportStage
+pub mod PollStage
+pub mod ProbeStage
+pub mod AnnounceStage

@@ -6,6 +6,7 @@
 --   deliveryStep settings delivery          the next step; a delivery at rest stays as it is
 --   deliverySteps n settings delivery       n steps of it
 --   deliveryOf settings network arrival     the delivery that an arrival sets off, at its start
+--   messageRefusal settings network m       why it is refused by whom it is for, or accepted
 --   Resting delivery                        nothing waits, and the coordinator is idle
 --   DeliveryClaims                          few messages, and a complete delivery, after each arrival
 use mathlib.Core.Path.{_≡_}
@@ -19,8 +20,9 @@ use Rattle.model.specs.declared.Message.{Message}
 use Rattle.model.specs.declared.Phase.the-variants.{Idle}
 use Rattle.model.specs.Choice.{if_then_else_}
 use Rattle.model.specs.Limits.{mostMessages}
-use Rattle.model.specs.Site.{observed}
-use Rattle.model.specs.Coordinator.{isAnnouncing}
+use Rattle.model.specs.Messages.{toCoordinator}
+use Rattle.model.specs.Site.{observed, siteMessageRefusal}
+use Rattle.model.specs.Coordinator.{isAnnouncing, coordinatorRefusal}
 use Rattle.model.specs.Network.{Network, siteAt, withSite, Delivered, handOver, askAnnouncement, delivered, deliveryFuel, afterArrival}
 
 -- ---- A delivery that goes on
@@ -60,6 +62,13 @@ abbrev pub deliveryOf : Settings → Network → Arrival → Delivery
 deliveryOf settings network arrival =
     let after = observed settings (siteAt network (arrival .site)) arrival in
     delivery (withSite network (arrival .site) (after .site)) (after .messages) (after .messages)
+
+-- Whom a message is for, and why it is refused there: by the coordinator, or by the site it names.
+abbrev pub messageRefusal : Settings → Network → Message → ℕ
+messageRefusal settings network m =
+    if toCoordinator m
+    then coordinatorRefusal settings (network .coordinator) m
+    else siteMessageRefusal settings (siteAt network (m .site)) (m .site) m
 
 -- ---- The claims
 

@@ -18,4 +18,5 @@ pub mod Runs
 pub mod Claims
 pub mod Transcript
 pub mod Instances
+pub mod SoundNetwork
 pub mod DeliveryClaims

@@ -1,0 +1,85 @@
+-- Messages that are due and carry the right amount are accepted: refusals 5, 9, 6, 7 and 10 row by
+-- row, one law for each kind. PROOF.md section 7, "Never 9 or 10 in a full delivery".
+--
+--   itemReport-accepted, countReport-accepted    kinds 1 and 2 at an idle coordinator
+--   pollAnswer-accepted, probeAnswer-accepted    kinds 4 and 6 from the site that the phase names
+--   poll-accepted, probe-accepted, announcement-accepted   kinds 3, 5 and 7 at their site
+use mathlib.Core.Path.{_≡_, refl, sym, ap, _∙_}
+use mathlib.Core.Bool.{Bool, true, false, _&&_, _||_, not}
+use Prim.Native.Nat.{ℕ, _+_, _≤_, _<_}
+use native.Mathlib.Omega.{arith}
+use native.Mathlib.Decide.{ℕ-discrete}
+use lib.Dec.{eqb, ltb, leb}
+use borrow.Author.Tests.{le-ltb, lt-leb, eq-eqb, ne-eqb}
+use Rattle.model.specs.declared.Settings.{Settings}
+use Rattle.model.specs.declared.Phase.the-variants.{Idle, Collecting, Probing, Announcing}
+use Rattle.model.specs.Refusals.{accepted}
+use Rattle.model.specs.Limits.{topValue, siteLimit}
+use Rattle.model.specs.Messages.{itemReport, countReport, poll, pollAnswer, probe, probeAnswer, announcement}
+use Rattle.model.specs.Site.{Site, siteMessageRefusal}
+use Rattle.model.specs.Coordinator.{Coordinator, middle, coordinatorRefusal}
+
+-- ---- At a site
+
+module _ (settings : Settings) (site : Site) (j : ℕ) (known : j < settings .sites) where
+  pub poll-accepted : siteMessageRefusal settings site j (poll j) ≡ accepted
+  poll-accepted = rw (lt-leb (settings .sites) j known, eq-eqb j j refl)
+
+  pub probe-accepted : (value : ℕ)
+      → value ≤ topValue
+      → siteMessageRefusal settings site j (probe j value) ≡ accepted
+  probe-accepted value within =
+      rw (lt-leb (settings .sites) j known, eq-eqb j j refl, le-ltb topValue value within)
+
+  pub announcement-accepted : (threshold base : ℕ)
+      → site .threshold ≤ threshold
+      → threshold ≤ siteLimit
+      → siteMessageRefusal settings site j (announcement j threshold base) ≡ accepted
+  announcement-accepted threshold base rises within =
+      rw (lt-leb (settings .sites) j known, eq-eqb j j refl,
+      le-ltb threshold (site .threshold) rises, le-ltb siteLimit threshold within)
+
+-- ---- At the coordinator
+
+module _ (settings : Settings) (c : Coordinator) (j : ℕ) (known : j < settings .sites) where
+  pub itemReport-accepted : (item : ℕ)
+      → c .phase ≡ Idle
+      → item < settings .universe
+      → coordinatorRefusal settings c (itemReport j item (c .threshold)) ≡ accepted
+  itemReport-accepted item idle item-known =
+      rw (lt-leb (settings .sites) j known, idle, lt-leb (settings .universe) item item-known,
+      eq-eqb (c .threshold) (c .threshold) refl)
+
+  pub countReport-accepted : (value : ℕ)
+      → c .phase ≡ Idle
+      → value ≤ topValue
+      → ((c .threshold ≡ 1 → ⊥) → value ≡ 0)
+      → coordinatorRefusal settings c (countReport j (c .threshold) value) ≡ accepted
+  countReport-accepted value idle within none = by-threshold (ℕ-discrete (c .threshold) 1)
+    where
+      by-threshold : Dec (c .threshold ≡ 1)
+          → coordinatorRefusal settings c (countReport j (c .threshold) value) ≡ accepted
+      by-threshold (yes one) =
+          rw (lt-leb (settings .sites) j known, idle, eq-eqb (c .threshold) (c .threshold) refl,
+          eq-eqb (c .threshold) 1 one, le-ltb topValue value within)
+      by-threshold (no more) =
+          rw (lt-leb (settings .sites) j known, idle, eq-eqb (c .threshold) (c .threshold) refl,
+          ne-eqb (c .threshold) 1 more, eq-eqb value 0 (none more))
+
+  pub pollAnswer-accepted : (amount : ℕ)
+      → c .phase ≡ Collecting j
+      → amount < c .threshold
+      → coordinatorRefusal settings c (pollAnswer j amount) ≡ accepted
+  pollAnswer-accepted amount phase-is below =
+      rw (lt-leb (settings .sites) j known, phase-is, eq-eqb j j refl,
+      lt-leb (c .threshold) amount below)
+
+  pub probeAnswer-accepted : (low high sum count : ℕ)
+      → c .phase ≡ Probing j low high sum
+      → middle low high ≤ topValue
+      → count ≤ siteLimit
+      → coordinatorRefusal settings c (probeAnswer j (middle low high) count) ≡ accepted
+  probeAnswer-accepted low high sum count phase-is within few =
+      rw (lt-leb (settings .sites) j known, phase-is, eq-eqb j j refl,
+      le-ltb topValue (middle low high) within,
+      eq-eqb (middle low high) (middle low high) refl, le-ltb siteLimit count few)

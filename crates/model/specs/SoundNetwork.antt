@@ -1,0 +1,98 @@
+-- A sound network: what document 01's list "Inconsistent" denies, as facts of the model's values. It
+-- is the meaning of refusal 11 but for the limits 10^11 and 10^14, which only memory that never
+-- arose can pass (a number may pass them within a call).
+--
+--   SoundCounter universe arrivals threshold counter   a counter in use
+--   SoundSite settings site                            a site by itself
+--   SoundNumbers settings c                            the coordinator without its phase
+--   SoundPhase settings signals phase                  a phase with the signals that it goes with
+--   SoundCoordinator settings c                        the coordinator by itself
+--   Sound settings network                             a network at rest: what the batch call asks
+use mathlib.Core.Path.{_≡_}
+use Prim.Native.Nat.{ℕ, _+_, _≤_, _<_}
+use lib.ListN.{length}
+use Rattle.model.specs.declared.Settings.{Settings}
+use Rattle.model.specs.declared.Phase.{Phase}
+use Rattle.model.specs.declared.Phase.the-variants.{Idle, Collecting, Probing, Announcing}
+use Rattle.model.specs.Limits.{topValue, valueCount, siteLimit}
+use Rattle.model.specs.Settings.{thresholdOf}
+use Rattle.model.specs.Counters.{Counter, counterAt, unreported}
+use Rattle.model.specs.Site.{Site}
+use Rattle.model.specs.SiteMemory.{sum}
+use Rattle.model.specs.Coordinator.{Coordinator}
+use Rattle.model.specs.Network.{Network, siteAt}
+use Rattle.model.specs.NetworkMemory.{allPending, allArrivals}
+
+-- ---- A site
+
+-- "in a slot in use, a code not below u; .. an overcount plus sent above its count; a count above
+-- draws; unsent .. not below the threshold"
+pub record SoundCounter (universe arrivals threshold : ℕ) (counter : Counter) : Type 0 where
+  pub item-known : counter .item < universe
+  pub within-count : counter .overestimate + counter .reported ≤ counter .count
+  pub count-within : counter .count ≤ arrivals
+  pub unreported-below : unreported counter < threshold
+
+-- "slots in use above c; .. a deck above its limit; class counts not summing to draws; .. pending not
+-- below the threshold; a deck's threshold 0 or above 1,000,000,000"
+pub record SoundSite (settings : Settings) (site : Site) : Type 0 where
+  pub few-counters : length (site .counters) ≤ settings .capacity
+  pub counters-sound : (place : ℕ) → place < length (site .counters)
+      → SoundCounter (settings .universe) (site .arrivals) (site .threshold)
+      (counterAt (site .counters) place)
+  pub histogram-length : length (site .histogram) ≡ valueCount
+  pub histogram-sum : sum (site .histogram) ≡ site .arrivals
+  pub arrivals-within : site .arrivals ≤ siteLimit
+  pub pending-below : site .pending < site .threshold
+  pub threshold-positive : 1 ≤ site .threshold
+  pub threshold-within : site .threshold ≤ siteLimit
+
+-- ---- The coordinator
+
+-- "a desk threshold other than the one its base gives; base above total; the desk's class above
+-- 1023; the desk's class counts not summing to its total while its threshold is 1"
+pub record SoundNumbers (settings : Settings) (c : Coordinator) : Type 0 where
+  pub estimates-length : length (c .estimates) ≡ settings .universe
+  pub histogram-length : length (c .histogram) ≡ valueCount
+  pub threshold-of-base : c .threshold ≡ thresholdOf settings (c .base)
+  pub base-within : c .base ≤ c .total
+  pub quantile-within : c .quantile ≤ topValue
+  pub histogram-sum : c .threshold ≡ 1 → sum (c .histogram) ≡ c .total
+
+-- A close that goes on at a site: "signals .. other than k in another phase; .. a deck ≥ k".
+pub record ClosingAt (settings : Settings) (signals site : ℕ) : Type 0 where
+  pub all-signals : signals ≡ settings .sites
+  pub site-known : site < settings .sites
+
+-- "an interval not within 0 to 1023 with low below high"
+pub record Interval (low high : ℕ) : Type 0 where
+  pub low-below : low < high
+  pub high-within : high ≤ topValue
+
+pub record HalvingAt (settings : Settings) (signals site low high : ℕ) : Type 0 where
+  pub closing : ClosingAt settings signals site
+  pub interval : Interval low high
+
+abbrev pub SoundPhase : Settings → ℕ → Phase → Type 0
+SoundPhase settings signals Idle = signals < settings .sites
+SoundPhase settings signals (Collecting site) = ClosingAt settings signals site
+SoundPhase settings signals (Probing site low high sum) = HalvingAt settings signals site low high
+SoundPhase settings signals (Announcing site) = ClosingAt settings signals site
+
+pub record SoundCoordinator (settings : Settings) (c : Coordinator) : Type 0 where
+  pub numbers : SoundNumbers settings c
+  pub phase-sound : SoundPhase settings (c .signals) (c .phase)
+
+-- ---- The network at rest
+
+-- "For the many-draw call also: desk not idle, thresholds unequal, total plus all pendings other
+-- than all draws."
+pub record Sound (settings : Settings) (network : Network) : Type 0 where
+  pub all-sites : length (network .sites) ≡ settings .sites
+  pub sites-sound : (j : ℕ) → j < settings .sites → SoundSite settings (siteAt network j)
+  pub coordinator-sound : SoundCoordinator settings (network .coordinator)
+  pub idle : network .coordinator .phase ≡ Idle
+  pub same-threshold : (j : ℕ) → j < settings .sites
+      → siteAt network j .threshold ≡ network .coordinator .threshold
+  pub all-counted : network .coordinator .total + allPending (network .sites)
+      ≡ allArrivals (network .sites)

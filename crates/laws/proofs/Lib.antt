@@ -4,3 +4,4 @@ pub mod Arithmetic
 pub mod Lists
 pub mod Sums
 pub mod Updates
+pub mod FlatMemory

@@ -2,6 +2,8 @@
 --
 --   passed          a row's test failed, and no later row refuses
 --   both-accepted   neither the first part of a chain nor the later refuses
+--   refused-first   the first part refuses, so the chain does
+--   accepted-both   neither part refuses, so the chain does not
 use mathlib.Core.Path.{_≡_, refl}
 use mathlib.Core.Bool.{Bool, true, false}
 use Prim.Native.Nat.{ℕ, zero, suc, _≤_, _<_}
@@ -28,3 +30,17 @@ pub passed : (test : Bool) (refusal later : ℕ)
 passed true refusal later positive none =
     absurd (omega (arith, both-accepted refusal later none .first-accepted))
 passed false refusal later positive none = record { test-failed = refl; later-accepted = none }
+
+-- A chain whose first part refuses gives that refusal.
+pub refused-first : (first later : ℕ)
+    → (first ≡ accepted → ⊥)
+    → (first orElse later) ≡ first
+refused-first zero later refused = absurd (refused refl)
+refused-first (suc first) later refused = refl
+
+-- Both parts of a chain accept, so the chain does.
+pub accepted-both : (first later : ℕ)
+    → first ≡ accepted
+    → later ≡ accepted
+    → (first orElse later) ≡ accepted
+accepted-both first later none-first none-later = rw (none-first, none-later)

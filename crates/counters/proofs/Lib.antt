@@ -1,0 +1,4 @@
+-- Laws of the counters in a site's memory.
+pub mod Search
+pub mod CounterMemory
+pub mod CountLaws

@@ -1,0 +1,144 @@
+-- `counters::count_item` meets its contract: each way of counting by its law in CountLaws.
+use Prim.Native.Nat.{_<_}
+use mathlib.Core.Path.{_≡_, refl, ap}
+use native.Mathlib.Omega.{arith}
+use borrow.Author.Needs.{needs}
+use Rattle.model.specs.Counters.{Counter}
+use Rattle.counters.specs.Stored.{counterOf}
+use Rattle.counters.proofs.CounterMemory.{counterAt-countersIn}
+use Rattle.counters.proofs.CountLaws.{counted-own, counted-unused, counted-replaced, small-at, least-within}
+use Rattle.counters.proofs.count_item.Statement.{statement}
+use Rattle.counters.proofs.count_item.Tie as tie
+
+find-counter-requires : tie.Need-find-counter-requires
+find-counter-requires c κs = search needs
+
+counter-at-requires : tie.Need-counter-at-requires
+counter-at-requires c κs = search needs
+
+add-t17 : tie.Need-add-t17
+add-t17 c =
+    let start = c .before .before .before .before .before .before .before in
+    let a = start .args in
+    let found = c .before .before .before .before .find-counter .result in
+    omega (
+      arith,
+      ap (λ (x : Counter). x .count) (c .before .counter-at .ensures),
+      small-at (a .memory .now) (a .capacity) (a .used) (start .pre) found (search needs),
+    )
+
+put-counter-requires : tie.Need-put-counter-requires
+put-counter-requires c κs = search needs
+
+same-length : tie.Need-same-length
+same-length c = search needs
+
+returns : tie.Need-returns
+returns c =
+    let start = c .before .before .before .before .before .before .before .before .before .before .before in
+    let a = start .args in
+    let found = c .before .before .before .before .before .before .before .before .find-counter in
+    let old = c .before .before .before .before .before .counter-at in
+    let put = c .before .before .put-counter in
+    counted-own (a .memory .now) (put .last .0) (a .capacity) (a .used) (a .item) (start .pre) _
+    (found .result) (found .ensures) (counterOf (old .result)) (old .ensures) (search needs)
+    refl refl refl (put .ensures)
+
+put-counter-requires-2 : tie.Need-put-counter-requires-2
+put-counter-requires-2 c κs = search needs
+
+add-t24 : tie.Need-add-t24
+add-t24 c = search needs
+
+same-length-2 : tie.Need-same-length-2
+same-length-2 c = search needs
+
+returns-2 : tie.Need-returns-2
+returns-2 c =
+    let start = c .before .before .before .before .before .before .before .before .before in
+    let a = start .args in
+    let found = c .before .before .before .before .before .before .find-counter in
+    let put = c .before .before .put-counter2 in
+    counted-unused (a .memory .now) (put .last .0) (a .capacity) (a .used) (a .item) (start .pre) _
+    (found .result) (found .ensures) (search needs) (search needs)
+    refl refl refl (put .ensures)
+
+least-counter-requires : tie.Need-least-counter-requires
+least-counter-requires c κs = search needs
+
+counter-at-requires-2 : tie.Need-counter-at-requires-2
+counter-at-requires-2 c κs =
+    let start = c .before .before .before .before .before .before .before .before in
+    let a = start .args in
+    let least = c .before .least-counter in
+    omega (
+      arith,
+      start .pre .fits,
+      least .ensures,
+      least-within (a .memory .now) (a .capacity) (a .used) (start .pre) (search needs),
+    )
+
+add-t29 : tie.Need-add-t29
+add-t29 c =
+    let start = c .before .before .before .before .before .before .before .before .before .before in
+    let a = start .args in
+    let least = c .before .before .before .least-counter in
+    let inside : least .result < a .used = omega (
+      arith,
+      least .ensures,
+      least-within (a .memory .now) (a .capacity) (a .used) (start .pre) (search needs),
+    ) in
+    omega (
+      arith,
+      ap (λ (x : Counter). x .count) (c .before .counter-at2 .ensures),
+      small-at (a .memory .now) (a .capacity) (a .used) (start .pre) (least .result) inside,
+    )
+
+put-counter-requires-3 : tie.Need-put-counter-requires-3
+put-counter-requires-3 c κs =
+    let start = c .before .before .before .before .before .before .before .before .before .before .before in
+    let a = start .args in
+    let least = c .before .before .before .before .least-counter in
+    omega (
+      arith,
+      start .pre .fits,
+      least .ensures,
+      least-within (a .memory .now) (a .capacity) (a .used) (start .pre) (search needs),
+    )
+
+same-length-3 : tie.Need-same-length-3
+same-length-3 c = search needs
+
+returns-3 : tie.Need-returns-3
+returns-3 c =
+    let start = c .before .before .before .before .before .before .before .before .before .before .before .before .before .before in
+    let a = start .args in
+    let found = c .before .before .before .before .before .before .before .before .before .before .before .find-counter in
+    let least = c .before .before .before .before .before .before .before .least-counter in
+    let old = c .before .before .before .before .before .counter-at2 in
+    let put = c .before .before .put-counter3 in
+    counted-replaced (a .memory .now) (put .last .0) (a .capacity) (a .used) (a .item) (start .pre) _
+    (found .result) (found .ensures) (least .result) (counterOf (old .result)) (least .ensures)
+    (old .ensures) (search needs) (search needs)
+    refl refl refl (put .ensures)
+
+pub count-item-spec : {M : Type 1} → statement M
+count-item-spec =
+    tie.close
+    (tie.spec
+    find-counter-requires
+    counter-at-requires
+    add-t17
+    put-counter-requires
+    same-length
+    returns
+    put-counter-requires-2
+    add-t24
+    same-length-2
+    returns-2
+    least-counter-requires
+    counter-at-requires-2
+    add-t29
+    put-counter-requires-3
+    same-length-3
+    returns-3)

@@ -1,0 +1,67 @@
+-- `counters::find_counter` meets its contract. The loop's invariant: what is sought stands from place i
+-- on. The measure is the number of counters left.
+use Prim.Native.Nat.{_-_}
+use mathlib.Core.Path.{_≡_, sym, _∙_, ap}
+use native.Mathlib.Omega.{arith}
+use borrow.Author.Needs.{needs}
+use Rattle.counters.proofs.Search.{Searching, find-start, find-end, find-here, find-on}
+use Rattle.counters.proofs.find_counter.Statement.{statement}
+use Rattle.counters.proofs.find_counter.Tie as tie
+
+abbrev Inv-loop : tie.InvT-loop
+Inv-loop memory used item i₀ i = Searching memory used item i
+
+abbrev μ-loop : tie.MeasureT-loop
+μ-loop memory used item i₀ i = used - i
+
+loop-holds : tie.Need-loop-holds Inv-loop μ-loop
+loop-holds c = find-start (c .args .memory .now) (c .args .used) (c .args .item)
+
+mul-if2 : tie.Need-mul-if2 Inv-loop μ-loop
+mul-if2 c = search needs
+
+mul-if2-2 : tie.Need-mul-if2-2 Inv-loop μ-loop
+mul-if2-2 c = search needs
+
+shared-slice-read-if2 : tie.Need-shared-slice-read-if2 Inv-loop μ-loop
+shared-slice-read-if2 c = search needs
+
+add-i : tie.Need-add-i Inv-loop μ-loop
+add-i c = search needs
+
+loop-less : tie.Need-loop-less Inv-loop μ-loop
+loop-less c = search needs
+
+loop-again : tie.Need-loop-again Inv-loop μ-loop
+loop-again c =
+    let at-loop = c .before .before .before in
+    let a = at-loop .before .args in
+    find-on (a .memory .now) (a .used) (at-loop .loop .i) (a .item) (at-loop .loop .inv) (search needs) (c .if2 .left)
+
+returns : tie.Need-returns Inv-loop μ-loop
+returns c =
+    let at-loop = c .before in
+    let a = at-loop .before .args in
+    find-end (a .memory .now) (a .used) (at-loop .loop .i) (a .item) (at-loop .loop .inv) (search needs)
+
+returns-2 : tie.Need-returns-2 Inv-loop μ-loop
+returns-2 c =
+    let at-loop = c .before .before .before in
+    let a = at-loop .before .args in
+    find-here (a .memory .now) (a .used) (at-loop .loop .i) (a .item) (at-loop .loop .inv) (search needs) (c .if2 .taken)
+
+pub find-counter-spec : {M : Type 1} → statement M
+find-counter-spec =
+    tie.close
+    (tie.spec
+    Inv-loop
+    μ-loop
+    loop-holds
+    mul-if2
+    mul-if2-2
+    shared-slice-read-if2
+    add-i
+    loop-less
+    loop-again
+    returns
+    returns-2)

@@ -1,0 +1,3 @@
+-- What the functions on counters in lent memory promise.
+pub mod Stored
+pub mod Count

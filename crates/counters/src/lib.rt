@@ -1,0 +1,158 @@
+// The counters of one site in its lent memory (Space-Saving): the search for an item, the scan for
+// the least count, and the counting of an arrival's item. All functions here are internal steps: each
+// has a `requires`, which the entry points of crate `site` establish by their tests.
+
+ghost use mathlib.Core.Path.{_≡_};
+ghost use Prim.Native.Nat.{_+_, _*_, _≤_};
+ghost use lib.ListN.{length};
+ghost use Rattle.model.specs.Counters.{find, leastPlace};
+ghost use Rattle.model.specs.SiteMemory.{countersIn};
+ghost use Rattle.counters.specs.Count.{CountAsks, CountSays};
+ghost use Rattle.counters.specs.Stored.{storedAt, setCounter, counterOf, ordered};
+
+// A number of a site's memory: 4 bytes.
+pub type Word = u32;
+
+// A counter as memory holds it: document 01's slot, a code, a count, an overcount and a sent number.
+pub struct StoredCounter {
+    pub item: Word,
+    pub count: Word,
+    pub overestimate: Word,
+    pub reported: Word,
+}
+
+// The lowest place of the item's counter, or the number of counters in use if it has none.
+pub fn find_counter(memory: &[Word], used: usize, item: Word) -> usize
+    requires { ⌜ 4 * used ≤ length (now memory) ⌝ }
+    ensures { λ r. ⌜ r ≡ find item (countersIn used (now (memory .entry))) ⌝ }
+{
+    let mut i = 0;
+    let found = loop {
+        if used <= i {
+            break used;
+        }
+        if memory[4 * i] == item {
+            break i;
+        }
+        i += 1;
+    };
+    found
+}
+
+// Whether a counter comes before another: by count, and of equals by item.
+pub fn is_before(count: Word, item: Word, least_count: Word, least_item: Word) -> bool
+    ensures { λ r. ⌜ r ≡ ordered count item «least_count» «least_item» ⌝ }
+{
+    if count < least_count {
+        return true;
+    }
+    if least_count < count {
+        return false;
+    }
+    item < least_item
+}
+
+// The place of the least count, of equals the one of the least item.
+pub fn least_counter(memory: &[Word], used: usize) -> usize
+    requires { ⌜ 4 * used ≤ length (now memory) ⌝ }
+    ensures { λ r. ⌜ r ≡ leastPlace (countersIn used (now (memory .entry))) ⌝ }
+{
+    let mut best = 0;
+    let mut i = 1;
+    while i < used {
+        if is_before(
+            memory[4 * i + 1],
+            memory[4 * i],
+            memory[4 * best + 1],
+            memory[4 * best],
+        ) {
+            best = i;
+        }
+        i += 1;
+    }
+    best
+}
+
+// The counter at a place.
+pub fn counter_at(memory: &[Word], place: usize) -> StoredCounter
+    requires { ⌜ 4 * place + 4 ≤ length (now memory) ⌝ }
+    ensures { λ r. ⌜ counterOf r ≡ storedAt (now (memory .entry)) place ⌝ }
+{
+    let start = 4 * place;
+    StoredCounter {
+        item: memory[start],
+        count: memory[start + 1],
+        overestimate: memory[start + 2],
+        reported: memory[start + 3],
+    }
+}
+
+// A counter stored at a place.
+pub fn put_counter(memory: &mut [Word], place: usize, counter: StoredCounter)
+    requires { ⌜ 4 * place + 4 ≤ length (now memory) ⌝ }
+    ensures { λ r. ⌜ now (memory .exit) ≡ setCounter (now (memory .entry)) place (counterOf counter) ⌝ }
+{
+    let start = 4 * place;
+    memory[start] = counter.item;
+    memory[start + 1] = counter.count;
+    memory[start + 2] = counter.overestimate;
+    memory[start + 3] = counter.reported;
+}
+
+// What counting an item did: the place of its counter, the counters in use then, and the counter.
+pub struct Counted {
+    pub place: usize,
+    pub used: usize,
+    pub counter: StoredCounter,
+}
+
+// An item counted: in its own counter, in the next unused one, or in place of the least.
+pub fn count_item(memory: &mut [Word], capacity: usize, used: usize, item: Word) -> Counted
+    requires { ⌜ CountAsks (now memory) capacity used ⌝ }
+    ensures { λ r. ⌜ CountSays (now (memory .entry)) (now (memory .exit)) capacity used item r ⌝ }
+{
+    let found = find_counter(memory, used, item);
+    if found < used {
+        let old = counter_at(memory, found);
+        let more = StoredCounter {
+            item: old.item,
+            count: old.count + 1,
+            overestimate: old.overestimate,
+            reported: old.reported,
+        };
+        put_counter(memory, found, more);
+        return Counted {
+            place: found,
+            used: used,
+            counter: more,
+        };
+    }
+    if used < capacity {
+        let first = StoredCounter {
+            item: item,
+            count: 1,
+            overestimate: 0,
+            reported: 0,
+        };
+        put_counter(memory, used, first);
+        return Counted {
+            place: used,
+            used: used + 1,
+            counter: first,
+        };
+    }
+    let least = least_counter(memory, used);
+    let replaced = counter_at(memory, least);
+    let replacing = StoredCounter {
+        item: item,
+        count: replaced.count + 1,
+        overestimate: replaced.count,
+        reported: 0,
+    };
+    put_counter(memory, least, replacing);
+    Counted {
+        place: least,
+        used: used,
+        counter: replacing,
+    }
+}

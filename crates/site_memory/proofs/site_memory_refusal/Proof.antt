@@ -1,0 +1,57 @@
+-- `site_memory::site_memory_refusal` meets its contract: the rows of the chain in their order.
+use mathlib.Core.Path.{_∙_, sym, ap}
+use mathlib.Core.Bool.{Bool, not}
+use native.Mathlib.Omega.{arith}
+use borrow.Author.Needs.{needs}
+use Rattle.model.specs.Refusals.{when, _orElse_, accepted, memoryInconsistent}
+use Rattle.site_memory.proofs.ConsistencyLaws.{settings-refused, memory-short, memory-tested}
+use Rattle.site_memory.proofs.site_memory_refusal.Statement.{statement}
+use Rattle.site_memory.proofs.site_memory_refusal.Tie as tie
+
+test-settings-requires : tie.Need-test-settings-requires
+test-settings-requires c κs = search needs
+
+returns : tie.Need-returns
+returns c =
+    let a = c .before .before .before .args in
+    settings-refused (a .settings) (a .site) (a .memory .now) (c .before .test-settings .result) (c .before .test-settings .ensures) (c .if1 .taken)
+
+site-words-requires : tie.Need-site-words-requires
+site-words-requires c κs = sym (c .before .test-settings .ensures) ∙ c .if1 .left
+
+returns-2 : tie.Need-returns-2
+returns-2 c =
+    let a = c .before .before .before .before .before .args in
+    memory-short (a .settings) (a .site) (a .memory .now) (sym (c .before .before .before .test-settings .ensures) ∙ c .before .before .if1 .left) (omega arith)
+
+site-consistent-requires : tie.Need-site-consistent-requires
+site-consistent-requires c κs = record {
+  settings-accepted = sym (c .before .before .before .test-settings .ensures) ∙ c .before .before .if1 .left;
+  long-enough = omega (arith, c .before .site-words .ensures);
+}
+
+returns-3 : tie.Need-returns-3
+returns-3 c =
+    let a = c .before .before .before .before .before .before .before .args in
+    let tested = memory-tested (a .settings) (a .site) (a .memory .now) (sym (c .before .before .before .before .before .test-settings .ensures) ∙ c .before .before .before .before .if1 .left) (omega arith) in
+    sym (ap (λ (test : Bool). when (not test) memoryInconsistent orElse accepted)
+    (sym (c .before .site-consistent .ensures) ∙ c .if3 .taken)) ∙ tested
+
+returns-4 : tie.Need-returns-4
+returns-4 c =
+    let a = c .before .before .before .before .before .before .before .args in
+    let tested = memory-tested (a .settings) (a .site) (a .memory .now) (sym (c .before .before .before .before .before .test-settings .ensures) ∙ c .before .before .before .before .if1 .left) (omega arith) in
+    sym (ap (λ (test : Bool). when (not test) memoryInconsistent orElse accepted)
+    (sym (c .before .site-consistent .ensures) ∙ c .if3 .left)) ∙ tested
+
+pub site-memory-refusal-spec : {M : Type 1} → statement M
+site-memory-refusal-spec =
+    tie.close
+    (tie.spec
+    test-settings-requires
+    returns
+    site-words-requires
+    returns-2
+    site-consistent-requires
+    returns-3
+    returns-4)

@@ -1,0 +1,23 @@
+-- `site_memory::site_words` meets its contract: the histogram has 1024 places.
+use mathlib.Core.Path.{sym}
+use native.Mathlib.Omega.{arith}
+use borrow.Author.Needs.{needs}
+use Rattle.model.proofs.SettingsLaws.{settled}
+use Rattle.site_memory.proofs.ValueLaws.{valueCount-is}
+use Rattle.site_memory.proofs.site_words.Statement.{statement}
+use Rattle.site_memory.proofs.site_words.Tie as tie
+
+cast-result : tie.Need-cast-result
+cast-result c = search needs
+
+mul-result : tie.Need-mul-result
+mul-result c = omega (arith, settled (c .before .args .settings) (c .before .pre) .capacity .at-most)
+
+add-result : tie.Need-add-result
+add-result c = omega (arith, settled (c .before .args .settings) (c .before .pre) .capacity .at-most)
+
+returns : tie.Need-returns
+returns c = omega (arith, valueCount-is)
+
+pub site-words-spec : {M : Type 1} → statement M
+site-words-spec = tie.close (tie.spec cast-result mul-result add-result returns)

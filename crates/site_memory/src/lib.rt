@@ -1,0 +1,146 @@
+// A site's record and lent memory: how long it is, and whether it is consistent (refusals 4 and 11).
+// The entry points of crate `site` and the batch call test by these functions; those with a `requires`
+// are internal.
+
+ghost use mathlib.Core.Path.{_≡_};
+ghost use Prim.Native.Nat.{_+_, _*_, _≤_};
+ghost use lib.Dec.{eqb};
+ghost use lib.ListN.{length, take, drop};
+ghost use Rattle.model.specs.Refusals.{accepted};
+ghost use Rattle.model.specs.Limits.{valueCount};
+ghost use Rattle.model.specs.Settings.{settingsRefusal};
+ghost use Rattle.model.specs.Site.{upTo};
+ghost use Rattle.model.specs.SiteMemory.{siteWords, siteIn, countersIn, sum, counterConsistent, countersConsistent, siteConsistent, siteMemoryRefusal};
+ghost use Rattle.counters.specs.Stored.{storedAt};
+ghost use Rattle.site_memory.specs.Contracts.{MemoryFits, ValuesFit};
+use counters::StoredCounter;
+use counters::Word;
+use model::ACCEPTED;
+use model::MEMORY_INCONSISTENT;
+use model::MEMORY_TOO_SHORT;
+use model::SITE_LIMIT;
+use model::Settings;
+use model::SiteRecord;
+use model::VALUE_COUNT;
+
+// The numbers of one site's memory: four for each counter, and the histogram.
+pub fn site_words(settings: Settings) -> usize
+    requires { ⌜ settingsRefusal settings ≡ accepted ⌝ }
+    ensures { λ r. ⌜ r ≡ siteWords settings ⌝ }
+{
+    4 * (settings.capacity as usize) + VALUE_COUNT
+}
+
+// Whether the counter at a place is consistent. The sums are compared by differences, so that nothing
+// overflows whatever the memory holds.
+fn counter_consistent(settings: Settings, site: SiteRecord, memory: &[Word], place: usize) -> bool
+    requires { ⌜ 4 * place + 4 ≤ length (now memory) ⌝ }
+    ensures { λ r. ⌜ r ≡ counterConsistent settings (siteIn settings site (now (memory .entry))) (storedAt (now (memory .entry)) place) ⌝ }
+{
+    let counter = counters::counter_at(memory, place);
+    if settings.universe <= counter.item {
+        return false;
+    }
+    if counter.count < counter.overestimate {
+        return false;
+    }
+    if counter.count - counter.overestimate < counter.reported {
+        return false;
+    }
+    if site.arrivals < counter.count as u64 {
+        return false;
+    }
+    ((counter.count - counter.overestimate - counter.reported) as u64) < site.threshold
+}
+
+// Whether every counter in use is consistent.
+fn counters_consistent(settings: Settings, site: SiteRecord, memory: &[Word], used: usize) -> bool
+    requires { ⌜ 4 * used ≤ length (now memory) ⌝ }
+    ensures { λ r. ⌜ r ≡ countersConsistent settings (siteIn settings site (now (memory .entry))) (countersIn used (now (memory .entry))) ⌝ }
+{
+    let mut i = 0;
+    while i < used {
+        if counter_consistent(settings, site, memory, i) {
+            i += 1;
+        } else {
+            return false;
+        }
+    }
+    true
+}
+
+// Whether the histogram that starts at `from` sums to `total`: each count is taken off what is left of
+// the total, so that no sum is formed.
+fn values_sum_to(memory: &[Word], from: usize, total: u64) -> bool
+    requires { ⌜ from + valueCount ≤ length (now memory) ⌝ }
+    ensures { λ r. ⌜ r ≡ eqb (sum (take valueCount (drop from (now (memory .entry))))) total ⌝ }
+{
+    let mut left = total;
+    let mut i = 0;
+    while i < VALUE_COUNT {
+        let count = memory[from + i] as u64;
+        if left < count {
+            return false;
+        }
+        left = left - count;
+        i += 1;
+    }
+    left == 0
+}
+
+// Whether a site's record and memory are consistent.
+pub fn site_consistent(settings: Settings, site: SiteRecord, memory: &[Word]) -> bool
+    requires { ⌜ MemoryFits settings (now memory) ⌝ }
+    ensures { λ r. ⌜ r ≡ siteConsistent settings site (now (memory .entry)) ⌝ }
+{
+    let capacity = settings.capacity as u64;
+    if capacity < site.used {
+        return false;
+    }
+    if SITE_LIMIT < site.arrivals {
+        return false;
+    }
+    if site.threshold <= site.pending {
+        return false;
+    }
+    if SITE_LIMIT < site.threshold {
+        return false;
+    }
+    let used = site.used as usize;
+    if counters_consistent(settings, site, memory, used) {
+        let from = 4 * (settings.capacity as usize);
+        return values_sum_to(memory, from, site.arrivals);
+    }
+    false
+}
+
+// What every call on a site tests first: refusals 1, 2, 3; then 4, 11.
+pub fn site_memory_refusal(settings: Settings, site: SiteRecord, memory: &[Word]) -> u32
+    ensures { λ r. ⌜ r ≡ siteMemoryRefusal settings site (now (memory .entry)) ⌝ }
+{
+    let refusal = settings::test_settings(settings);
+    if refusal != ACCEPTED {
+        return refusal;
+    }
+    if memory.len() < site_words(settings) {
+        return MEMORY_TOO_SHORT;
+    }
+    if site_consistent(settings, site, memory) {
+        return ACCEPTED;
+    }
+    MEMORY_INCONSISTENT
+}
+
+// The arrivals of a histogram at or below a value.
+pub fn count_up_to(memory: &[Word], from: usize, value: usize) -> u64
+    requires { ⌜ ValuesFit (now memory) from value ⌝ }
+    ensures { λ r. ⌜ r ≡ upTo value (take valueCount (drop from (now (memory .entry)))) ⌝ }
+{
+    let mut count: u64 = 0;
+    let mut i = 0;
+    while i <= value {
+        count += memory[from + i] as u64;
+        i += 1;
+    }
+    count
+}

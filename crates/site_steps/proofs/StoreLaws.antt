@@ -1,0 +1,209 @@
+-- An arrival stored in a site's memory, call by call: what each part requires follows from the
+-- readiness of the site, and the parts together are the model's step.
+use Prim.Native.Nat.{ℕ, _+_, _*_, _<_, _≤_}
+use mathlib.Core.Path.{_≡_, refl, ap, sym, _∙_, subst₂}
+use mathlib.Core.List.{List}
+use mathlib.Core.Bool.{Bool}
+use native.Mathlib.Omega.{arith}
+use lib.Dec.{leb, eqb}
+use lib.ListN.{length, getD}
+use Rattle.model.specs.declared.Settings.{Settings}
+use Rattle.model.specs.declared.SiteRecord.{SiteRecord}
+use Rattle.model.specs.declared.Arrival.{Arrival}
+use Rattle.model.specs.declared.Message.{Message}
+use Rattle.model.specs.Choice.{if_then_else_}
+use Rattle.model.specs.Messages.{message}
+use Rattle.model.specs.Limits.{valueCount, siteLimit}
+use Rattle.model.specs.Counters.{Counter, counterAt, unreported}
+use Rattle.model.specs.Site.{Site, observed, oneMoreAt, placeFor, countersWith, reportsItem}
+use Rattle.model.specs.SiteMemory.{counterWords, siteWords, siteIn, siteRecord, siteMemory, sum, counterNumbers, overwrite}
+use Rattle.model.proofs.SettingsLaws.{Settled, settled}
+use Rattle.counters.specs.declared.Counted.{Counted}
+use Rattle.counters.specs.Stored.{counterOf}
+use Rattle.counters.specs.Count.{greatestWord, CountAsks, CountSays}
+use Rattle.counters.proofs.CounterMemory.{length-countersIn}
+use Rattle.site_memory.specs.Ready.{SiteReady, StepReady}
+use Rattle.site_memory.proofs.ValueLaws.{valueCount-is, getD-le-sum}
+use Rattle.site_steps.specs.Steps.{ObserveAsks, ReportAsks, ReportSays, StoreSays, messagesDue, GatherSays, ObserveStepSays}
+use Rattle.site_steps.specs.declared.StoredArrival.{StoredArrival}
+use Rattle.site_steps.specs.declared.Observed.{Observed}
+use Rattle.site_steps.proofs.Placements.{Acceptable, acceptable, Grown, grown}
+use Rattle.site_steps.proofs.ObserveMemory.{countersReported, length-countersReported, memory-reported, value-kept, memory-observed}
+
+module _
+    (settings : Settings)
+    (numbers : SiteRecord)
+    (arrival : Arrival)
+    (before : List ℕ)
+    (asks : ObserveAsks settings numbers arrival before) where
+  -- ---- What is known at the start
+
+  abbrev site : Site
+  site = siteIn settings numbers before
+
+  ready : SiteReady settings (siteIn settings numbers before)
+  ready = asks .ready .site-ready
+
+  taken : Acceptable settings (siteIn settings numbers before) arrival
+  taken = acceptable settings (siteIn settings numbers before) arrival (asks .not-refused)
+
+  capacity-known : Settled settings
+  capacity-known = settled settings (asks .ready .settings-accepted)
+
+  used-within : numbers .used ≤ settings .capacity
+  used-within = omega (arith, ready .counters-within, length-countersIn (numbers .used) before)
+
+  grew : Grown settings (siteIn settings numbers before)
+      (countersWith settings (siteIn settings numbers before) arrival)
+      (placeFor settings (siteIn settings numbers before) arrival)
+  grew = grown settings site arrival (capacity-known .capacity .at-least) ready taken
+
+  pub value-within : arrival .value < valueCount
+  value-within = omega (arith, taken .value-known, valueCount-is)
+
+  pub room : numbers .arrivals < siteLimit
+  room = taken .room
+
+  pub capacity-within : settings .capacity ≤ 3000
+  capacity-within = capacity-known .capacity .at-most
+
+  -- ---- What each call requires
+
+  pub count-asks : CountAsks before (settings .capacity) (numbers .used)
+  count-asks = record {
+    fits = omega (arith, asks .ready .long-enough);
+    some = capacity-known .capacity .at-least;
+    within = used-within;
+    small = λ place inside.
+        let counter = ready .counters-ready place (rw (length-countersIn (numbers .used) before) inside) in
+        omega (arith, counter .count-within, taken .room);
+  }
+
+  module _
+      (stored : List ℕ)
+      (counted : Counted)
+      (says : CountSays before stored (settings .capacity) (numbers .used) (arrival .item) counted)
+      (stored-long : length stored ≡ length before) where
+    pub report-asks : ReportAsks stored (counted .place) (counterOf (counted .counter))
+    report-asks = record {
+      fits = omega (
+        arith,
+        says .place,
+        grew .place-within,
+        grew .counters-within,
+        asks .ready .long-enough,
+      );
+      parts-within = rw (says .counter) (grew .just-counted .parts-within);
+    }
+
+    module _
+        (reported : List ℕ)
+        (due : Bool)
+        (report : ReportSays stored reported (counted .place) (counterOf (counted .counter))
+        (numbers .threshold) due)
+        (reported-long : length reported ≡ length stored) where
+      -- The report is the model's, at its place and of its counter.
+      model-report : ReportSays stored reported
+          (placeFor settings (siteIn settings numbers before) arrival)
+          (counterAt (countersWith settings (siteIn settings numbers before) arrival)
+          (placeFor settings (siteIn settings numbers before) arrival))
+          (numbers .threshold) due
+      model-report =
+          subst₂ (λ (p : ℕ) (x : Counter). ReportSays stored reported p x (numbers .threshold) due)
+          (says .place) (says .counter) report
+
+      reported-is : reported
+          ≡ overwrite
+          (counterNumbers (countersReported settings (siteIn settings numbers before) arrival))
+          before
+      reported-is =
+          memory-reported settings site arrival before stored reported
+          (grew .place-within) (says .memory) (model-report .memory)
+
+      pub value-place : counterWords settings + arrival .value < length reported
+      value-place = omega (arith, asks .ready .long-enough, value-within)
+
+      pub value-small : getD reported (counterWords settings + arrival .value) 0 < greatestWord
+      value-small =
+          omega (
+            arith,
+            value-kept settings numbers arrival before reported (asks .ready .long-enough)
+                value-within (grew .counters-within) reported-is,
+            getD-le-sum (site .histogram) (arrival .value),
+            ready .values-sum,
+            taken .room,
+          )
+
+      pub stored-arrival : (after : List ℕ)
+          → after ≡ oneMoreAt reported (counterWords settings + arrival .value)
+          → StoreSays settings numbers arrival before after
+          (record { used = counted .used; due = due })
+      stored-arrival after after-is = record {
+        used-then = says .used-then ∙ sym (length-countersReported settings site arrival);
+        due-is = model-report .due-is;
+        memory = after-is
+            ∙ memory-observed settings numbers arrival before reported (asks .ready .long-enough)
+            value-within (grew .counters-within) reported-is;
+      }
+
+-- ---- The record and the messages that go out
+
+module _
+    (settings : Settings)
+    (numbers : SiteRecord)
+    (arrival : Arrival)
+    (before after : List ℕ)
+    (stored : StoredArrival)
+    (says : StoreSays settings numbers arrival before after stored)
+    (pending value : ℕ)
+    (pending-is : pending
+    ≡ (if leb (numbers .threshold) (numbers .pending + 1) then 0 else numbers .pending + 1))
+    (value-is : value ≡ (if eqb (numbers .threshold) 1 then arrival .value else 0)) where
+  record-observed : _≡_ {A = SiteRecord}
+      (record {
+        arrivals = numbers .arrivals + 1;
+        pending = pending;
+        threshold = numbers .threshold;
+        used = stored .used;
+      })
+      (siteRecord (observed settings (siteIn settings numbers before) arrival .site))
+  record-observed = λ i. record {
+    arrivals = numbers .arrivals + 1;
+    pending = pending-is i;
+    threshold = numbers .threshold;
+    used = says .used-then i;
+  }
+
+  messages-observed : (itemMessage countMessage : Message)
+      → itemMessage ≡ message 1 (arrival .site) (arrival .item) (numbers .threshold)
+      → countMessage ≡ message 2 (arrival .site) (numbers .threshold) value
+      → messagesDue (stored .due) itemMessage
+      (leb (numbers .threshold) (numbers .pending + 1)) countMessage
+      ≡ observed settings (siteIn settings numbers before) arrival .messages
+  messages-observed itemMessage countMessage item-is count-is =
+      let due-then = leb (numbers .threshold) (numbers .pending + 1) in
+      let count-then = count-is ∙ ap (message 2 (arrival .site) (numbers .threshold)) value-is in
+      λ i. messagesDue (says .due-is i) (item-is i) due-then (count-then i)
+
+  pub observed-step : (itemMessage countMessage : Message) (answer : Observed)
+      → itemMessage ≡ message 1 (arrival .site) (arrival .item) (numbers .threshold)
+      → countMessage ≡ message 2 (arrival .site) (numbers .threshold) value
+      → GatherSays
+      (record {
+        arrivals = numbers .arrivals + 1;
+        pending = pending;
+        threshold = numbers .threshold;
+        used = stored .used;
+      })
+      (messagesDue (stored .due) itemMessage
+      (leb (numbers .threshold) (numbers .pending + 1)) countMessage)
+      answer
+      → ObserveStepSays settings numbers arrival before after answer
+  observed-step itemMessage countMessage answer item-is count-is gathered = record {
+    gathered =
+        subst₂ (λ (r : SiteRecord) (ms : List Message). GatherSays r ms answer)
+        record-observed
+        (messages-observed itemMessage countMessage item-is count-is)
+        gathered;
+    memory = says .memory;
+  }

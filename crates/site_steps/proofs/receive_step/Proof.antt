@@ -1,0 +1,94 @@
+-- `site_steps::receive_step` meets its contract: each kind by its test.
+use mathlib.Core.Path.{refl, ap, _∙_}
+use native.Mathlib.Omega.{arith}
+use borrow.Author.Tests.{eq-eqb, ne-eqb}
+use borrow.Author.Needs.{needs}
+use Rattle.model.specs.Messages.{message}
+use Rattle.model.proofs.SettingsLaws.{settled}
+use Rattle.site_memory.proofs.ValueLaws.{valueCount-is}
+use Rattle.site_steps.proofs.ReceiveLaws.{record-with}
+use Rattle.site_steps.proofs.receive_step.Statement.{statement}
+use Rattle.site_steps.proofs.receive_step.Tie as tie
+
+make-message-requires : tie.Need-make-message-requires
+make-message-requires c κs = search needs
+
+returns : tie.Need-returns
+returns c =
+    let a = c .before .before .before .before .args in
+    let poll = eq-eqb (a .message .kind) 3 (c .before .if1 .taken) in
+    record {
+      refusal = refl;
+      site = rw poll (record-with (a .site) (a .memory .now) 0 (a .site .threshold));
+      count = rw poll;
+      reply = rw poll (c .make-message .ensures);
+    }
+
+cast-from : tie.Need-cast-from
+cast-from c = search needs
+
+mul-from : tie.Need-mul-from
+mul-from c = omega (arith, settled (c .before .before .before .before .before .before .args .settings) (c .before .before .before .before .before .before .pre .ready .settings-accepted) .capacity .at-most)
+
+count-up-to-requires : tie.Need-count-up-to-requires
+count-up-to-requires c κs =
+    let a = c .before .before .before .before .before .before .args in
+    let asks = c .before .before .before .before .before .before .pre in
+    let probe = eq-eqb (a .message .kind) 5 (c .before .if2 .taken) in
+    record {
+      long-enough = asks .ready .long-enough;
+      value-within = omega (arith, asks .value-known probe, valueCount-is);
+      small-sum = omega (
+        arith,
+        asks .ready .site-ready .values-sum,
+        asks .ready .site-ready .arrivals-within,
+      );
+    }
+
+make-message-requires-2 : tie.Need-make-message-requires-2
+make-message-requires-2 c κs = search needs
+
+returns-2 : tie.Need-returns-2
+returns-2 c =
+    let a = c .before .before .before .before .before .before .before .before .args in
+    let not-poll = ne-eqb (a .message .kind) 3 (c .before .before .before .before .before .if1 .left) in
+    let probe = eq-eqb (a .message .kind) 5 (c .before .before .before .if2 .taken) in
+    record {
+      refusal = refl;
+      site = rw (not-poll, probe)
+          (record-with (a .site) (a .memory .now) (a .site .pending) (a .site .threshold));
+      count = rw (not-poll, probe);
+      reply = rw (not-poll, probe)
+          (c .make-message2 .ensures
+          ∙ ap (message 6 (a .message .site) (a .message .a)) (c .before .count-up-to .ensures));
+    }
+
+make-message-requires-3 : tie.Need-make-message-requires-3
+make-message-requires-3 c κs = search needs
+
+returns-3 : tie.Need-returns-3
+returns-3 c =
+    let a = c .before .before .before .before .before .before .args in
+    let not-poll = ne-eqb (a .message .kind) 3 (c .before .before .before .if1 .left) in
+    let not-probe = ne-eqb (a .message .kind) 5 (c .before .if2 .left) in
+    record {
+      refusal = refl;
+      site = rw (not-poll, not-probe)
+          (record-with (a .site) (a .memory .now) (a .site .pending) (a .message .a));
+      count = rw (not-poll, not-probe);
+      reply = rw (not-poll, not-probe) (c .make-message3 .ensures);
+    }
+
+pub receive-step-spec : {M : Type 1} → statement M
+receive-step-spec =
+    tie.close
+    (tie.spec
+    make-message-requires
+    returns
+    cast-from
+    mul-from
+    count-up-to-requires
+    make-message-requires-2
+    returns-2
+    make-message-requires-3
+    returns-3)

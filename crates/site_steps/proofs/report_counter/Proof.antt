@@ -1,0 +1,70 @@
+-- `site_steps::report_counter` meets its contract: the threshold fits, as it is at most a number of memory.
+use Prim.Native.Nat.{_+_, _-_}
+use native.Mathlib.Omega.{arith}
+use borrow.Author.Tests.{le-leb, lt-leb}
+use borrow.Author.Needs.{needs}
+use Rattle.site_steps.proofs.report_counter.Statement.{statement}
+use Rattle.site_steps.proofs.report_counter.Tie as tie
+
+sub-unreported : tie.Need-sub-unreported
+sub-unreported c = search needs
+
+sub-unreported-2 : tie.Need-sub-unreported-2
+sub-unreported-2 c = search needs
+
+cast-if1 : tie.Need-cast-if1
+cast-if1 c = search needs
+
+cast-amount : tie.Need-cast-amount
+cast-amount c = search needs
+
+mul-last : tie.Need-mul-last
+mul-last c = search needs
+
+add-last : tie.Need-add-last
+add-last c = search needs
+
+add-memory : tie.Need-add-memory
+add-memory c = search needs
+
+mul-memory : tie.Need-mul-memory
+mul-memory c = search needs
+
+slice-write-memory : tie.Need-slice-write-memory
+slice-write-memory c = search needs
+
+same-length : tie.Need-same-length
+same-length c = search needs
+
+returns : tie.Need-returns
+returns c =
+    let a = c .before .before .before .before .args in
+    let counter = a .counter in
+    let unreported = counter .count - counter .overestimate - counter .reported in
+    let due = le-leb (a .threshold) unreported (c .before .if1 .taken) in
+    record { due-is = rw due; memory = rw due }
+
+returns-2 : tie.Need-returns-2
+returns-2 c =
+    let a = c .before .before .before .args in
+    let counter = a .counter in
+    let unreported = counter .count - counter .overestimate - counter .reported in
+    let not-due = lt-leb (a .threshold) unreported (c .if1 .left) in
+    record { due-is = rw not-due; memory = rw not-due }
+
+pub report-counter-spec : {M : Type 1} → statement M
+report-counter-spec =
+    tie.close
+    (tie.spec
+    sub-unreported
+    sub-unreported-2
+    cast-if1
+    cast-amount
+    mul-last
+    add-last
+    add-memory
+    mul-memory
+    slice-write-memory
+    same-length
+    returns
+    returns-2)

@@ -1,0 +1,74 @@
+-- `site_steps::store_arrival` meets its contract: its three calls by the laws of StoreLaws.
+use mathlib.Core.Path.{_≡_}
+use native.Mathlib.Omega.{arith}
+use lib.ListN.{length}
+use borrow.Author.Needs.{needs}
+use Rattle.site_steps.proofs.StoreLaws.{count-asks, report-asks, value-place, value-small, stored-arrival}
+use Rattle.site_steps.proofs.store_arrival.Statement.{statement}
+use Rattle.site_steps.proofs.store_arrival.Tie as tie
+
+cast-capacity : tie.Need-cast-capacity
+cast-capacity c = search needs
+
+count-item-requires : tie.Need-count-item-requires
+count-item-requires c κs =
+    let a = c .before .before .before .args in
+    count-asks (a .settings) (a .site) (a .arrival) (a .memory .now) (c .before .before .before .pre)
+
+report-counter-requires : tie.Need-report-counter-requires
+report-counter-requires c κs =
+    let a = c .before .before .before .before .before .before .before .args in
+    let counted = c .before .before .before .count-item in
+    report-asks (a .settings) (a .site) (a .arrival) (a .memory .now) (c .before .before .before .before .before .before .before .pre) (counted .last .0)
+    (counted .result) (counted .ensures) (search needs)
+
+mul-value-place : tie.Need-mul-value-place
+mul-value-place c = search needs
+
+cast-value-place : tie.Need-cast-value-place
+cast-value-place c = search needs
+
+add-value-place : tie.Need-add-value-place
+add-value-place c = search needs
+
+count-value-requires : tie.Need-count-value-requires
+count-value-requires c κs =
+    let a = c .before .before .before .before .before .before .before .before .before .before .before .before .args in
+    let counted = c .before .before .before .before .before .before .before .before .count-item in
+    let report = c .before .before .before .before .report-counter in
+    let same-stored : length (counted .last .0) ≡ length (a .memory .now) = search needs in
+    let same-reported : length (report .last .0) ≡ length (counted .last .0) = search needs in (
+      value-place (a .settings) (a .site) (a .arrival) (a .memory .now) (c .before .before .before .before .before .before .before .before .before .before .before .before .pre) (counted .last .0)
+          (counted .result) (counted .ensures) same-stored (report .last .0) (report .result)
+          (report .ensures) same-reported,
+      value-small (a .settings) (a .site) (a .arrival) (a .memory .now) (c .before .before .before .before .before .before .before .before .before .before .before .before .pre) (counted .last .0)
+          (counted .result) (counted .ensures) same-stored (report .last .0) (report .result)
+          (report .ensures) same-reported,
+    )
+
+same-length : tie.Need-same-length
+same-length c = search needs
+
+returns : tie.Need-returns
+returns c =
+    let a = c .before .before .before .before .before .before .before .before .before .before .before .before .before .before .before .args in
+    let counted = c .before .before .before .before .before .before .before .before .before .before .before .count-item in
+    let report = c .before .before .before .before .before .before .before .report-counter in
+    let value = c .before .before .count-value in
+    stored-arrival (a .settings) (a .site) (a .arrival) (a .memory .now) (c .before .before .before .before .before .before .before .before .before .before .before .before .before .before .before .pre) (counted .last .0)
+    (counted .result) (counted .ensures) (search needs) (report .last .0) (report .result)
+    (report .ensures) (search needs) (value .last .0) (value .ensures)
+
+pub store-arrival-spec : {M : Type 1} → statement M
+store-arrival-spec =
+    tie.close
+    (tie.spec
+    cast-capacity
+    count-item-requires
+    report-counter-requires
+    mul-value-place
+    cast-value-place
+    add-value-place
+    count-value-requires
+    same-length
+    returns)

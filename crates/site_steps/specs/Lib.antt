@@ -1,0 +1,2 @@
+-- What the internal steps of a site require and promise.
+pub mod Steps

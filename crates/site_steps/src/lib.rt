@@ -1,0 +1,262 @@
+// The steps of a site: what an arrival and what a message do to its record and memory. They are
+// internal: they test nothing, and require what the entry points of crate `site`, and the batch call,
+// have tested. A site's memory is handed over as a slice that may be longer than it needs.
+
+ghost use mathlib.Core.Path.{_≡_};
+ghost use Prim.Native.Nat.{_+_, _<_};
+ghost use lib.Dec.{leb, eqb};
+ghost use lib.ListN.{length, getD};
+ghost use Rattle.model.specs.Choice.{if_then_else_};
+ghost use Rattle.model.specs.Messages.{message};
+ghost use Rattle.model.specs.Site.{oneMoreAt};
+ghost use Rattle.counters.specs.Count.{greatestWord};
+ghost use Rattle.counters.specs.Stored.{counterOf};
+ghost use Rattle.site_steps.specs.Steps.{ReportAsks, ReportSays, messagesDue, GatherSays, ObserveAsks, StoreSays, ObserveStepSays, ReceiveAsks, ReceiveStepSays};
+use counters::StoredCounter;
+use counters::Word;
+use model::ACCEPTED;
+use model::Arrival;
+use model::Message;
+use model::Settings;
+use model::SiteRecord;
+
+// The kinds of message that a site sends or takes: document 01's table.
+pub const ITEM_REPORT: u32 = 1;
+
+pub const COUNT_REPORT: u32 = 2;
+
+pub const POLL: u32 = 3;
+
+pub const POLL_ANSWER: u32 = 4;
+
+pub const PROBE: u32 = 5;
+
+pub const PROBE_ANSWER: u32 = 6;
+
+pub const ANNOUNCEMENT: u32 = 7;
+
+// What an arrival leads to: the site's record then, and the messages that go out, of which there are
+// `count`; an absent one is all zeros.
+pub struct Observed {
+    pub refusal: u32,
+    pub site: SiteRecord,
+    pub count: u32,
+    pub first: Message,
+    pub second: Message,
+}
+
+// What a message leads to: the site's record then, and the reply, if `count` is 1.
+pub struct Answered {
+    pub refusal: u32,
+    pub site: SiteRecord,
+    pub count: u32,
+    pub reply: Message,
+}
+
+// A message of four numbers; every message of a site is made here.
+pub fn make_message(kind: u32, site: u32, a: u64, b: u64) -> Message
+    ensures { λ r. ⌜ r ≡ message kind site a b ⌝ }
+{
+    Message {
+        kind: kind,
+        site: site,
+        a: a,
+        b: b,
+    }
+}
+
+// A counter reported if its unreported arrivals reach the threshold, and whether they do.
+fn report_counter(memory: &mut [Word], place: usize, counter: StoredCounter, threshold: u64) -> bool
+    requires { ⌜ ReportAsks (now memory) place (counterOf counter) ⌝ }
+    ensures { λ r. ⌜ ReportSays (now (memory .entry)) (now (memory .exit)) place (counterOf counter) threshold r ⌝ }
+{
+    let unreported = counter.count - counter.overestimate - counter.reported;
+    if threshold <= unreported as u64 {
+        let amount = threshold as Word;
+        let last = 4 * place + 3;
+        memory[last] = counter.reported + amount;
+        return true;
+    }
+    false
+}
+
+// One more arrival of the value that stands at a place of the memory.
+fn count_value(memory: &mut [Word], place: usize)
+    requires { ⌜ (place < length (now memory)) × (getD (now memory) place 0 < greatestWord) ⌝ }
+    ensures { λ r. ⌜ now (memory .exit) ≡ oneMoreAt (now (memory .entry)) place ⌝ }
+{
+    memory[place] = memory[place] + 1;
+}
+
+// What is pending after an arrival, which reports the count if it reaches the threshold.
+fn pending_after(threshold: u64, pending: u64) -> u64
+    ensures { λ r. ⌜ r ≡ (if leb threshold pending then 0 else pending) ⌝ }
+{
+    if threshold <= pending {
+        return 0;
+    }
+    pending
+}
+
+// The value that a count report carries: only while the threshold is 1.
+fn value_reported(threshold: u64, value: u32) -> u64
+    ensures { λ r. ⌜ r ≡ (if eqb threshold 1 then value else 0) ⌝ }
+{
+    if threshold == 1 {
+        return value as u64;
+    }
+    0
+}
+
+// The messages that are due, in order, with the site's record.
+fn gather(
+    site: SiteRecord,
+    item_due: bool,
+    item_report: Message,
+    count_due: bool,
+    count_report: Message,
+) -> Observed
+    ensures { λ r. ⌜ GatherSays site (messagesDue «item_due» «item_report» «count_due» «count_report») r ⌝ }
+{
+    let none = make_message(0, 0, 0, 0);
+    if item_due {
+        if count_due {
+            return Observed {
+                refusal: ACCEPTED,
+                site: site,
+                count: 2,
+                first: item_report,
+                second: count_report,
+            };
+        }
+        return Observed {
+            refusal: ACCEPTED,
+            site: site,
+            count: 1,
+            first: item_report,
+            second: none,
+        };
+    }
+    if count_due {
+        return Observed {
+            refusal: ACCEPTED,
+            site: site,
+            count: 1,
+            first: count_report,
+            second: none,
+        };
+    }
+    Observed {
+        refusal: ACCEPTED,
+        site: site,
+        count: 0,
+        first: none,
+        second: none,
+    }
+}
+
+// What an arrival stored: the counters in use then, and whether its item is to be reported.
+pub struct StoredArrival {
+    pub used: usize,
+    pub due: bool,
+}
+
+// An arrival in a site's memory: its item counted, and reported if that is due; its value counted.
+// Beyond the search and the scan one counter and one value are touched.
+fn store_arrival(
+    settings: Settings,
+    site: SiteRecord,
+    arrival: Arrival,
+    memory: &mut [Word],
+) -> StoredArrival
+    requires { ⌜ ObserveAsks settings site arrival (now memory) ⌝ }
+    ensures { λ r. ⌜ StoreSays settings site arrival (now (memory .entry)) (now (memory .exit)) r ⌝ }
+{
+    let capacity = settings.capacity as usize;
+    let used = site.used as usize;
+    let counted = counters::count_item(memory, capacity, used, arrival.item);
+    let place = counted.place;
+    let item_due = report_counter(memory, place, counted.counter, site.threshold);
+    let value_place = 4 * capacity + (arrival.value as usize);
+    count_value(memory, value_place);
+    StoredArrival {
+        used: counted.used,
+        due: item_due,
+    }
+}
+
+// An arrival at a site: stored, and then the messages that go out.
+pub fn observe_step(
+    settings: Settings,
+    site: SiteRecord,
+    arrival: Arrival,
+    memory: &mut [Word],
+) -> Observed
+    requires { ⌜ ObserveAsks settings site arrival (now memory) ⌝ }
+    ensures { λ r. ⌜ ObserveStepSays settings site arrival (now (memory .entry)) (now (memory .exit)) r ⌝ }
+{
+    let stored = store_arrival(settings, site, arrival, memory);
+    let pending = site.pending + 1;
+    let count_due = site.threshold <= pending;
+    let value = value_reported(site.threshold, arrival.value);
+    let after = SiteRecord {
+        arrivals: site.arrivals + 1,
+        pending: pending_after(site.threshold, pending),
+        threshold: site.threshold,
+        used: stored.used as u64,
+    };
+    let item = arrival.item as u64;
+    let item_report = make_message(ITEM_REPORT, arrival.site, item, site.threshold);
+    let count_report = make_message(COUNT_REPORT, arrival.site, site.threshold, value);
+    gather(after, stored.due, item_report, count_due, count_report)
+}
+
+// A message at a site: a poll is answered by what is pending, a probe by the arrivals at or below its
+// value, and an announcement sets the threshold. The memory is only read.
+pub fn receive_step(
+    settings: Settings,
+    site: SiteRecord,
+    message: Message,
+    memory: &[Word],
+) -> Answered
+    requires { ⌜ ReceiveAsks settings site message (now memory) ⌝ }
+    ensures { λ r. ⌜ ReceiveStepSays settings site message (now (memory .entry)) r ⌝ }
+{
+    if message.kind == POLL {
+        let after = SiteRecord {
+            arrivals: site.arrivals,
+            pending: 0,
+            threshold: site.threshold,
+            used: site.used,
+        };
+        return Answered {
+            refusal: ACCEPTED,
+            site: after,
+            count: 1,
+            reply: make_message(POLL_ANSWER, message.site, site.pending, 0),
+        };
+    }
+    if message.kind == PROBE {
+        let from = 4 * (settings.capacity as usize);
+        let value = message.a as usize;
+        let count = site_memory::count_up_to(memory, from, value);
+        return Answered {
+            refusal: ACCEPTED,
+            site: site,
+            count: 1,
+            reply: make_message(PROBE_ANSWER, message.site, message.a, count),
+        };
+    }
+    let after = SiteRecord {
+        arrivals: site.arrivals,
+        pending: site.pending,
+        threshold: message.a,
+        used: site.used,
+    };
+    Answered {
+        refusal: ACCEPTED,
+        site: after,
+        count: 0,
+        reply: make_message(0, 0, 0, 0),
+    }
+}

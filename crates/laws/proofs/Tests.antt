@@ -1,6 +1,8 @@
 -- Laws of tests joined by `&&`, `||` and `not`.
 --
 --   both-true        both tests of a conjunction hold
+--   neither-of-or    neither test of a disjunction holds that fails
+--   or-false         a disjunction with a test that fails
 --   false-of-not     what a test's negation says of it: it fails
 --   true-of-not      and it holds
 --   ltb-is-not-leb   b < a is the negation of a ≤ b, as tests
@@ -8,7 +10,7 @@ use mathlib.Core.Path.{_≡_, refl, sym, _∙_}
 use Prim.Native.Nat.{ℕ}
 use lib.Dec.{leb, ltb}
 use borrow.Author.Tests.{not-true, not-false, leb-true, leb-false, lt-ltb, le-ltb}
-use mathlib.Core.Bool.{Bool, true, false, _&&_, not, false≢true}
+use mathlib.Core.Bool.{Bool, true, false, _&&_, _||_, not, false≢true}
 
 pub record BothTrue (first second : Bool) : Type 0 where
   pub first-true : first ≡ true
@@ -17,6 +19,18 @@ pub record BothTrue (first second : Bool) : Type 0 where
 pub both-true : (first second : Bool) → (first && second) ≡ true → BothTrue first second
 both-true true second holds = record { first-true = refl; second-true = holds }
 both-true false second impossible = absurd (false≢true impossible)
+
+pub record NeitherTrue (first second : Bool) : Type 0 where
+  pub first-false : first ≡ false
+  pub second-false : second ≡ false
+
+pub neither-of-or : (first second : Bool) → (first || second) ≡ false → NeitherTrue first second
+neither-of-or true second impossible = absurd (false≢true (sym impossible))
+neither-of-or false second fails = record { first-false = refl; second-false = fails }
+
+pub or-false : (test : Bool) → (test || false) ≡ test
+or-false true = refl
+or-false false = refl
 
 -- The answer is the negation of a test: from the answer to the test.
 pub false-of-not : (test : Bool) {answer : Bool} → answer ≡ not test → answer ≡ true → test ≡ false

@@ -1,0 +1,137 @@
+-- The entry points: their chains of refusals, and what they hand back by these.
+--
+--   Cleared, cleared-start, cleared-on, cleared-end    the walk that clears the memory
+--   start-long, step-asks, announce-asks               what an accepted call may hand to a step
+--   hands-refused, hands-accepted                      the record `Hands`
+use mathlib.Core.Path.{_≡_, refl, ap, sym, _∙_}
+use mathlib.Core.Bool.{Bool, true, false}
+use mathlib.Core.List.{List, [], _∷_, _++_}
+use Prim.Native.Nat.{ℕ, suc, _+_, _≤_, _<_}
+use native.Mathlib.Numerals.{add-one}
+use native.Mathlib.Omega.{arith}
+use lib.Dec.{ltb}
+use borrow.Author.Tests.{ltb-false}
+use lib.ListN.{length, getD, set, drop, replicate, length-replicate, replicate-append-replicate}
+use lib.Seq.{drop-cons, set-at, append-snoc}
+use Rattle.model.specs.declared.Settings.{Settings}
+use Rattle.model.specs.declared.Message.{Message}
+use Rattle.model.specs.declared.CoordinatorRecord.{CoordinatorRecord}
+use Rattle.model.specs.Choice.{isZero}
+use Rattle.model.specs.Refusals.{accepted}
+use Rattle.model.specs.Limits.{valueCount}
+use Rattle.model.specs.Settings.{settingsRefusal}
+use Rattle.model.specs.Messages.{noMessage}
+use Rattle.model.specs.SiteMemory.{overwrite}
+use Rattle.model.specs.Coordinator.{CoordinatorStep, freshCoordinator, coordinatorRefusal}
+use Rattle.model.specs.CoordinatorMemory.{coordinatorIn, coordinatorMemory, coordinatorWords, coordinatorMemoryRefusal}
+use Rattle.model.proofs.RefusalLaws.{both-accepted, passed}
+use Rattle.coordinator.specs.declared.Answered.{Answered}
+use Rattle.coordinator.specs.declared.Received.{Received}
+use Rattle.coordinator.specs.Steps.{answerOf}
+use Rattle.coordinator.specs.Ready.{StepAsks, AnnounceAsks}
+use Rattle.coordinator.specs.Calls.{Hands, startRefusal, receiveRefusal, announceRefusal}
+use Rattle.coordinator.proofs.Chains.{accepts, refuses}
+use Rattle.coordinator.proofs.ReadyLaws.{tested, ready-of-consistent}
+
+-- ---- Memory cleared from its first place on
+
+pub record Cleared (before now : List ℕ) (i : ℕ) : Type 0 where
+  pub cleared : now ≡ replicate i 0 ++ drop i before
+
+module _ (before : List ℕ) where
+  pub cleared-start : Cleared before before 0
+  cleared-start = record { cleared = refl }
+
+  -- Place i is the first of what was left.
+  pub cleared-on : (now : List ℕ) (i : ℕ)
+      → Cleared before now i
+      → i < length before
+      → Cleared before (set now i 0) (i + 1)
+  cleared-on now i so-far inside = record {
+    cleared = ap (λ (l : List ℕ). set l i 0) (so-far .cleared)
+        ∙ ap (λ (l : List ℕ). set (replicate i 0 ++ l) i 0) (drop-cons before i 0 inside)
+        ∙ set-at (replicate i 0) _ _ 0 i (length-replicate i 0)
+        ∙ sym (append-snoc (replicate i 0) 0 (drop (suc i) before))
+        ∙ ap (λ (l : List ℕ). l ++ drop (suc i) before) (replicate-append-replicate i 1 0)
+        ∙ ap (λ (n : ℕ). replicate (i + 1) 0 ++ drop n before) (sym (add-one i));
+  }
+
+  pub cleared-end : (now : List ℕ) (i : ℕ)
+      → Cleared before now i
+      → now ≡ overwrite (replicate i 0) before
+  cleared-end now i so-far =
+      so-far .cleared
+      ∙ ap (λ (n : ℕ). replicate i 0 ++ drop n before) (sym (length-replicate i 0))
+
+  -- The fresh coordinator is zeros alone.
+  pub fresh-memory : (settings : Settings)
+      → overwrite (replicate (coordinatorWords settings) 0) before
+      ≡ coordinatorMemory (freshCoordinator settings) before
+  fresh-memory settings =
+      ap (λ (l : List ℕ). overwrite l before)
+      (sym (replicate-append-replicate (settings .universe) valueCount 0))
+
+-- ---- What an accepted call may hand to a step
+
+pub start-long : (settings : Settings) (words : ℕ)
+    → startRefusal settings words ≡ accepted
+    → coordinatorWords settings ≤ words
+start-long settings words none =
+    let rows = both-accepted (settingsRefusal settings) _ none in
+    let length-row = passed (ltb words (coordinatorWords settings)) 4 _ (omega arith)
+    (rows .later-accepted) in
+    ltb-false _ _ (length-row .test-failed)
+
+pub step-asks : (settings : Settings) (numbers : CoordinatorRecord) (m : Message) (memory : List ℕ)
+    → receiveRefusal settings numbers m memory ≡ accepted
+    → StepAsks settings numbers m memory
+step-asks settings numbers m memory none =
+    let rows = both-accepted (coordinatorMemoryRefusal settings numbers memory) _ none in
+    let facts = tested settings numbers memory (rows .first-accepted) in
+    record {
+      settings-accepted = facts .settings-accepted;
+      memory-long = facts .memory-long;
+      ready = ready-of-consistent settings (coordinatorIn settings numbers memory) (facts .consistent);
+      message-accepted = rows .later-accepted;
+    }
+
+pub announce-asks : (settings : Settings) (numbers : CoordinatorRecord) (memory : List ℕ)
+    → announceRefusal settings numbers memory ≡ accepted
+    → AnnounceAsks settings numbers
+announce-asks settings numbers memory none =
+    let rows = both-accepted (coordinatorMemoryRefusal settings numbers memory) _ none in
+    let facts = tested settings numbers memory (rows .first-accepted) in
+    let ready = ready-of-consistent settings (coordinatorIn settings numbers memory) (facts .consistent) in
+    record {
+      settings-accepted = facts .settings-accepted;
+      phase-shape = ready .shape .phase-shape;
+    }
+
+-- ---- What is handed back
+
+module _ (refusal : ℕ) (given : CoordinatorStep) (numbers : CoordinatorRecord) where
+  pub hands-refused : (r : Received)
+      → (refusal ≡ accepted → ⊥)
+      → r .coordinator ≡ numbers
+      → r .count ≡ 0
+      → r .out ≡ noMessage
+      → Hands (isZero refusal) given numbers r
+  hands-refused r some coordinator count out = record {
+    coordinator = coordinator ∙ refuses refusal _ _ some;
+    count = count ∙ refuses refusal _ _ some;
+    out = out ∙ refuses refusal _ _ some;
+  }
+
+  pub hands-accepted : (r : Received) (answered : Answered)
+      → refusal ≡ accepted
+      → answered ≡ answerOf given
+      → r .coordinator ≡ answered .coordinator
+      → r .count ≡ answered .count
+      → r .out ≡ answered .out
+      → Hands (isZero refusal) given numbers r
+  hands-accepted r answered none is coordinator count out = record {
+    coordinator =
+        coordinator ∙ ap (λ (x : Answered). x .coordinator) is ∙ accepts refusal _ _ none;
+    count = count ∙ ap (λ (x : Answered). x .count) is ∙ accepts refusal _ _ none;
+    out = out ∙ ap (λ (x : Answered). x .out) is ∙ accepts refusal _ _ none;
+  }

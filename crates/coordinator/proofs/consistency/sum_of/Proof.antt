@@ -1,0 +1,77 @@
+use Rattle.coordinator.proofs.StepLaws.{valueCount-is}
+use Rattle.coordinator.proofs.NumberLaws.{Summed, summed-start, summed-on, summed-end, within-at}
+use Rattle.model.specs.Limits.{coordinatorLimit, valueCount}
+use lib.ListN.{length, getD}
+use native.Mathlib.Omega.{arith}
+use Prim.Native.Nat.{_-_, _≤_}
+use borrow.Author.Needs.{needs}
+use Rattle.coordinator.proofs.consistency.sum_of.Statement.{statement}
+use Rattle.coordinator.proofs.consistency.sum_of.Tie as tie
+use Rattle.coordinator.proofs.consistency.sum_of.Reads as reads
+use Rattle.coordinator.proofs.consistency.sum_of.Lts as lts
+
+abbrev Inv-loop : tie.InvT-loop
+Inv-loop numbers total₀ i₀ total i = Summed coordinatorLimit numbers total i
+
+abbrev μ-loop : tie.MeasureT-loop
+μ-loop numbers total₀ i₀ total i = length numbers - i
+
+-- src/consistency.rt:44:5
+loop-holds : tie.Need-loop-holds Inv-loop μ-loop
+loop-holds c = summed-start coordinatorLimit (c .args .numbers .now)
+
+-- src/consistency.rt:45:18
+mul-total : tie.Need-mul-total Inv-loop μ-loop
+mul-total c = search needs
+
+-- src/consistency.rt:45:18
+shared-slice-read-total : tie.Need-shared-slice-read-total Inv-loop μ-loop
+shared-slice-read-total c = search needs
+
+-- src/consistency.rt:45:9
+add-total : tie.Need-add-total Inv-loop μ-loop
+add-total c =
+    let at-loop = c .before .before in
+    let start = at-loop .before in
+    let number = within-at coordinatorLimit (start .args .numbers .now) (start .pre .small) (at-loop .loop .i) in
+    omega (arith, at-loop .loop .inv .small, at-loop .loop .inv .place, start .pre .few, valueCount-is)
+
+-- src/consistency.rt:46:9
+add-i : tie.Need-add-i Inv-loop μ-loop
+add-i c = search needs
+
+-- src/consistency.rt:44:5
+loop-less : tie.Need-loop-less Inv-loop μ-loop
+loop-less c = search needs
+
+-- src/consistency.rt:44:5
+loop-again : tie.Need-loop-again Inv-loop μ-loop
+loop-again c =
+    let at-loop = c .before .before in
+    let start = at-loop .before in
+    summed-on coordinatorLimit (start .args .numbers .now) (at-loop .loop .total) (at-loop .loop .i)
+    (at-loop .loop .inv) (c .before .loop-test .taken)
+    (within-at coordinatorLimit (start .args .numbers .now) (start .pre .small) (at-loop .loop .i))
+
+-- src/consistency.rt:38:1
+returns : tie.Need-returns Inv-loop μ-loop
+returns c =
+    let at-loop = c .before in
+    let start = at-loop .before in
+    summed-end coordinatorLimit (start .args .numbers .now) (at-loop .loop .total) (at-loop .loop .i)
+    (at-loop .loop .inv) (c .loop-test .left)
+
+pub sum-of-spec : {M : Type 1} → statement M
+sum-of-spec =
+    tie.close
+    (tie.spec
+    Inv-loop
+    μ-loop
+    loop-holds
+    mul-total
+    shared-slice-read-total
+    add-total
+    add-i
+    loop-less
+    loop-again
+    returns)

@@ -5,5 +5,4 @@ pub mod Lists
 pub mod Sums
 pub mod Updates
 pub mod FlatMemory
-pub mod FlatMemory
 pub mod Overwrite

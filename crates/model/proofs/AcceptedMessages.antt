@@ -36,8 +36,12 @@ module _ (settings : Settings) (site : Site) (j : ℕ) (known : j < settings .si
       → threshold ≤ siteLimit
       → siteMessageRefusal settings site j (announcement j threshold base) ≡ accepted
   announcement-accepted threshold base rises within =
-      rw (lt-leb (settings .sites) j known, eq-eqb j j refl,
-      le-ltb threshold (site .threshold) rises, le-ltb siteLimit threshold within)
+      rw (
+        lt-leb (settings .sites) j known,
+        eq-eqb j j refl,
+        le-ltb threshold (site .threshold) rises,
+        le-ltb siteLimit threshold within,
+      )
 
 -- ---- At the coordinator
 
@@ -47,8 +51,12 @@ module _ (settings : Settings) (c : Coordinator) (j : ℕ) (known : j < settings
       → item < settings .universe
       → coordinatorRefusal settings c (itemReport j item (c .threshold)) ≡ accepted
   itemReport-accepted item idle item-known =
-      rw (lt-leb (settings .sites) j known, idle, lt-leb (settings .universe) item item-known,
-      eq-eqb (c .threshold) (c .threshold) refl)
+      rw (
+        lt-leb (settings .sites) j known,
+        idle,
+        lt-leb (settings .universe) item item-known,
+        eq-eqb (c .threshold) (c .threshold) refl,
+      )
 
   pub countReport-accepted : (value : ℕ)
       → c .phase ≡ Idle
@@ -60,19 +68,33 @@ module _ (settings : Settings) (c : Coordinator) (j : ℕ) (known : j < settings
       by-threshold : Dec (c .threshold ≡ 1)
           → coordinatorRefusal settings c (countReport j (c .threshold) value) ≡ accepted
       by-threshold (yes one) =
-          rw (lt-leb (settings .sites) j known, idle, eq-eqb (c .threshold) (c .threshold) refl,
-          eq-eqb (c .threshold) 1 one, le-ltb topValue value within)
+          rw (
+            lt-leb (settings .sites) j known,
+            idle,
+            eq-eqb (c .threshold) (c .threshold) refl,
+            eq-eqb (c .threshold) 1 one,
+            le-ltb topValue value within,
+          )
       by-threshold (no more) =
-          rw (lt-leb (settings .sites) j known, idle, eq-eqb (c .threshold) (c .threshold) refl,
-          ne-eqb (c .threshold) 1 more, eq-eqb value 0 (none more))
+          rw (
+            lt-leb (settings .sites) j known,
+            idle,
+            eq-eqb (c .threshold) (c .threshold) refl,
+            ne-eqb (c .threshold) 1 more,
+            eq-eqb value 0 (none more),
+          )
 
   pub pollAnswer-accepted : (amount : ℕ)
       → c .phase ≡ Collecting j
       → amount < c .threshold
       → coordinatorRefusal settings c (pollAnswer j amount) ≡ accepted
   pollAnswer-accepted amount phase-is below =
-      rw (lt-leb (settings .sites) j known, phase-is, eq-eqb j j refl,
-      lt-leb (c .threshold) amount below)
+      rw (
+        lt-leb (settings .sites) j known,
+        phase-is,
+        eq-eqb j j refl,
+        lt-leb (c .threshold) amount below,
+      )
 
   pub probeAnswer-accepted : (low high sum count : ℕ)
       → c .phase ≡ Probing j low high sum
@@ -80,6 +102,11 @@ module _ (settings : Settings) (c : Coordinator) (j : ℕ) (known : j < settings
       → count ≤ siteLimit
       → coordinatorRefusal settings c (probeAnswer j (middle low high) count) ≡ accepted
   probeAnswer-accepted low high sum count phase-is within few =
-      rw (lt-leb (settings .sites) j known, phase-is, eq-eqb j j refl,
-      le-ltb topValue (middle low high) within,
-      eq-eqb (middle low high) (middle low high) refl, le-ltb siteLimit count few)
+      rw (
+        lt-leb (settings .sites) j known,
+        phase-is,
+        eq-eqb j j refl,
+        le-ltb topValue (middle low high) within,
+        eq-eqb (middle low high) (middle low high) refl,
+        le-ltb siteLimit count few,
+      )

@@ -34,7 +34,7 @@ use Rattle.model.proofs.Stages.{Announces, announcingAt, signalsAt, Sta
 -- ---- An announcement handed over
 
 module _ {settings : Settings} {network : Network} {left : ℕ} {waiting : List Message}
-  (fit : Settled settings) (a : Announces settings network waiting left) where
+    (fit : Settled settings) (a : Announces settings network waiting left) where
   abbrev c : Coordinator
   c = network .coordinator
 
@@ -123,10 +123,10 @@ hands-out settings c j true phase-is goes-on = rw (phase-is, goes-on)
 hands-out settings c j false phase-is last = rw (phase-is, last)
 
 module _ {settings : Settings} {network : Network} {waiting : List Message} {left : ℕ}
-  (a : Announces settings network waiting left)
-  (phase-is : network .coordinator .phase ≡ Announcing (a .j))
-  (all-signals : network .coordinator .signals ≡ settings .sites)
-  (known : a .j < settings .sites) where
+    (a : Announces settings network waiting left)
+    (phase-is : network .coordinator .phase ≡ Announcing (a .j))
+    (all-signals : network .coordinator .signals ≡ settings .sites)
+    (known : a .j < settings .sites) where
   abbrev waitingThen : List Message
   waitingThen =
       waiting

@@ -143,8 +143,11 @@ module _ {settings : Settings} {c : Coordinator} (sound : SoundNumbers settings 
   withValue-sum value known one =
       let inside : value < valueCount = value-counted value known in
       rw (eq-eqb (c .threshold) 1 one)
-      (omega (arith, sound .histogram-sum one,
-      sum-oneMore (c .histogram) value (omega (arith, sound .histogram-length))))
+      (omega (
+        arith,
+        sound .histogram-sum one,
+        sum-oneMore (c .histogram) value (omega (arith, sound .histogram-length)),
+      ))
 
   pub numbers-count : (value signals : ℕ) (phase : Phase)
       → value ≤ topValue

@@ -57,8 +57,10 @@ takes-last-one : (settings : Settings) (c : Coordinator) (j amount : ℕ)
     (Announcing 0)) []
 takes-last-one settings c j amount phase-is last one =
     takes-answer settings c j amount phase-is
-    ∙ rw (le-ltb (j + 1) (settings .sites) last,
-    lt-leb 2 (thresholdOf settings (c .total + amount)) one)
+    ∙ rw (
+      le-ltb (j + 1) (settings .sites) last,
+      lt-leb 2 (thresholdOf settings (c .total + amount)) one,
+    )
 
 takes-last-more : (settings : Settings) (c : Coordinator) (j amount : ℕ)
     → c .phase ≡ Collecting j
@@ -69,13 +71,15 @@ takes-last-more : (settings : Settings) (c : Coordinator) (j amount : ℕ)
     (Probing 0 0 topValue 0)) (probe 0 (middle 0 topValue) ∷ [])
 takes-last-more settings c j amount phase-is last more =
     takes-answer settings c j amount phase-is
-    ∙ rw (le-ltb (j + 1) (settings .sites) last,
-    le-leb 2 (thresholdOf settings (c .total + amount)) more)
+    ∙ rw (
+      le-ltb (j + 1) (settings .sites) last,
+      le-leb 2 (thresholdOf settings (c .total + amount)) more,
+    )
 
 -- ---- Each message handed over
 
 module _ {settings : Settings} {network : Network} {waiting : List Message} {left : ℕ}
-  (fit : Settled settings) (p : Polls settings network waiting left) where
+    (fit : Settled settings) (p : Polls settings network waiting left) where
   abbrev c : Coordinator
   c = network .coordinator
 
@@ -124,9 +128,12 @@ module _ {settings : Settings} {network : Network} {waiting : List Message} {lef
     -- The base is at least the one before, so the threshold does not fall.
     rises : c .threshold ≤ thresholdOf settings base
     rises =
-        omega (arith, p .together .numbers .threshold-of-base,
-        threshold-mono settings (fit .sites .at-least) {base = c .base} {base′ = base}
-        (omega (arith, p .together .numbers .base-within)))
+        omega (
+          arith,
+          p .together .numbers .threshold-of-base,
+          threshold-mono settings (fit .sites .at-least) {base = c .base} {base′ = base}
+              (omega (arith, p .together .numbers .base-within)),
+        )
 
     closed-together : (phase : Phase)
         → Together settings

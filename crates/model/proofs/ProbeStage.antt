@@ -31,7 +31,7 @@ use Rattle.model.proofs.Stages.{Probes, Announces, Stage, StageAfter, h
 -- ---- What a probing coordinator does
 
 module _ (settings : Settings) (c : Coordinator) (j low high sum count : ℕ)
-  (phase-is : c .phase ≡ Probing j low high sum) where
+    (phase-is : c .phase ≡ Probing j low high sum) where
   takes-answer : coordinatorReceives settings c (probeAnswer j (middle low high) count)
       ≡ takesProbeAnswer settings c j low high sum (probeAnswer j (middle low high) count)
   takes-answer = rw phase-is
@@ -58,9 +58,9 @@ module _ (settings : Settings) (c : Coordinator) (j low high sum count : ℕ)
 -- ---- A narrowed interval
 
 module _ {settings : Settings} {network : Network}
-  (fit : Settled settings)
-  (together : Together settings network 0 0)
-  (all-signals : network .coordinator .signals ≡ settings .sites) where
+    (fit : Settled settings)
+    (together : Together settings network 0 0)
+    (all-signals : network .coordinator .signals ≡ settings .sites) where
   abbrev c : Coordinator
   c = network .coordinator
 
@@ -139,7 +139,7 @@ module _ {settings : Settings} {network : Network}
 -- ---- Each message handed over
 
 module _ {settings : Settings} {network : Network} {waiting : List Message} {left : ℕ}
-  (fit : Settled settings) (p : Probes settings network waiting left) where
+    (fit : Settled settings) (p : Probes settings network waiting left) where
   abbrev asked : ℕ
   asked = middle (p .low) (p .high)
 

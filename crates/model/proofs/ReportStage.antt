@@ -44,7 +44,7 @@ takes-count settings c j amount value closes idle is = rw (idle, is)
 -- ---- Each message handed over
 
 module _ {settings : Settings} {network : Network} {waiting : List Message} {left : ℕ}
-  (r : Reports settings network waiting left) where
+    (r : Reports settings network waiting left) where
   abbrev c : Coordinator
   c = network .coordinator
 

@@ -57,7 +57,7 @@ pub record CountedSound (u c n t place lost : ℕ) (before after : List Counter)
   pub unreported-moves : sumOf unreported after + lost ≡ sumOf unreported before + 1
 
 module _ {u c n t item : ℕ} {counters : List Counter}
-  (item-known : item < u) (positive : 1 ≤ t) (sound : CountersSound u c n t counters) where
+    (item-known : item < u) (positive : 1 ≤ t) (sound : CountersSound u c n t counters) where
   -- The counter at a place is changed.
   set-sound : (place lost : ℕ) (x : Counter)
       → place < length counters
@@ -129,7 +129,7 @@ abbrev pub withReport : Bool → ℕ → ℕ → List Counter → List Counter
 withReport due t place counters = if due then reportAt t place counters else counters
 
 module _ {u c n t place lost : ℕ} {before counters : List Counter}
-  (positive : 1 ≤ t) (counted : CountedSound u c n t place lost before counters) where
+    (positive : 1 ≤ t) (counted : CountedSound u c n t place lost before counters) where
   abbrev after : Counter
   after = afterReport t (counterAt counters place)
 
@@ -171,6 +171,10 @@ module _ {u c n t place lost : ℕ} {before counters : List Counter}
       ≡ sumOf unreported before + 1
   unreported-observed true due =
       let reached : t ≤ unreported (counterAt counters place) = leb-true _ _ due in
-      omega (arith, counted .unreported-moves, counted .here .within-count,
-      sumOf-set unreported noCounter counters place after (counted .inside))
+      omega (
+        arith,
+        counted .unreported-moves,
+        counted .here .within-count,
+        sumOf-set unreported noCounter counters place after (counted .inside),
+      )
   unreported-observed false not-due = omega (arith, counted .unreported-moves)

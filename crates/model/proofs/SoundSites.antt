@@ -121,9 +121,9 @@ module _ {settings : Settings} {site : Site} (sound : SoundSite settings site) w
 -- ---- An arrival
 
 module _ {settings : Settings} {site : Site} {arrival : Arrival}
-  (some-counter : 1 ≤ settings .capacity)
-  (taken : ArrivalTaken settings site arrival)
-  (sound : SoundSite settings site) where
+    (some-counter : 1 ≤ settings .capacity)
+    (taken : ArrivalTaken settings site arrival)
+    (sound : SoundSite settings site) where
   abbrev place : ℕ
   place = placeFor settings site arrival
 

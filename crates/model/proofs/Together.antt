@@ -41,16 +41,18 @@ pub record Together (settings : Settings) (network : Network) (informed flight :
       ≡ sumBelow (arrivalsAt (network .sites)) (settings .sites)
 
 module _ {settings : Settings} {network : Network} {informed flight : ℕ}
-  (together : Together settings network informed flight) where
+    (together : Together settings network informed flight) where
   -- ---- Bounds
 
   arrivals-bounded : sumBelow (arrivalsAt (network .sites)) (settings .sites)
       ≤ settings .sites * siteLimit
   arrivals-bounded =
-      omega (arith,
-      sumBelow-le (arrivalsAt (network .sites)) (λ j. siteLimit) (settings .sites)
-      (λ j j<. together .sites-sound j j< .arrivals-within),
-      sumBelow-const siteLimit (settings .sites))
+      omega (
+        arith,
+        sumBelow-le (arrivalsAt (network .sites)) (λ j. siteLimit) (settings .sites)
+            (λ j j<. together .sites-sound j j< .arrivals-within),
+        sumBelow-const siteLimit (settings .sites),
+      )
 
   -- The total, with what is on its way, is at most all arrivals.
   pub total-bounded : network .coordinator .total + flight ≤ settings .sites * siteLimit
@@ -67,9 +69,12 @@ module _ {settings : Settings} {network : Network} {informed flight : ℕ}
   pub threshold-bounded : Settled settings
       → 3 * network .coordinator .threshold ≤ siteLimit
   threshold-bounded fit =
-      omega (arith, together .numbers .threshold-of-base,
-      threshold-of-total fit (network .coordinator .base)
-      (omega (arith, together .numbers .base-within)))
+      omega (
+        arith,
+        together .numbers .threshold-of-base,
+        threshold-of-total fit (network .coordinator .base)
+            (omega (arith, together .numbers .base-within)),
+      )
 
   -- ---- One site changed
 
@@ -89,7 +94,7 @@ module _ {settings : Settings} {network : Network} {informed flight : ℕ}
     pub together-site : (informed′ flight′ : ℕ)
         → SoundSite settings site
         → ((i : ℕ) → i < informed′ → (i ≡ j → ⊥)
-            → siteAt network i .threshold ≡ network .coordinator .threshold)
+        → siteAt network i .threshold ≡ network .coordinator .threshold)
         → (j < informed′ → site .threshold ≡ network .coordinator .threshold)
         → site .threshold ≤ network .coordinator .threshold
         → site .arrivals ≡ siteAt network j .arrivals
@@ -106,11 +111,14 @@ module _ {settings : Settings} {network : Network} {informed flight : ℕ}
       thresholds-below = λ i i<.
           at-site (λ _ x. x .threshold ≤ network .coordinator .threshold) below i
           (λ _. together .thresholds-below i i<);
-      all-counted = omega (arith, together .all-counted,
-          sumBelow-set (λ (x : Site). x .pending) freshSite (network .sites) j (settings .sites)
-          site inside known,
-          sumBelow-set (λ (x : Site). x .arrivals) freshSite (network .sites) j (settings .sites)
-          site inside known);
+      all-counted = omega (
+        arith,
+        together .all-counted,
+        sumBelow-set (λ (x : Site). x .pending) freshSite (network .sites) j (settings .sites)
+            site inside known,
+        sumBelow-set (λ (x : Site). x .arrivals) freshSite (network .sites) j (settings .sites)
+            site inside known,
+      );
     }
 
   -- ---- The coordinator changed

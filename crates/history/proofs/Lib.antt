@@ -1,0 +1,1 @@
+-- The demands over every history of calls.

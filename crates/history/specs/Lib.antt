@@ -1,0 +1,3 @@
+-- Histories of calls, and what is claimed of all of them.
+pub mod State
+pub mod Histories

@@ -1,3 +1,4 @@
 -- Histories of calls, and what is claimed of all of them.
 pub mod State
 pub mod Histories
+pub mod Demands

@@ -79,7 +79,7 @@ sitePart settings held which words = partOf held (siteStart settings which) word
 
 -- The sites' memory with a part of it as a call left it.
 abbrev pub withPart : List ℕ → ℕ → ℕ → List ℕ → List ℕ
-withPart memory start words part = take start memory ++ part ++ drop (start + words) memory
+withPart memory start words part = take start memory ++ (part ++ drop (start + words) memory)
 
 abbrev pub withRecord : Sites → ℕ → SiteRecord → Sites
 withRecord sites which numbers = record {

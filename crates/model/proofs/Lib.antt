@@ -40,6 +40,7 @@ pub mod RunLaws
 pub mod RunInvariant
 pub mod Theorem
 pub mod Instances
+pub mod ReadBack
 pub mod SoundCounters
 pub mod SoundSites
 pub mod CoordinatorSound
@@ -52,4 +53,11 @@ pub mod ProbeStage
 pub mod AnnounceStage
 pub mod MidDelivery
 pub mod SoundStages
+pub mod NeverFalls
 pub mod SoundTheorem
+pub mod NumberGrowth
+pub mod NumberTheorem
+pub mod ConsistentSites
+pub mod ConsistentCoordinator
+pub mod ConsistentNetwork
+pub mod Instances

@@ -6,6 +6,7 @@
 --   start-stage                            the stage that an arrival begins
 --   sound-at-rest                          the stage that a delivery ends with
 --   stage-sites, stage-coordinator         each by itself
+--   stage-total, stage-sum                 within the limit 10^11
 use mathlib.Core.Path.{_≡_, refl, sym, ap, _∙_, subst}
 use mathlib.Core.Bool.{Bool, true, false, false≢true}
 use mathlib.Core.List.{List, [], _∷_, _++_}
@@ -22,16 +23,16 @@ use Rattle.model.specs.declared.Message.{Message}
 use Rattle.model.specs.declared.Phase.{Phase}
 use Rattle.model.specs.declared.Phase.the-variants.{Idle, Collecting, Probing, Announcing}
 use Rattle.model.specs.Choice.{if_then_else_}
-use Rattle.model.specs.Limits.{topValue}
+use Rattle.model.specs.Limits.{topValue, coordinatorLimit}
 use Rattle.model.specs.Site.{Site, observed, reportsItem, reportsCount, reportedValue}
 use Rattle.model.specs.Coordinator.{isAnnouncing}
 use Rattle.model.specs.Network.{Network, siteAt, withSite, deliveryFuel}
-use Rattle.model.specs.SoundNetwork.{SoundSite, SoundPhase, SoundCoordinator, Sound}
+use Rattle.model.specs.SoundNetwork.{SoundSite, SoundPhase, sumOfPhase, SoundCoordinator, Sound}
 use Rattle.model.proofs.SettingsLaws.{Settled}
 use Rattle.model.proofs.ClosedSites.{sumBelow-allPending, sumBelow-allArrivals}
 use Rattle.model.proofs.ArrivalParts.{firstMessages}
 use Rattle.model.proofs.SoundSites.{ArrivalTaken, sound-observed, pending-moves}
-use Rattle.model.proofs.Together.{Together, together-site}
+use Rattle.model.proofs.Together.{Together, total-bounded, together-site}
 use Rattle.model.proofs.Stages.{Reports, Polls, Probes, Announces, Stage, reporting, polling, halving, announcing, itemWaiting, countWaiting}
 
 -- ---- A network at rest
@@ -268,3 +269,38 @@ stage-coordinator fit (halving p) =
     record { numbers = p .together .numbers; phase-sound = rw (p .phase-is) (p .halving) }
 stage-coordinator fit (announcing a) =
     record { numbers = a .together .numbers; phase-sound = announces-phase fit a }
+
+-- ---- The limit, at every stage
+
+total-small : {settings : Settings} {network : Network} {informed flight : ℕ}
+    → Settled settings
+    → Together settings network informed flight
+    → network .coordinator .total ≤ coordinatorLimit
+total-small fit together = omega (arith, total-bounded together, fit .sites .at-most)
+
+-- The total is at most all arrivals, 32 × 10^9.
+pub stage-total : {settings : Settings} {network : Network} {waiting : List Message} {left : ℕ}
+    → Settled settings
+    → Stage settings network waiting left
+    → network .coordinator .total ≤ coordinatorLimit
+stage-total fit (reporting r) = total-small fit (r .together)
+stage-total fit (polling p) = total-small fit (p .together)
+stage-total fit (halving p) = total-small fit (p .together)
+stage-total fit (announcing a) = total-small fit (a .together)
+
+-- The sum of a halving has at most 10^9 from each site that answered.
+pub stage-sum : {settings : Settings} {network : Network} {waiting : List Message} {left : ℕ}
+    → Settled settings
+    → Stage settings network waiting left
+    → sumOfPhase (network .coordinator .phase) ≤ coordinatorLimit
+stage-sum fit (reporting r) = rw (r .idle) (omega arith)
+stage-sum fit (polling p) = rw (p .phase-is) (omega arith)
+stage-sum fit (halving p) =
+    rw (p .phase-is)
+    (omega (arith, p .sum-within, p .halving .closing .site-known, fit .sites .at-most))
+stage-sum {settings} {network} fit (announcing a) =
+    rw (a .phase-is) (by-phase (ltb (a .j) (settings .sites)))
+  where
+    by-phase : (more : Bool) → sumOfPhase (if more then Announcing (a .j) else Idle) ≤ coordinatorLimit
+    by-phase true = omega arith
+    by-phase false = omega arith

@@ -31,7 +31,8 @@ use Rattle.model.proofs.CoordinatorSound.{numbers-fresh}
 use Rattle.model.proofs.Together.{threshold-bounded}
 use Rattle.model.proofs.Stages.{Stage}
 use Rattle.model.proofs.MidDelivery.{hand-on, ask-on, Finishes, MidDelivery, mid-handed, mid-asked}
-use Rattle.model.proofs.SoundStages.{together-of-sound, start-stage, sound-at-rest, stage-sites, stage-coordinator}
+use Rattle.model.proofs.SoundStages.{together-of-sound, start-stage, sound-at-rest, stage-sites, stage-coordinator, stage-total, stage-sum}
+use Rattle.model.proofs.NeverFalls.{NoLess, steps-no-less}
 
 -- ---- Started fresh
 
@@ -186,6 +187,14 @@ module _ (settings : Settings) (network : Network) (arrival : Arrival)
   head-of left d m waiting stage waits =
       hand-on {m = m} {waiting = waiting} fit (rw waits at stage) .head-accepted
 
+  -- Finishing from here lowers no number.
+  no-less-here : (left : ℕ) (d : Delivery)
+      → MidDelivery settings final all left d
+      → NoLess (d .network .coordinator) (final .coordinator)
+  no-less-here left d mid =
+      subst (λ (after : Delivery). NoLess (d .network .coordinator) (after .network .coordinator))
+      (mid .finishes .ends left (omega arith)) (steps-no-less left settings d)
+
   in-mid-delivery : (n : ℕ) (d : Delivery)
       → Reached settings start n d
       → InMidDelivery settings network arrival n d
@@ -196,6 +205,10 @@ module _ (settings : Settings) (network : Network) (arrival : Arrival)
             head-of (there .left) d m waiting (there .mid .stage) waits;
         sites-sound = stage-sites (there .mid .stage);
         coordinator-sound = stage-coordinator fit (there .mid .stage);
+        total-within = stage-total fit (there .mid .stage);
+        sum-within = stage-sum fit (there .mid .stage);
+        estimates-below = no-less-here (there .left) d (there .mid) .estimates;
+        values-below = no-less-here (there .left) d (there .mid) .values;
         few-steps = omega (arith, there .in-all);
         finishes = ap outcome
             (there .mid .finishes .ends (deliveryFuel settings) (omega (arith, there .in-all)));

@@ -44,7 +44,7 @@ module _ {settings : Settings} {network : Network} {informed flight : ℕ}
     (together : Together settings network informed flight) where
   -- ---- Bounds
 
-  arrivals-bounded : sumBelow (arrivalsAt (network .sites)) (settings .sites)
+  pub arrivals-bounded : sumBelow (arrivalsAt (network .sites)) (settings .sites)
       ≤ settings .sites * siteLimit
   arrivals-bounded =
       omega (

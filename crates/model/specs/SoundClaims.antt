@@ -14,11 +14,12 @@ use Rattle.model.specs.declared.Settings.{Settings}
 use Rattle.model.specs.declared.Arrival.{Arrival}
 use Rattle.model.specs.declared.Message.{Message}
 use Rattle.model.specs.Refusals.{accepted}
+use Rattle.model.specs.Limits.{coordinatorLimit}
 use Rattle.model.specs.Settings.{settingsRefusal}
 use Rattle.model.specs.Coordinator.{isAnnouncing}
 use Rattle.model.specs.Network.{Network, freshNetwork, siteAt, handOver, askAnnouncement, deliveryFuel, afterArrival}
 use Rattle.model.specs.Runs.{refusalIn}
-use Rattle.model.specs.SoundNetwork.{SoundSite, SoundCoordinator, Sound}
+use Rattle.model.specs.SoundNetwork.{SoundSite, SoundCoordinator, sumOfPhase, estimateOf, countOfValue, Sound}
 use Rattle.model.specs.DeliveryClaims.{Delivery, delivery, joining, deliverySteps, outcome, deliveryOf, messageRefusal}
 
 -- ---- Deliveries that any caller may do
@@ -46,6 +47,15 @@ pub record InMidDelivery (settings : Settings) (network : Network) (arrival : Ar
   -- each site and the coordinator are sound by themselves: never 11, but for the limit
   pub sites-sound : (j : ℕ) → j < settings .sites → SoundSite settings (siteAt (d .network) j)
   pub coordinator-sound : SoundCoordinator settings (d .network .coordinator)
+  -- and of the limit: what is counted, and the sum of a halving, stay below it for every sound
+  -- network; no estimate or value count is above what it comes to
+  pub total-within : d .network .coordinator .total ≤ coordinatorLimit
+  pub sum-within : sumOfPhase (d .network .coordinator .phase) ≤ coordinatorLimit
+  pub estimates-below : (item : ℕ)
+      → estimateOf (d .network) item ≤ estimateOf (afterArrival settings network arrival .network) item
+  pub values-below : (value : ℕ)
+      → countOfValue (d .network) value
+      ≤ countOfValue (afterArrival settings network arrival .network) value
   -- every delivery comes to its end: no order of steps has more than these
   pub few-steps : n ≤ deliveryFuel settings
   -- finished in the model's order, it comes to the model's network and messages

@@ -1,3 +1,6 @@
 -- The demands over every history of calls.
 pub mod SiteParts
 pub mod SitesMemory
+pub mod RunSound
+pub mod BatchRuns
+pub mod HandedOut

@@ -4,3 +4,4 @@ pub mod SitesMemory
 pub mod RunSound
 pub mod BatchRuns
 pub mod HandedOut
+pub mod Decoded

@@ -5,3 +5,7 @@ pub mod RunSound
 pub mod BatchRuns
 pub mod HandedOut
 pub mod Decoded
+pub mod DeliveryLogs
+pub mod Invariant
+pub mod EmptyBatch
+pub mod Refused

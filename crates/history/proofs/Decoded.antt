@@ -36,6 +36,7 @@ use Rattle.model.specs.NetworkMemory.{sitesWords, sitesIn, networkIn}
 use Rattle.model.specs.SoundNetwork.{SoundSite}
 use Rattle.model.proofs.SettingsLaws.{Settled, settled}
 use Rattle.model.proofs.ConsistentSites.{length-countersIn, consistent-of-sound}
+use Rattle.site_memory.proofs.SiteMemoryLaws.{siteIn-siteMemory}
 use Rattle.coordinator_steps.proofs.MemoryLaws.{written-coordinator}
 use Rattle.history.specs.State.{Held, networkOf, recordAt, siteStart, sitePart, withPart, afterSiteCall, afterCoordinatorCall}
 use Rattle.history.proofs.SiteParts.{siteIn-take, front-long, siteIn-received}
@@ -157,9 +158,9 @@ module _ {settings : Settings} (passes : settingsRefusal settings ≡ accepted) 
     }
 
     pub network-site-written : (n : ℕ) → words ≤ length (sitePart settings held j n)
-        → siteIn settings (siteRecord site) (siteMemory settings site rest) ≡ site
         → networkOf settings (putBack n) ≡ withSite (networkOf settings held) j site
-    network-site-written n long back =
+    network-site-written n long =
+        let back = siteIn-siteMemory settings site rest few values rest-long in
         let records = set (held .sites .records) j (siteRecord site) in
         let start = siteStart settings j in
         let in-memory-at : offset words j + words ≤ length (held .siteMemory) =

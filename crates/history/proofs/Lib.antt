@@ -9,3 +9,14 @@ pub mod DeliveryLogs
 pub mod Invariant
 pub mod EmptyBatch
 pub mod Refused
+pub mod Accepted
+pub mod StartedState
+pub mod BatchedState
+pub mod SingleState
+pub mod DeliveredStep
+pub mod ToCoordinator
+pub mod ToSite
+pub mod NextAnnouncement
+pub mod DeliveredState
+pub mod GoesOn
+pub mod Theorem

@@ -93,8 +93,12 @@ module _ (settings : Settings) where
         let behind : words ≤ length (drop start memory) =
         omega (arith, length-drop start memory) in
         length-append (take start memory) (siteMemory settings site (drop start memory))
-        ∙ omega (arith, length-take-le start memory (omega arith), length-drop start memory,
-        length-siteMemory settings site (drop start memory) few values behind)
+        ∙ omega (
+          arith,
+          length-take-le start memory (omega arith),
+          length-drop start memory,
+          length-siteMemory settings site (drop start memory) few values behind,
+        )
 
     -- A part as a call left it, put back: the site written where its part starts.
     pub part-written : (start n : ℕ) (memory : List ℕ)
@@ -191,11 +195,15 @@ module _ (settings : Settings) where
       let own = fit 0 (omega arith) in
       length-append (siteMemory settings site (take words memory))
       (sitesMemory settings sites (drop words memory))
-      ∙ omega (arith, front, length-drop words memory,
-      length-siteMemory settings site (take words memory) (own .few) (own .values)
-      (omega (arith, front)),
-      length-sitesMemory sites (drop words memory) (λ j j<. fit (suc j) (omega arith))
-      (omega (arith, length-drop words memory)))
+      ∙ omega (
+        arith,
+        front,
+        length-drop words memory,
+        length-siteMemory settings site (take words memory) (own .few) (own .values)
+            (omega (arith, front)),
+        length-sitesMemory sites (drop words memory) (λ j j<. fit (suc j) (omega arith))
+            (omega (arith, length-drop words memory)),
+      )
 
   pub sitesIn-sitesMemory : (sites : List Site) (records : List SiteRecord) (memory : List ℕ)
       → AllStorable sites

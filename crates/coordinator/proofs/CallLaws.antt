@@ -4,14 +4,13 @@
 --   start-long, step-asks, announce-asks               what an accepted call may hand to a step
 --   hands-refused, hands-accepted                      the record `Hands`
 use mathlib.Core.Path.{_≡_, refl, ap, sym, _∙_}
-use mathlib.Core.Bool.{Bool, true, false}
-use mathlib.Core.List.{List, [], _∷_, _++_}
+use mathlib.Core.List.{List, _++_}
 use Prim.Native.Nat.{ℕ, suc, _+_, _≤_, _<_}
 use native.Mathlib.Numerals.{add-one}
 use native.Mathlib.Omega.{arith}
 use lib.Dec.{ltb}
 use borrow.Author.Tests.{ltb-false}
-use lib.ListN.{length, getD, set, drop, replicate, length-replicate, replicate-append-replicate}
+use lib.ListN.{length, set, drop, replicate, length-replicate, replicate-append-replicate}
 use lib.Seq.{drop-cons, set-at, append-snoc}
 use Rattle.model.specs.declared.Settings.{Settings}
 use Rattle.model.specs.declared.Message.{Message}
@@ -22,7 +21,7 @@ use Rattle.model.specs.Limits.{valueCount}
 use Rattle.model.specs.Settings.{settingsRefusal}
 use Rattle.model.specs.Messages.{noMessage}
 use Rattle.model.specs.SiteMemory.{overwrite}
-use Rattle.model.specs.Coordinator.{CoordinatorStep, freshCoordinator, coordinatorRefusal}
+use Rattle.model.specs.Coordinator.{CoordinatorStep, freshCoordinator}
 use Rattle.model.specs.CoordinatorMemory.{coordinatorIn, coordinatorMemory, coordinatorWords, coordinatorMemoryRefusal}
 use Rattle.model.proofs.RefusalLaws.{both-accepted, passed}
 use Rattle.coordinator_steps.specs.declared.Answered.{Answered}
@@ -91,7 +90,8 @@ step-asks settings numbers m memory none =
     record {
       settings-accepted = facts .settings-accepted;
       memory-long = facts .memory-long;
-      ready = ready-of-consistent settings (coordinatorIn settings numbers memory) (facts .consistent);
+      ready = ready-of-consistent settings (coordinatorIn settings numbers memory)
+          (facts .consistent);
       message-accepted = rows .later-accepted;
     }
 
@@ -101,7 +101,8 @@ pub announce-asks : (settings : Settings) (numbers : CoordinatorRecord) (memory 
 announce-asks settings numbers memory none =
     let rows = both-accepted (coordinatorMemoryRefusal settings numbers memory) _ none in
     let facts = tested settings numbers memory (rows .first-accepted) in
-    let ready = ready-of-consistent settings (coordinatorIn settings numbers memory) (facts .consistent) in
+    let ready = ready-of-consistent settings (coordinatorIn settings numbers memory)
+    (facts .consistent) in
     record {
       settings-accepted = facts .settings-accepted;
       phase-shape = ready .shape .phase-shape;

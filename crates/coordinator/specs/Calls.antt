@@ -1,6 +1,6 @@
 -- What the calls on the coordinator promise: the refusal, and what is handed back and written where
--- they accept and where they refuse. A refused call leaves record and memory as they were, hands back
--- no message, and 0 for their number; a refused start answers a fresh record all the same.
+-- they accept and where they refuse. A refused call leaves record and memory as they were, hands
+-- back no message, and 0 for their number; a refused start answers a fresh record all the same.
 --
 --   startRefusal, receiveRefusal, announceRefusal    the chains of tests
 --   Starts, Receives, Announces                      the promises
@@ -33,19 +33,21 @@ startRefusal settings words =
 
 -- "Started fresh, every number is 0, every threshold 1 and the desk idle"; what lies past the
 -- coordinator's numbers stays.
-pub record Starts (settings : Settings) (before after : List ℕ) (r : StartedCoordinator) : Type 0 where
-  pub refusal : r .refusal ≡ startRefusal settings (length before)
-  pub coordinator : r .coordinator ≡ coordinatorRecord (freshCoordinator settings)
-  pub memory :
-      after
-      ≡ (if isZero (startRefusal settings (length before))
-      then coordinatorMemory (freshCoordinator settings) before
-      else before)
+pub record Starts (settings : Settings) (before after : List ℕ) (r : StartedCoordinator) : Type 0
+  where
+    pub refusal : r .refusal ≡ startRefusal settings (length before)
+    pub coordinator : r .coordinator ≡ coordinatorRecord (freshCoordinator settings)
+    pub memory :
+        after
+        ≡ (if isZero (startRefusal settings (length before))
+        then coordinatorMemory (freshCoordinator settings) before
+        else before)
 
 -- ---- Answers of a step
 
 -- What a call hands back that answers with a step of the coordinator where it accepts.
-pub record Hands (accepts : Bool) (given : CoordinatorStep) (numbers : CoordinatorRecord) (r : Received)
+pub record Hands (accepts : Bool) (given : CoordinatorStep) (numbers : CoordinatorRecord)
+    (r : Received)
     : Type 0 where
   pub coordinator :
       r .coordinator ≡ (if accepts then coordinatorRecord (given .coordinator) else numbers)
@@ -80,7 +82,8 @@ announceRefusal settings numbers memory =
     coordinatorMemoryRefusal settings numbers memory
     orElse announcementRefusal (coordinatorIn settings numbers memory)
 
-pub record Announces (settings : Settings) (numbers : CoordinatorRecord) (memory : List ℕ) (r : Received)
+pub record Announces (settings : Settings) (numbers : CoordinatorRecord) (memory : List ℕ)
+    (r : Received)
     : Type 0 where
   pub refusal : r .refusal ≡ announceRefusal settings numbers memory
   pub answer : Hands (isZero (announceRefusal settings numbers memory))

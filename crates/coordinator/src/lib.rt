@@ -1,6 +1,6 @@
-// The coordinator: document 01's desk, on its record and lent memory of 8 bytes a number: a number for
-// each item (the estimates), then 1024 value counts. The calls of this file test all that they are
-// given (1 to 4 and 11, then the message) and have no `requires`.
+// The coordinator: document 01's desk, on its record and lent memory of 8 bytes a number: a number
+// for each item (the estimates), then 1024 value counts. The calls of this file test all that they
+// are given (1 to 4 and 11, then the message) and have no `requires`.
 
 ghost use mathlib.Core.Path.{_≡_};
 ghost use mathlib.Core.Bool.{not};
@@ -123,7 +123,8 @@ pub fn receive(
     message: Message,
     memory: &mut [u64],
 ) -> Received
-    ensures { λ r. ⌜ Receives settings coordinator message (now (memory .entry)) (now (memory .exit)) r ⌝ }
+    ensures { λ r. ⌜ Receives settings coordinator message (now (memory .entry))
+        (now (memory .exit)) r ⌝ }
 {
     let refusal = receive_refusal(settings, coordinator, message, memory);
     if refusal != ACCEPTED {

@@ -5,22 +5,21 @@
 --   count-report-of-idle, kind-of-collecting, kind-of-probing    the kind that the phase leaves
 --   item-known-of-report, item-amount-of-report, count-amount-of-report, value-of-report,
 --   amount-of-poll-answer, amount-of-probe-answer                what the kind says of a and b
-use mathlib.Core.Path.{_≡_, refl, sym, _∙_}
-use mathlib.Core.Bool.{Bool, true, false, _&&_, _||_, not}
+use mathlib.Core.Path.{_≡_}
+use mathlib.Core.Bool.{true, false, _&&_, _||_, not}
 use Prim.Native.Nat.{ℕ, _≤_, _<_}
 use native.Mathlib.Omega.{arith}
 use lib.Dec.{eqb, ltb, leb}
-use borrow.Author.Tests.{leb-false, ltb-false, eqb-true, eqb-false, ne-eqb, not-false}
+use borrow.Author.Tests.{leb-false, ltb-false, eqb-true, ne-eqb, not-false}
 use Rattle.laws.proofs.Tests.{both-true, neither-of-or}
 use Rattle.model.specs.declared.Settings.{Settings}
 use Rattle.model.specs.declared.Message.{Message}
-use Rattle.model.specs.declared.Phase.{Phase}
-use Rattle.model.specs.declared.Phase.the-variants.{Idle, Collecting, Probing, Announcing}
+use Rattle.model.specs.declared.Phase.the-variants.{Idle, Collecting, Probing}
 use Rattle.model.specs.Refusals.{accepted}
 use Rattle.model.specs.Choice.{isZero}
 use Rattle.model.specs.Limits.{topValue, siteLimit}
 use Rattle.model.specs.Messages.{isItemReport, isCountReport, isPollAnswer, isProbeAnswer}
-use Rattle.model.specs.Coordinator.{Coordinator, middle, dueIn, askedValue, namesLargeValue, wrongAtCoordinator, coordinatorRefusal}
+use Rattle.model.specs.Coordinator.{Coordinator, dueIn, askedValue, namesLargeValue, wrongAtCoordinator, coordinatorRefusal}
 use Rattle.model.proofs.RefusalLaws.{passed}
 
 -- ---- The rows of the chain
@@ -31,7 +30,8 @@ pub record NothingWrong (c : Coordinator) (m : Message) : Type 0 where
   pub count-amount : (isCountReport m && not (eqb (m .a) (c .threshold))) ≡ false
   pub poll-amount : (isPollAnswer m && (leb (c .threshold) (m .a) || not (isZero (m .b)))) ≡ false
   pub probe-amount :
-      (isProbeAnswer m && (not (eqb (m .a) (askedValue (c .phase))) || ltb siteLimit (m .b))) ≡ false
+      (isProbeAnswer m && (not (eqb (m .a) (askedValue (c .phase))) || ltb siteLimit (m .b))) ≡
+      false
 
 nothing-wrong : (c : Coordinator) (m : Message) → wrongAtCoordinator c m ≡ false → NothingWrong c m
 nothing-wrong c m fails =
@@ -62,7 +62,8 @@ message-accepted settings c m none =
     let item-row = passed (isItemReport m && leb (settings .universe) (m .a)) 6 _ (omega arith)
     (due-row .later-accepted) in
     let value-row = passed (namesLargeValue c m) 7 _ (omega arith) (item-row .later-accepted) in
-    let amount-row = passed (wrongAtCoordinator c m) 10 _ (omega arith) (value-row .later-accepted) in
+    let amount-row = passed (wrongAtCoordinator c m) 10 _ (omega arith)
+    (value-row .later-accepted) in
     record {
       site-known = leb-false _ _ (site-row .test-failed);
       due = not-false _ (due-row .test-failed);
@@ -73,7 +74,8 @@ message-accepted settings c m none =
 
 -- ---- By kind and phase
 
-module _ (settings : Settings) (c : Coordinator) (m : Message) (taken : MessageAccepted settings c m)
+module _ (settings : Settings) (c : Coordinator) (m : Message)
+    (taken : MessageAccepted settings c m)
   where
     -- At an idle coordinator a message that is no kind 1 is a kind 2.
     pub count-report-of-idle : c .phase ≡ Idle → (m .kind ≡ 1 → ⊥) → m .kind ≡ 2

@@ -1,13 +1,12 @@
--- Laws of the coordinator in lent memory (document 01, "Desk": a number for each code and 1024 class
--- counts): what a step writes, and the coordinator read back from what was written.
+-- Laws of the coordinator in lent memory (document 01, "Desk": a number for each code and 1024
+-- class counts): what a step writes, and the coordinator read back from what was written.
 --
 --   memory-kept, memory-item, memory-value   the memory after a step, as the code writes it
 --   written-coordinator                      reading back what was written
-use mathlib.Core.Path.{_≡_, refl, ap, sym, _∙_}
+use mathlib.Core.Path.{_≡_, refl, sym}
 use mathlib.Core.Bool.{Bool, true, false}
-use mathlib.Core.List.{List, _++_}
+use mathlib.Core.List.{List}
 use Prim.Native.Nat.{ℕ, _+_, _≤_, _<_}
-use native.Mathlib.Omega.{arith}
 use borrow.Author.Tests.{eqb-true}
 use lib.Dec.{eqb}
 use lib.ListN.{length, getD, set, take, drop}
@@ -32,7 +31,8 @@ module _ (settings : Settings) (numbers : CoordinatorRecord) (memory : List ℕ)
   pub memory-item : (m : Message)
       → m .a < settings .universe
       → set memory (m .a) (getD memory (m .a) 0 + m .b)
-      ≡ coordinatorMemory (takesItemReport (coordinatorIn settings numbers memory) m .coordinator) memory
+      ≡ coordinatorMemory (takesItemReport (coordinatorIn settings numbers memory) m .coordinator)
+      memory
   memory-item m known =
       rw (getD-take (settings .universe) memory (m .a) 0 known)
       (sym (overwritten-set-first (settings .universe) valueCount memory long (m .a) _ known))
@@ -42,17 +42,23 @@ module _ (settings : Settings) (numbers : CoordinatorRecord) (memory : List ℕ)
       → (numbers .threshold ≡ 1 → m .b < valueCount)
       → (if eqb (numbers .threshold) 1
       then oneMoreAt memory (settings .universe + m .b) else memory)
-      ≡ coordinatorMemory (takesCountReport settings (coordinatorIn settings numbers memory) m .coordinator) memory
+      ≡ coordinatorMemory (takesCountReport settings (coordinatorIn settings numbers memory) m
+      .coordinator) memory
   memory-value m known = by-threshold (eqb (numbers .threshold) 1) refl
     where
       by-threshold : (is-one : Bool)
           → eqb (numbers .threshold) 1 ≡ is-one
           → (if eqb (numbers .threshold) 1
           then oneMoreAt memory (settings .universe + m .b) else memory)
-          ≡ coordinatorMemory (takesCountReport settings (coordinatorIn settings numbers memory) m .coordinator) memory
+          ≡ coordinatorMemory (takesCountReport settings (coordinatorIn settings numbers memory) m
+          .coordinator) memory
       by-threshold true test =
           let within = known (eqb-true (numbers .threshold) 1 test) in
-          rw (test, getD-take valueCount (drop (settings .universe) memory) (m .b) 0 within, getD-drop)
+          rw (
+            test,
+            getD-take valueCount (drop (settings .universe) memory) (m .b) 0 within,
+            getD-drop,
+          )
           (sym (overwritten-set-second (settings .universe) valueCount memory long (m .b) _ within))
       by-threshold false test = rw test memory-kept
 
@@ -64,6 +70,7 @@ pub written-coordinator : (settings : Settings) (c : Coordinator) (memory : List
 written-coordinator settings c memory estimates-long histogram-long =
     let estimates : take (settings .universe) (coordinatorMemory c memory) ≡ c .estimates =
     rw (← estimates-long) (first-written (c .estimates) (c .histogram) memory) in
-    let histogram : take valueCount (drop (settings .universe) (coordinatorMemory c memory)) ≡ c .histogram =
+    let histogram : take valueCount (drop (settings .universe) (coordinatorMemory c memory)) ≡ c
+    .histogram =
     rw (← estimates-long, ← histogram-long) (second-written (c .estimates) (c .histogram) memory) in
     rw (estimates, histogram)

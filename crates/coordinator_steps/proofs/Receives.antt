@@ -1,17 +1,17 @@
--- The step by phase and kind: what the function for a kind gives is what `coordinatorReceives` says.
+-- The step by phase and kind: what the function for a kind gives is what `coordinatorReceives`
+-- says.
 --
 --   does-item, does-count, does-poll, does-probe, does-nothing
-use mathlib.Core.Path.{_≡_, refl, sym, subst}
+use mathlib.Core.Path.{_≡_, sym, subst}
 use mathlib.Core.List.{List, []}
 use Prim.Native.Nat.{ℕ, _≤_}
-use borrow.Author.Tests.{eq-eqb, ne-eqb}
+use borrow.Author.Tests.{ne-eqb}
 use lib.ListN.{length}
 use Rattle.model.specs.declared.Settings.{Settings}
 use Rattle.model.specs.declared.Message.{Message}
-use Rattle.model.specs.declared.Phase.{Phase}
 use Rattle.model.specs.declared.Phase.the-variants.{Idle, Collecting, Probing, Announcing}
 use Rattle.model.specs.declared.CoordinatorRecord.{CoordinatorRecord}
-use Rattle.model.specs.Coordinator.{Coordinator, CoordinatorStep, step, receivesIn, coordinatorReceives, takesItemReport, takesCountReport, takesPollAnswer, takesProbeAnswer}
+use Rattle.model.specs.Coordinator.{Coordinator, CoordinatorStep, step, coordinatorReceives, takesItemReport, takesCountReport, takesPollAnswer, takesProbeAnswer}
 use Rattle.model.specs.CoordinatorMemory.{coordinatorIn, coordinatorWords}
 use Rattle.coordinator_steps.specs.declared.Answered.{Answered}
 use Rattle.coordinator_steps.specs.Steps.{answerOf, Does}

@@ -5,19 +5,18 @@
 --   valueCount-is, value-known            the number of values
 --   item-asks, count-asks, poll-asks, probe-asks
 --   poll-kept, probe-kept                 kinds 4 and 6 change the record alone
-use mathlib.Core.Path.{_≡_, refl, ap, sym, _∙_}
+use mathlib.Core.Path.{_≡_, refl}
 use mathlib.Core.Bool.{Bool, true, false}
-use mathlib.Core.List.{List, _++_}
-use Prim.Native.Nat.{ℕ, _+_, _*_, _/_, _≤_, _<_, max}
-use native.Mathlib.Nat.{div-le-of-le-mul, mul-le-mul, mul-le-mul-left}
+use mathlib.Core.List.{List}
+use Prim.Native.Nat.{ℕ, _+_, _*_, _/_, _≤_, _<_}
+use native.Mathlib.Nat.{div-le-of-le-mul, mul-le-mul}
 use native.Mathlib.Omega.{arith}
 use lib.Dec.{eqb, ltb, leb}
-use lib.ListN.{length, getD, take, drop}
+use lib.ListN.{length, getD, drop}
 use lib.Seq.{getD-take, getD-drop}
 use Rattle.model.specs.declared.Settings.{Settings}
 use Rattle.model.specs.declared.Message.{Message}
-use Rattle.model.specs.declared.Phase.{Phase}
-use Rattle.model.specs.declared.Phase.the-variants.{Idle, Collecting, Probing, Announcing}
+use Rattle.model.specs.declared.Phase.the-variants.{Idle, Collecting, Probing}
 use Rattle.model.specs.declared.CoordinatorRecord.{CoordinatorRecord}
 use Rattle.model.specs.Refusals.{accepted}
 use Rattle.model.specs.Limits.{topValue, valueCount, siteLimit}
@@ -25,14 +24,15 @@ use Rattle.model.specs.Settings.{settingsRefusal, thresholdOf}
 use Rattle.model.specs.Coordinator.{Coordinator, enough, closed, narrowed, halved, takesPollAnswer, takesProbeAnswer, middle}
 use Rattle.model.specs.CoordinatorMemory.{coordinatorIn, coordinatorMemory, coordinatorWords}
 use Rattle.model.proofs.SettingsLaws.{settled}
-use Rattle.coordinator_steps.specs.Steps.{SettingsFit, ItemAsks, ValueRoom, CountAsks, PollAsks, HalveAsks, ProbeAsks}
-use Rattle.coordinator_steps.specs.Ready.{PhaseShape, phaseSum, CoordinatorShape, CoordinatorWithin, CoordinatorReady, StepAsks, readyLimit}
+use Rattle.coordinator_steps.specs.Steps.{SettingsFit, ItemAsks, ValueRoom, CountAsks, PollAsks, ProbeAsks}
+use Rattle.coordinator_steps.specs.Ready.{PhaseShape, StepAsks, readyLimit}
 use Rattle.coordinator_steps.proofs.Accepted.{MessageAccepted, message-accepted, count-report-of-idle, kind-of-collecting, kind-of-probing, item-known-of-report, item-amount-of-report, count-amount-of-report, value-of-report, amount-of-poll-answer, amount-of-probe-answer}
 use Rattle.coordinator_steps.proofs.MemoryLaws.{memory-kept}
 
 -- ---- Settings and threshold
 
-pub settings-fit : (settings : Settings) → settingsRefusal settings ≡ accepted → SettingsFit settings
+pub settings-fit : (settings : Settings) → settingsRefusal settings ≡ accepted → SettingsFit
+    settings
 settings-fit settings none =
     let facts = settled settings none in
     record {
@@ -49,7 +49,8 @@ pub threshold-small : (settings : Settings) (base : ℕ)
 threshold-small settings base fit =
     let factors : settings .epsilon ≤ 3000 * settings .sites = omega arith in
     let share : settings .epsilon * base / (3000 * settings .sites) ≤ base =
-    div-le-of-le-mul (3000 * settings .sites) (mul-le-mul {m₁ = base} {m₂ = base} factors (omega arith)) in
+    div-le-of-le-mul (3000 * settings .sites) (mul-le-mul {m₁ = base} {m₂ = base} factors
+    (omega arith)) in
     omega arith
 
 pub valueCount-is : valueCount ≡ 1024
@@ -93,7 +94,11 @@ module _ (settings : Settings) (numbers : CoordinatorRecord) (m : Message) (memo
       record {
         memory-long = asks .memory-long;
         item-known = known;
-        number-small = omega (arith, item-amount-of-report settings here m taken is, threshold-within);
+        number-small = omega (
+          arith,
+          item-amount-of-report settings here m taken is,
+          threshold-within,
+        );
       }
 
   value-room : m .kind ≡ 2 → numbers .threshold ≡ 1 → ValueRoom settings (m .b) memory
@@ -142,7 +147,12 @@ module _ (settings : Settings) (numbers : CoordinatorRecord) (m : Message) (memo
         site-known = shape .closing .site-known;
         halving = record {
           settings-fit = fit;
-          base-small = omega (arith, asks .ready .shape .base-within, asks .ready .within .total-within);
+          base-small = omega (
+            arith,
+            asks .ready .shape .base-within,
+            asks .ready .within
+                .total-within,
+          );
           interval = shape .interval;
           values = shape .values;
           sum-small = omega arith;
@@ -155,12 +165,6 @@ module _ (settings : Settings) (numbers : CoordinatorRecord) (m : Message) (memo
 pub record NumbersKept (before after : Coordinator) : Type 0 where
   pub estimates-kept : after .estimates ≡ before .estimates
   pub histogram-kept : after .histogram ≡ before .histogram
-
-kept : {before after : Coordinator}
-    → after .estimates ≡ before .estimates
-    → after .histogram ≡ before .histogram
-    → NumbersKept before after
-kept estimates histogram = record { estimates-kept = estimates; histogram-kept = histogram }
 
 pub poll-kept : (settings : Settings) (c : Coordinator) (site : ℕ) (m : Message)
     → NumbersKept c (takesPollAnswer settings c site m .coordinator)
@@ -228,7 +232,8 @@ probe-kept settings c site low high total m = by-site (ltb (site + 1) (settings 
         }
 
 -- A memory holds a coordinator whose numbers were kept as it is.
-pub memory-of-kept : (settings : Settings) (numbers : CoordinatorRecord) (memory : List ℕ) (after : Coordinator)
+pub memory-of-kept : (settings : Settings) (numbers : CoordinatorRecord) (memory : List ℕ)
+    (after : Coordinator)
     → coordinatorWords settings ≤ length memory
     → NumbersKept (coordinatorIn settings numbers memory) after
     → memory ≡ coordinatorMemory after memory

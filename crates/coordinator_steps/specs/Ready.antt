@@ -1,7 +1,9 @@
--- What a step asks of the coordinator and of the message. `CoordinatorReady` is what the consistency
--- test decides, but for the limit of 100,000,000,000: a step needs only that its sums fit 64 bits.
+-- What a step asks of the coordinator and of the message. `CoordinatorReady` is what the
+-- consistency test decides, but for the limit of 100,000,000,000: a step needs only that its sums
+-- fit 64 bits.
 --
---   PhaseShape settings signals phase    signals, site and interval of a phase, as document 01 has them
+--   PhaseShape settings signals phase    signals, site and interval of a phase, as document 01 has
+--      them
 --   CoordinatorShape settings c          consistency without the limit on numbers
 --   CoordinatorWithin limit c            the limit on numbers
 --   CoordinatorReady settings c          both, at `readyLimit`
@@ -33,11 +35,13 @@ pub record ClosingShape (settings : Settings) (signals site : ℕ) : Type 0 wher
   pub all-signalled : signals ≡ settings .sites
   pub site-known : site < settings .sites
 
+-- The halving: a closed round, and an interval of values with low below high.
 pub record ProbingShape (settings : Settings) (signals site low high : ℕ) : Type 0 where
   pub closing : ClosingShape settings signals site
   pub interval : low < high
   pub values : high ≤ topValue
 
+-- Signals, site and interval of a phase: fewer than k signals while idle, k in another phase.
 abbrev pub PhaseShape : Settings → ℕ → Phase → Type 0
 PhaseShape settings signals Idle = signals < settings .sites
 PhaseShape settings signals (Collecting site) = ClosingShape settings signals site
@@ -45,6 +49,7 @@ PhaseShape settings signals (Probing site low high total) =
     ProbingShape settings signals site low high
 PhaseShape settings signals (Announcing site) = ClosingShape settings signals site
 
+-- Consistency without the limit on numbers.
 pub record CoordinatorShape (settings : Settings) (c : Coordinator) : Type 0 where
   pub phase-shape : PhaseShape settings (c .signals) (c .phase)
   pub threshold-is : c .threshold ≡ thresholdOf settings (c .base)
@@ -60,19 +65,23 @@ phaseSum (Collecting site) = 0
 phaseSum (Probing site low high total) = total
 phaseSum (Announcing site) = 0
 
+-- No number of the memory or the record above a limit; base and threshold are at most the total.
 pub record CoordinatorWithin (limit : ℕ) (c : Coordinator) : Type 0 where
   pub total-within : c .total ≤ limit
   pub estimates-within : (item : ℕ) → getD (c .estimates) item 0 ≤ limit
   pub histogram-within : (value : ℕ) → getD (c .histogram) value 0 ≤ limit
   pub sum-within : phaseSum (c .phase) ≤ limit
 
+-- What a step asks of the coordinator.
 pub record CoordinatorReady (settings : Settings) (c : Coordinator) : Type 0 where
   pub shape : CoordinatorShape settings c
   pub within : CoordinatorWithin readyLimit c
 
 -- ---- The steps
 
-pub record StepAsks (settings : Settings) (numbers : CoordinatorRecord) (m : Message) (memory : List ℕ)
+-- What the step for a message asks: settings, memory and message accepted, the coordinator ready.
+pub record StepAsks (settings : Settings) (numbers : CoordinatorRecord) (m : Message)
+    (memory : List ℕ)
     : Type 0 where
   pub settings-accepted : settingsRefusal settings ≡ accepted
   pub memory-long : coordinatorWords settings ≤ length memory
@@ -80,6 +89,7 @@ pub record StepAsks (settings : Settings) (numbers : CoordinatorRecord) (m : Mes
   pub message-accepted :
       coordinatorRefusal settings (coordinatorIn settings numbers memory) m ≡ accepted
 
+-- What the step for an announcement asks: no more than settings and phase.
 pub record AnnounceAsks (settings : Settings) (numbers : CoordinatorRecord) : Type 0 where
   pub settings-accepted : settingsRefusal settings ≡ accepted
   pub phase-shape : PhaseShape settings (numbers .signals) (numbers .phase)

@@ -1,12 +1,20 @@
--- What the steps ask and promise.
+-- What the steps hand back, and what the functions for the single kinds of message ask so that no
+-- sum or product leaves 64 bits.
+--
+--   answerOf given                   the model's step as a function hands it back
+--   Does given before after r        answer and memory of a step
+--   inPhase, spoken, silent          a record in another phase; an answer with a message, and with
+--      none
+--   stepLimit                        the largest number that a step takes
+--   SettingsFit                      what accepted settings are worth to a step
+--   ThresholdAsks, ItemAsks, ValueRoom, CountAsks, PollAsks, HalveAsks, ProbeAsks
 use mathlib.Core.Path.{_≡_}
 use mathlib.Core.List.{List}
-use Prim.Native.Nat.{ℕ, _+_, _*_, _≤_, _<_}
+use Prim.Native.Nat.{ℕ, _+_, _≤_, _<_}
 use lib.ListN.{length, getD}
 use Rattle.model.specs.declared.Settings.{Settings}
 use Rattle.model.specs.declared.Message.{Message}
 use Rattle.model.specs.declared.Phase.{Phase}
-use Rattle.model.specs.declared.Phase.the-variants.{Idle, Collecting, Probing, Announcing}
 use Rattle.model.specs.declared.CoordinatorRecord.{CoordinatorRecord}
 use Rattle.model.specs.Limits.{topValue, valueCount}
 use Rattle.model.specs.Messages.{noMessage}
@@ -56,10 +64,12 @@ pub record SettingsFit (settings : Settings) : Type 0 where
   pub epsilon-small : settings .epsilon ≤ 1000
   pub rank-small : settings .rank ≤ 1000
 
+-- e × base fits, and 3000 × k is not 0.
 pub record ThresholdAsks (settings : Settings) (base : ℕ) : Type 0 where
   pub settings-fit : SettingsFit settings
   pub base-small : base ≤ stepLimit
 
+-- The place of an item's number, and room in it for the amount.
 pub record ItemAsks (settings : Settings) (m : Message) (memory : List ℕ) : Type 0 where
   pub memory-long : coordinatorWords settings ≤ length memory
   pub item-known : m .a < settings .universe
@@ -71,7 +81,9 @@ pub record ValueRoom (settings : Settings) (value : ℕ) (memory : List ℕ) : T
   pub memory-long : coordinatorWords settings ≤ length memory
   pub count-small : getD memory (settings .universe + value) 0 ≤ stepLimit
 
-pub record CountAsks (settings : Settings) (numbers : CoordinatorRecord) (m : Message) (memory : List ℕ)
+-- Room for a value that is counted, for the amount and for one more signal.
+pub record CountAsks (settings : Settings) (numbers : CoordinatorRecord) (m : Message)
+    (memory : List ℕ)
     : Type 0 where
   pub settings-fit : SettingsFit settings
   pub memory-long : coordinatorWords settings ≤ length memory
@@ -79,12 +91,14 @@ pub record CountAsks (settings : Settings) (numbers : CoordinatorRecord) (m : Me
   pub signals-few : numbers .signals < settings .sites
   pub total-small : numbers .total + m .a ≤ stepLimit
 
+-- Room in the total for a pending, from one of the sites.
 pub record PollAsks (settings : Settings) (numbers : CoordinatorRecord) (site : ℕ) (m : Message)
     : Type 0 where
   pub settings-fit : SettingsFit settings
   pub site-known : site < settings .sites
   pub total-small : numbers .total + m .a ≤ stepLimit
 
+-- An interval of values, and two sides of the halving that fit.
 pub record HalveAsks (settings : Settings) (numbers : CoordinatorRecord) (low high sum : ℕ)
     : Type 0 where
   pub settings-fit : SettingsFit settings
@@ -93,6 +107,7 @@ pub record HalveAsks (settings : Settings) (numbers : CoordinatorRecord) (low hi
   pub values : high ≤ topValue
   pub sum-small : sum ≤ stepLimit
 
+-- The same for an answer of one of the sites, with the sum that it leads to.
 pub record ProbeAsks (settings : Settings) (numbers : CoordinatorRecord) (site low high sum : ℕ)
     : Type 0 where
   pub site-known : site < settings .sites

@@ -1,5 +1,5 @@
-// The steps of a coordinator, without tests: what a message that was accepted does to its record and
-// memory. They are internal: an entry point of this crate and the batch call, which have tested
+// The steps of a coordinator, without tests: what a message that was accepted does to its record
+// and memory. They are internal: an entry point of this crate and the batch call, which have tested
 // settings, memory and message, call them.
 ghost use mathlib.Core.Path.{_≡_};
 ghost use mathlib.Core.List.{List};
@@ -130,7 +130,8 @@ fn take_item_report(
     memory: &mut [u64],
 ) -> Answered
     requires { ⌜ ItemAsks settings message (now memory) ⌝ }
-    ensures { λ r. ⌜ Does (takesItemReport (coordinatorIn settings coordinator (now (memory .entry))) message) (now (memory .entry)) (now (memory .exit)) r ⌝ }
+    ensures { λ r. ⌜ Does (takesItemReport (coordinatorIn settings coordinator
+        (now (memory .entry))) message) (now (memory .entry)) (now (memory .exit)) r ⌝ }
 {
     let item = message.a as usize;
     memory[item] = memory[item] + message.b;
@@ -141,7 +142,8 @@ fn take_item_report(
 // While the threshold is 1, an arrival's value is counted.
 fn count_value(settings: Settings, threshold: u64, value: u64, memory: &mut [u64])
     requires { ⌜ (threshold ≡ 1 → ValueRoom settings value (now memory)) ⌝ }
-    ensures { λ r. ⌜ now (memory .exit) ≡ (if eqb threshold 1 then oneMoreAt (now (memory .entry)) (settings .universe + value) else now (memory .entry)) ⌝ }
+    ensures { λ r. ⌜ now (memory .exit) ≡ (if eqb threshold 1 then oneMoreAt (now (memory .entry))
+        (settings .universe + value) else now (memory .entry)) ⌝ }
 {
     if threshold == 1 {
         let place = (settings.universe as usize) + (value as usize);
@@ -157,7 +159,9 @@ fn take_count_report(
     memory: &mut [u64],
 ) -> Answered
     requires { ⌜ CountAsks settings coordinator message (now memory) ⌝ }
-    ensures { λ r. ⌜ Does (takesCountReport settings (coordinatorIn settings coordinator (now (memory .entry))) message) (now (memory .entry)) (now (memory .exit)) r ⌝ }
+    ensures { λ r. ⌜ Does (takesCountReport settings
+        (coordinatorIn settings coordinator (now (memory .entry))) message) (now (memory .entry))
+        (now (memory .exit)) r ⌝ }
 {
     count_value(settings, coordinator.threshold, message.b, memory);
     let mut next = coordinator;
@@ -173,7 +177,8 @@ fn take_count_report(
 // The round is closed, with a record whose total has all answers.
 fn close(settings: Settings, coordinator: CoordinatorRecord) -> Answered
     requires { ⌜ ThresholdAsks settings (coordinator .total) ⌝ }
-    ensures { λ r. ⌜ ((memory : List ℕ) → r ≡ answerOf (closed settings (coordinatorIn settings coordinator memory) (coordinator .total))) ⌝ }
+    ensures { λ r. ⌜ ((memory : List ℕ) → r ≡ answerOf
+        (closed settings (coordinatorIn settings coordinator memory) (coordinator .total))) ⌝ }
 {
     let threshold = threshold_of(settings, coordinator.total);
     let mut next = coordinator;
@@ -197,7 +202,8 @@ fn take_poll_answer(
     message: Message,
 ) -> Answered
     requires { ⌜ PollAsks settings coordinator site message ⌝ }
-    ensures { λ r. ⌜ ((memory : List ℕ) → r ≡ answerOf (takesPollAnswer settings (coordinatorIn settings coordinator memory) site message)) ⌝ }
+    ensures { λ r. ⌜ ((memory : List ℕ) → r ≡ answerOf
+        (takesPollAnswer settings (coordinatorIn settings coordinator memory) site message)) ⌝ }
 {
     let mut next = coordinator;
     next.total = coordinator.total + message.a;
@@ -210,7 +216,8 @@ fn take_poll_answer(
 // The halving goes on with an interval, or ends where one value remains.
 fn narrow(settings: Settings, coordinator: CoordinatorRecord, low: u32, high: u32) -> Answered
     requires { ⌜ (low ≤ high) × (high ≤ topValue) ⌝ }
-    ensures { λ r. ⌜ ((memory : List ℕ) → r ≡ answerOf (narrowed (coordinatorIn settings coordinator memory) low high)) ⌝ }
+    ensures { λ r. ⌜ ((memory : List ℕ) → r ≡ answerOf
+        (narrowed (coordinatorIn settings coordinator memory) low high)) ⌝ }
 {
     if low == high {
         let mut next = coordinator;
@@ -233,7 +240,8 @@ fn halve(
     sum: u64,
 ) -> Answered
     requires { ⌜ HalveAsks settings coordinator low high sum ⌝ }
-    ensures { λ r. ⌜ ((memory : List ℕ) → r ≡ answerOf (halved settings (coordinatorIn settings coordinator memory) low high sum)) ⌝ }
+    ensures { λ r. ⌜ ((memory : List ℕ) → r ≡ answerOf
+        (halved settings (coordinatorIn settings coordinator memory) low high sum)) ⌝ }
 {
     let half = middle_of(low, high);
     let needed = (settings.rank as u64) * coordinator.base;
@@ -254,7 +262,9 @@ fn take_probe_answer(
     message: Message,
 ) -> Answered
     requires { ⌜ ProbeAsks settings coordinator site low high (sum + message .b) ⌝ }
-    ensures { λ r. ⌜ ((memory : List ℕ) → r ≡ answerOf (takesProbeAnswer settings (coordinatorIn settings coordinator memory) site low high sum message)) ⌝ }
+    ensures { λ r. ⌜ ((memory : List ℕ) → r ≡ answerOf
+        (takesProbeAnswer settings (coordinatorIn settings coordinator memory) site low high sum
+        message)) ⌝ }
 {
     let gained = sum + message.b;
     if site + 1 < settings.sites {
@@ -280,11 +290,12 @@ fn announcement_of(site: u32, threshold: u64, base: u64) -> Message
     }
 }
 
-// The next kind 7 of a coordinator that announces; after the last it is at rest. In another phase it
-// stays as it is.
+// The next kind 7 of a coordinator that announces; after the last it is at rest. In another phase
+// it stays as it is.
 pub fn announce_step(settings: Settings, coordinator: CoordinatorRecord) -> Answered
     requires { ⌜ AnnounceAsks settings coordinator ⌝ }
-    ensures { λ r. ⌜ ((memory : List ℕ) → r ≡ answerOf (announced settings (coordinatorIn settings coordinator memory))) ⌝ }
+    ensures { λ r. ⌜ ((memory : List ℕ) → r ≡ answerOf
+        (announced settings (coordinatorIn settings coordinator memory))) ⌝ }
 {
     let phase = coordinator.phase;
     match phase {
@@ -303,7 +314,8 @@ pub fn announce_step(settings: Settings, coordinator: CoordinatorRecord) -> Answ
     }
 }
 
-// Any message that is accepted. Kinds 1 and 2 touch one number of the memory at most, the others none.
+// Any message that is accepted. Kinds 1 and 2 touch one number of the memory at most, the others
+// none.
 pub fn receive_step(
     settings: Settings,
     coordinator: CoordinatorRecord,
@@ -311,7 +323,9 @@ pub fn receive_step(
     memory: &mut [u64],
 ) -> Answered
     requires { ⌜ StepAsks settings coordinator message (now memory) ⌝ }
-    ensures { λ r. ⌜ Does (coordinatorReceives settings (coordinatorIn settings coordinator (now (memory .entry))) message) (now (memory .entry)) (now (memory .exit)) r ⌝ }
+    ensures { λ r. ⌜ Does (coordinatorReceives settings
+        (coordinatorIn settings coordinator (now (memory .entry))) message) (now (memory .entry))
+        (now (memory .exit)) r ⌝ }
 {
     let phase = coordinator.phase;
     match phase {

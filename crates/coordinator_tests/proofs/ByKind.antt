@@ -1,10 +1,10 @@
--- What the rows 7 and 10 of the refusals come to, kind by kind: of each disjunction the part is left
--- that speaks of the message's kind.
+-- What the rows 7 and 10 of the refusals come to, kind by kind: of each disjunction the part is
+-- left that speaks of the message's kind.
 --
 --   large-of-count-report                                        row 7
 --   wrong-item-report, wrong-count-report, wrong-poll-answer, wrong-probe-answer    row 10
 use mathlib.Core.Path.{_≡_}
-use mathlib.Core.Bool.{Bool, _&&_, _||_, not}
+use mathlib.Core.Bool.{_&&_, _||_, not}
 use lib.Dec.{eqb, ltb, leb}
 use Rattle.laws.proofs.Tests.{or-false}
 use Rattle.model.specs.declared.Message.{Message}

@@ -7,7 +7,7 @@
 use mathlib.Core.Path.{_≡_, refl, ap, sym, _∙_}
 use mathlib.Core.Bool.{Bool, true, false, _&&_, _||_, not}
 use mathlib.Core.List.{List}
-use Prim.Native.Nat.{ℕ, zero, suc, _+_, _-_, _≤_, _<_}
+use Prim.Native.Nat.{ℕ, _+_, _-_, _≤_, _<_}
 use native.Mathlib.Omega.{arith}
 use lib.Dec.{eqb, ltb, leb}
 use lib.ListN.{length, take, drop}
@@ -139,7 +139,8 @@ module _ (settings : Settings) (numbers : CoordinatorRecord) (memory : List ℕ)
         accepted-first (settingsRefusal settings) _ none
         ∙ ap
         (λ (test : Bool). when test memoryTooShort
-        orElse consistency-row (coordinatorConsistent settings (coordinatorIn settings numbers memory)))
+        orElse consistency-row (coordinatorConsistent settings
+        (coordinatorIn settings numbers memory)))
         (lt-ltb _ _ short)
 
     -- With settings accepted and memory long enough, consistency decides.
@@ -151,6 +152,7 @@ module _ (settings : Settings) (numbers : CoordinatorRecord) (memory : List ℕ)
         accepted-first (settingsRefusal settings) _ none
         ∙ ap
         (λ (row : Bool). when row memoryTooShort
-        orElse consistency-row (coordinatorConsistent settings (coordinatorIn settings numbers memory)))
+        orElse consistency-row (coordinatorConsistent settings
+        (coordinatorIn settings numbers memory)))
         (le-ltb _ _ long)
         ∙ ap consistency-row test

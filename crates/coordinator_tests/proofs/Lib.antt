@@ -4,3 +4,4 @@ pub mod NumberLaws
 pub mod ByKind
 pub mod ConsistencyLaws
 pub mod ReadyLaws
+pub mod ReadyAgain

@@ -3,19 +3,17 @@
 --   Checked, checked-start, checked-on, checked-off, checked-end   the walk of `allWithin`
 --   Summed, summed-start, summed-on, summed-end                    the walk of `sum`
 --   within-at           all within a limit: the number at any place is
---   sum-one-more        one more at a place
-use mathlib.Core.Path.{_≡_, refl, ap, sym, _∙_}
+use mathlib.Core.Path.{_≡_, refl, ap, _∙_}
 use mathlib.Core.Bool.{Bool, true, false, _&&_}
 use mathlib.Core.List.{List, [], _∷_}
 use Prim.Native.Nat.{ℕ, zero, suc, _+_, _*_, _≤_, _<_}
 use native.Mathlib.Numerals.{add-one}
 use native.Mathlib.Omega.{arith}
 use lib.Dec.{leb}
-use lib.ListN.{length, getD, set, drop, drop-of-length-le}
+use lib.ListN.{length, getD, drop, drop-of-length-le}
 use lib.Seq.{drop-cons}
 use borrow.Author.Tests.{leb-true, le-leb, lt-leb}
 use Rattle.laws.proofs.Tests.{both-true}
-use Rattle.model.specs.Site.{oneMoreAt}
 use Rattle.model.specs.SiteMemory.{sum}
 use Rattle.model.specs.CoordinatorMemory.{allWithin}
 
@@ -106,10 +104,3 @@ module _ (limit : ℕ) (numbers : List ℕ) where
       → total ≡ sum numbers
   summed-end total i summed past =
       omega (arith, summed .rest-adds, ap sum (drop-of-length-le numbers past))
-
-pub sum-one-more : (numbers : List ℕ) (i : ℕ)
-    → i < length numbers
-    → sum (oneMoreAt numbers i) ≡ sum numbers + 1
-sum-one-more [] i inside = absurd (omega arith)
-sum-one-more (x ∷ xs) zero inside = omega arith
-sum-one-more (x ∷ xs) (suc i) inside = omega (arith, sum-one-more xs i (omega arith))

@@ -5,10 +5,10 @@
 --   consistent-facts                what `coordinatorConsistent` is worth
 --   ready-of-consistent             it is ready for a step
 --   Tested, tested                  what accepted settings and memory are worth
-use mathlib.Core.Path.{_≡_, refl, ap, sym, _∙_}
-use mathlib.Core.Bool.{Bool, true, false, _&&_, _||_, not}
+use mathlib.Core.Path.{_≡_, ap, sym, _∙_}
+use mathlib.Core.Bool.{true, _&&_, _||_, not}
 use mathlib.Core.List.{List}
-use Prim.Native.Nat.{ℕ, _≤_, _<_}
+use Prim.Native.Nat.{ℕ, _≤_}
 use native.Mathlib.Omega.{arith}
 use lib.Dec.{eqb, ltb, leb}
 use lib.ListN.{length}
@@ -20,7 +20,7 @@ use Rattle.model.specs.declared.Phase.the-variants.{Idle, Collecting, Probing, 
 use Rattle.model.specs.declared.CoordinatorRecord.{CoordinatorRecord}
 use Rattle.model.specs.Refusals.{accepted}
 use Rattle.model.specs.Limits.{topValue, coordinatorLimit}
-use Rattle.model.specs.Settings.{settingsRefusal, thresholdOf}
+use Rattle.model.specs.Settings.{settingsRefusal}
 use Rattle.model.specs.SiteMemory.{sum}
 use Rattle.model.specs.Coordinator.{Coordinator}
 use Rattle.model.specs.CoordinatorMemory.{coordinatorIn, coordinatorWords, coordinatorConsistent, coordinatorMemoryRefusal, phaseConsistent, allWithin}
@@ -66,7 +66,8 @@ phase-sum-within settings signals (Probing site low high total) holds =
     && ltb site (settings .sites)
     && ltb low high
     && leb high topValue in
-    leb-true total coordinatorLimit (both-true shape (leb total coordinatorLimit) holds .second-true)
+    leb-true total coordinatorLimit (both-true shape (leb total coordinatorLimit) holds
+    .second-true)
 phase-sum-within settings signals (Announcing site) holds = omega arith
 
 -- ---- The whole test
@@ -74,6 +75,7 @@ phase-sum-within settings signals (Announcing site) holds = omega arith
 pub record Consistent (settings : Settings) (c : Coordinator) : Type 0 where
   pub shape : CoordinatorShape settings c
   pub within : CoordinatorWithin coordinatorLimit c
+  pub histogram-all : allWithin coordinatorLimit (c .histogram) ≡ true
 
 -- While the threshold is 1 the other half of the test decides.
 counted-of-test : (c : Coordinator)
@@ -109,6 +111,7 @@ consistent-facts settings c holds =
         histogram-within = within-at coordinatorLimit (c .histogram) (seven .second-true);
         sum-within = phase-sum-within settings (c .signals) (c .phase) (two .first-true);
       };
+      histogram-all = seven .second-true;
     }
 
 -- A greater limit serves as well.
@@ -136,10 +139,11 @@ ready-of-consistent settings c holds =
 
 -- ---- The tests of every call
 
-pub record Tested (settings : Settings) (numbers : CoordinatorRecord) (memory : List ℕ) : Type 0 where
-  pub settings-accepted : settingsRefusal settings ≡ accepted
-  pub memory-long : coordinatorWords settings ≤ length memory
-  pub consistent : coordinatorConsistent settings (coordinatorIn settings numbers memory) ≡ true
+pub record Tested (settings : Settings) (numbers : CoordinatorRecord) (memory : List ℕ) : Type 0
+  where
+    pub settings-accepted : settingsRefusal settings ≡ accepted
+    pub memory-long : coordinatorWords settings ≤ length memory
+    pub consistent : coordinatorConsistent settings (coordinatorIn settings numbers memory) ≡ true
 
 pub tested : (settings : Settings) (numbers : CoordinatorRecord) (memory : List ℕ)
     → coordinatorMemoryRefusal settings numbers memory ≡ accepted

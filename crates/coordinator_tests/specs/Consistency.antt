@@ -1,6 +1,6 @@
 -- The consistency test in the order in which the code makes it: first what the record shows by
--- itself, then the threshold (whose base is then small), then the numbers in memory. The proofs show
--- that the parts together are `coordinatorConsistent`.
+-- itself, then the threshold (whose base is then small), then the numbers in memory. The proofs
+-- show that the parts together are `coordinatorConsistent`.
 use mathlib.Core.Path.{_≡_}
 use mathlib.Core.Bool.{Bool, true, _&&_, _||_, not}
 use mathlib.Core.List.{List}

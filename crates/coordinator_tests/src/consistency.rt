@@ -2,9 +2,7 @@
 // numbers they hold.
 ghost use mathlib.Core.Path.{_≡_};
 ghost use mathlib.Core.Bool.{_&&_};
-ghost use Prim.Native.Nat.{ℕ, _≤_};
 ghost use lib.Dec.{eqb, ltb};
-ghost use lib.ListN.{length};
 ghost use Rattle.model.specs.SiteMemory.{sum};
 ghost use Rattle.model.specs.CoordinatorMemory.{allWithin, phaseConsistent, coordinatorIn, coordinatorConsistent, coordinatorMemoryRefusal};
 ghost use Rattle.coordinator_tests.specs.Consistency.{recordConsistent, numbersConsistent, SumAsks, MemoryAsks};
@@ -97,7 +95,8 @@ fn record_consistent(settings: Settings, coordinator: CoordinatorRecord) -> bool
 // What the numbers in memory show.
 fn numbers_consistent(settings: Settings, coordinator: CoordinatorRecord, memory: &[u64]) -> bool
     requires { ⌜ MemoryAsks settings (now memory) ⌝ }
-    ensures { λ r. ⌜ r ≡ numbersConsistent (coordinatorIn settings coordinator (now (memory .entry))) ⌝ }
+    ensures { λ r. ⌜ r ≡ numbersConsistent (coordinatorIn settings coordinator
+        (now (memory .entry))) ⌝ }
 {
     let items = settings.universe as usize;
     let words = items + VALUE_COUNT;
@@ -112,14 +111,16 @@ fn numbers_consistent(settings: Settings, coordinator: CoordinatorRecord, memory
     false
 }
 
-// Whether record and memory are consistent. It is internal: the caller has tested settings and length.
+// Whether record and memory are consistent. It is internal: the caller has tested settings and
+// length.
 pub fn coordinator_consistent(
     settings: Settings,
     coordinator: CoordinatorRecord,
     memory: &[u64],
 ) -> bool
     requires { ⌜ MemoryAsks settings (now memory) ⌝ }
-    ensures { λ r. ⌜ r ≡ coordinatorConsistent settings (coordinatorIn settings coordinator (now (memory .entry))) ⌝ }
+    ensures { λ r. ⌜ r ≡ coordinatorConsistent settings
+        (coordinatorIn settings coordinator (now (memory .entry))) ⌝ }
 {
     if record_consistent(settings, coordinator) {
         if coordinator.threshold == threshold_of(settings, coordinator.base) {

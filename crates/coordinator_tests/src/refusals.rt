@@ -73,7 +73,8 @@ fn names_unknown_item(settings: Settings, message: Message) -> bool
 
 // Whether a value above 1023 stands where a message names a value.
 fn names_large_value(coordinator: CoordinatorRecord, message: Message) -> bool
-    ensures { λ r. ⌜ ((settings : Settings) (memory : List ℕ) → r ≡ namesLargeValue (coordinatorIn settings coordinator memory) message) ⌝ }
+    ensures { λ r. ⌜ ((settings : Settings) (memory : List ℕ) → r ≡ namesLargeValue
+        (coordinatorIn settings coordinator memory) message) ⌝ }
 {
     if message.kind == 6 {
         return (TOP_VALUE as u64) < message.a;
@@ -88,7 +89,8 @@ fn names_large_value(coordinator: CoordinatorRecord, message: Message) -> bool
 
 // Whether an amount is not the one that is due, or a number is not 0 that must be.
 fn wrong_amount(coordinator: CoordinatorRecord, message: Message) -> bool
-    ensures { λ r. ⌜ ((settings : Settings) (memory : List ℕ) → r ≡ wrongAtCoordinator (coordinatorIn settings coordinator memory) message) ⌝ }
+    ensures { λ r. ⌜ ((settings : Settings) (memory : List ℕ) → r ≡ wrongAtCoordinator
+        (coordinatorIn settings coordinator memory) message) ⌝ }
 {
     if message.kind == 1 {
         return message.b != coordinator.threshold;
@@ -121,7 +123,8 @@ fn wrong_amount(coordinator: CoordinatorRecord, message: Message) -> bool
 
 // The refusal of a message, or 0.
 pub fn message_refusal(settings: Settings, coordinator: CoordinatorRecord, message: Message) -> u32
-    ensures { λ r. ⌜ ((memory : List ℕ) → r ≡ coordinatorRefusal settings (coordinatorIn settings coordinator memory) message) ⌝ }
+    ensures { λ r. ⌜ ((memory : List ℕ) → r ≡ coordinatorRefusal settings
+        (coordinatorIn settings coordinator memory) message) ⌝ }
 {
     if settings.sites <= message.site {
         return UNKNOWN_SITE;

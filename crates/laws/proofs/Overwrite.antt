@@ -1,5 +1,5 @@
--- Laws of a memory of two parts, n numbers and k after them, and what lies past them: one number of a
--- part set and both parts written over the memory, and the parts read back.
+-- Laws of a memory of two parts, n numbers and k after them, and what lies past them: one number of
+-- a part set and both parts written over the memory, and the parts read back.
 --
 --   overwritten-kept            both parts as they are: the memory as it is
 --   overwritten-set-first       a number of the first part set: that number of the memory set
@@ -31,10 +31,12 @@ module _ {A : Type 0} (n k : ℕ) (memory : List A) (fits : n + k ≤ length mem
 
   pub overwritten-set-second : (i : ℕ) (x : A)
       → i < k
-      → overwritten (take n memory ++ set (take k (drop n memory)) i x) memory ≡ set memory (n + i) x
+      → overwritten (take n memory ++ set (take k (drop n memory)) i x) memory ≡ set memory (n + i)
+      x
   overwritten-set-second i x within =
       let front : n ≤ length memory = omega arith in
-      let both : take n memory ++ set (take k (drop n memory)) i x ≡ set (take (n + k) memory) (n + i) x =
+      let both : take n memory ++ set (take k (drop n memory)) i x ≡ set (take (n + k) memory)
+      (n + i) x =
       sym (set-append-add (take n memory) (take k (drop n memory)) i x)
       ∙ ap (λ (l : List A). set l (length (take n memory) + i) x) (sym (take-add n k memory))
       ∙ ap (λ (j : ℕ). set (take (n + k) memory) (j + i) x) (length-take-le n memory front) in
@@ -44,7 +46,12 @@ module _ {A : Type 0} (first second memory : List A) where
   pub first-written : take (length first) (overwritten (first ++ second) memory) ≡ first
   first-written = rw append-assoc (take-at first _ (length first) refl)
 
-  pub second-written : take (length second) (drop (length first) (overwritten (first ++ second) memory)) ≡ second
+  pub second-written : take (length second) (drop (length first)
+      (overwritten (first ++ second) memory)) ≡ second
   second-written =
-      rw (append-assoc, drop-at first (second ++ drop (length (first ++ second)) memory) (length first) refl)
+      rw (
+        append-assoc,
+        drop-at first (second ++ drop (length (first ++ second)) memory)
+            (length first) refl,
+      )
       (take-at second _ (length second) refl)

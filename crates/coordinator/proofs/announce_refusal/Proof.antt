@@ -17,7 +17,8 @@ returns c =
     let result-is = c .before .coordinator-memory-refusal .ensures in
     result-is
     ∙ sym
-    (refused-first (coordinatorMemoryRefusal (start .settings) (start .coordinator) (start .memory .now)) _
+    (refused-first (coordinatorMemoryRefusal (start .settings) (start .coordinator)
+    (start .memory .now)) _
     (λ none. c .if1 .taken (result-is ∙ none)))
 
 not-announcing-requires : tie.Need-not-announcing-requires
@@ -28,18 +29,22 @@ returns-2 c =
     let tests = c .before .before in
     let start = tests .before .before .before .args in
     sym
-    (accepted-first (coordinatorMemoryRefusal (start .settings) (start .coordinator) (start .memory .now)) _
+    (accepted-first (coordinatorMemoryRefusal (start .settings) (start .coordinator)
+    (start .memory .now)) _
     (sym (tests .before .coordinator-memory-refusal .ensures) ∙ tests .if1 .left)
-    ∙ ap (λ (other : Bool). when other messageNotDue) (sym (c .before .not-announcing .ensures) ∙ c .if2 .taken))
+    ∙ ap (λ (other : Bool). when other messageNotDue)
+    (sym (c .before .not-announcing .ensures) ∙ c .if2 .taken))
 
 returns-3 : tie.Need-returns-3
 returns-3 c =
     let tests = c .before .before in
     let start = tests .before .before .before .args in
     sym
-    (accepted-first (coordinatorMemoryRefusal (start .settings) (start .coordinator) (start .memory .now)) _
+    (accepted-first (coordinatorMemoryRefusal (start .settings) (start .coordinator)
+    (start .memory .now)) _
     (sym (tests .before .coordinator-memory-refusal .ensures) ∙ tests .if1 .left)
-    ∙ ap (λ (other : Bool). when other messageNotDue) (sym (c .before .not-announcing .ensures) ∙ c .if2 .left))
+    ∙ ap (λ (other : Bool). when other messageNotDue)
+    (sym (c .before .not-announcing .ensures) ∙ c .if2 .left))
 
 pub announce-refusal-spec : {M : Type 1} → statement M
 announce-refusal-spec =

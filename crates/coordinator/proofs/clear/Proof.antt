@@ -10,7 +10,8 @@ use Rattle.coordinator.proofs.clear.Statement.{statement}
 use Rattle.coordinator.proofs.clear.Tie as tie
 
 abbrev Inv-loop : tie.InvT-loop
-Inv-loop memory₀ count i₀ memory i = (i ≤ count) × (length memory ≡ length memory₀) × Cleared memory₀ memory i
+Inv-loop memory₀ count i₀ memory i = (i ≤ count) × (length memory ≡ length memory₀) × Cleared
+    memory₀ memory i
 
 abbrev μ-loop : tie.MeasureT-loop
 μ-loop memory₀ count i₀ memory i = count - i

@@ -20,7 +20,8 @@ returns : tie.Need-returns
 returns c =
     let tests = c .before .before in
     let start = tests .before .before .before .args in
-    let refusal = receiveRefusal (start .settings) (start .coordinator) (start .message) (start .memory .now) in
+    let refusal = receiveRefusal (start .settings) (start .coordinator) (start .message)
+    (start .memory .now) in
     let result-is = tests .receive-refusal .ensures in
     record {
       refusal = result-is;
@@ -44,7 +45,8 @@ returns-2 c =
     let stepped = c .before .before .before .before in
     let tests = stepped .before .before .before in
     let start = tests .before .before .before .args in
-    let refusal = receiveRefusal (start .settings) (start .coordinator) (start .message) (start .memory .now) in
+    let refusal = receiveRefusal (start .settings) (start .coordinator) (start .message)
+    (start .memory .now) in
     let result-is = tests .receive-refusal .ensures in
     let none = sym result-is ∙ stepped .before .before .if1 .left in
     record {

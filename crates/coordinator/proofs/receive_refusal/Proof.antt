@@ -15,7 +15,8 @@ returns c =
     let result-is = c .before .coordinator-memory-refusal .ensures in
     result-is
     ∙ sym
-    (refused-first (coordinatorMemoryRefusal (start .settings) (start .coordinator) (start .memory .now)) _
+    (refused-first (coordinatorMemoryRefusal (start .settings) (start .coordinator)
+    (start .memory .now)) _
     (λ none. c .if1 .taken (result-is ∙ none)))
 
 message-refusal-requires : tie.Need-message-refusal-requires
@@ -27,7 +28,8 @@ returns-2 c =
     let start = tests .before .before .args in
     c .message-refusal .ensures (start .memory .now)
     ∙ sym
-    (accepted-first (coordinatorMemoryRefusal (start .settings) (start .coordinator) (start .memory .now)) _
+    (accepted-first (coordinatorMemoryRefusal (start .settings) (start .coordinator)
+    (start .memory .now)) _
     (sym (tests .coordinator-memory-refusal .ensures) ∙ c .before .if1 .left))
 
 pub receive-refusal-spec : {M : Type 1} → statement M

@@ -56,7 +56,8 @@ returns-2 c =
     let refusal = startRefusal settings (length (start .memory .now)) in
     let result-is = tests .start-refusal .ensures in
     let none = sym result-is ∙ cleared .before .before .before .if1 .left in
-    let words : settings .universe + 1024 ≡ coordinatorWords settings = omega (arith, valueCount-is) in
+    let words : settings .universe + 1024 ≡ coordinatorWords settings = omega
+    (arith, valueCount-is) in
     record {
       refusal = result-is;
       coordinator = tests .before .fresh-record .ensures settings;

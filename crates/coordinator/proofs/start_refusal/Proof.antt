@@ -20,7 +20,8 @@ returns c =
     let start = c .before .before .args in
     let result-is = c .before .test-settings .ensures in
     result-is
-    ∙ sym (refused-first (settingsRefusal (start .settings)) _ (λ none. c .if1 .taken (result-is ∙ none)))
+    ∙ sym (refused-first (settingsRefusal (start .settings)) _
+    (λ none. c .if1 .taken (result-is ∙ none)))
 
 cast-if2 : tie.Need-cast-if2
 cast-if2 c = search needs

@@ -1,4 +1,5 @@
--- By phase: out of announcing the step leaves all as it is; else the site after this one, if there is one, decides.
+-- By phase: out of announcing the step leaves all as it is; else the site after this one, if there
+-- is one, decides.
 use native.Mathlib.Omega.{arith}
 use borrow.Author.Tests.{lt-ltb, le-ltb}
 use borrow.Author.Needs.{needs}
@@ -39,7 +40,12 @@ add-if1 c =
     let site = c .before .before .phase .given .0 .0 in
     let shape : PhaseShape settings (start .args .coordinator .signals) (Announcing site) =
     rw (c .before .before .phase .given .1) at (start .pre .phase-shape) in
-    omega (arith, shape .site-known, settings-fit settings (start .pre .settings-accepted) .sites-few)
+    omega (
+      arith,
+      shape .site-known,
+      settings-fit settings (start .pre .settings-accepted)
+          .sites-few,
+    )
 
 add-t10 : tie.Need-add-t10
 add-t10 c = search needs
@@ -49,7 +55,11 @@ speak-requires c κs = search needs
 
 returns : tie.Need-returns
 returns c = λ memory.
-    rw (c .before .before .before .before .before .phase .given .1, lt-ltb _ _ (c .before .if1 .taken))
+    rw (
+      c .before .before .before .before .before .phase .given .1,
+      lt-ltb _ _
+          (c .before .if1 .taken),
+    )
     (rw (c .before .before .before .announcement-of .ensures) at (c .speak .ensures))
 
 speak-requires-2 : tie.Need-speak-requires-2
@@ -72,7 +82,11 @@ returns-4 c = λ memory.
 
 returns-5 : tie.Need-returns-5
 returns-5 c = λ memory.
-    rw (c .before .before .before .before .before .phase .given .1, le-ltb _ _ (c .before .if1 .left))
+    rw (
+      c .before .before .before .before .before .phase .given .1,
+      le-ltb _ _
+          (c .before .if1 .left),
+    )
     (rw (c .before .before .before .announcement-of .ensures) at (c .speak2 .ensures))
 
 pub announce-step-spec : {M : Type 1} → statement M

@@ -18,8 +18,13 @@ speak-requires c κs = search needs
 
 returns : tie.Need-returns
 returns c = λ memory.
-    rw (← c .before .before .before .before .threshold-of .ensures, le-leb _ _ (c .before .before .before .if1 .taken))
-    (simp (c .before .probe-of .ensures, c .before .before .middle-of .ensures) at (c .speak .ensures))
+    rw (
+      ← c .before .before .before .before .threshold-of .ensures,
+      le-leb _ _
+          (c .before .before .before .if1 .taken),
+    )
+    (simp (c .before .probe-of .ensures, c .before .before .middle-of .ensures) at
+    (c .speak .ensures))
 
 keep-silent-requires : tie.Need-keep-silent-requires
 keep-silent-requires c κs = search needs

@@ -15,16 +15,20 @@ mul-memory : tie.Need-mul-memory
 mul-memory c = let room = c .before .before .pre (c .before .if1 .taken) in search needs
 
 slice-read-memory : tie.Need-slice-read-memory
-slice-read-memory c = let room = c .before .before .before .pre (c .before .before .if1 .taken) in search needs
+slice-read-memory c = let room = c .before .before .before .pre (c .before .before .if1 .taken) in
+    search needs
 
 add-memory : tie.Need-add-memory
-add-memory c = let room = c .before .before .before .pre (c .before .before .if1 .taken) in omega arith
+add-memory c = let room = c .before .before .before .pre (c .before .before .if1 .taken) in omega
+    arith
 
 mul-memory-2 : tie.Need-mul-memory-2
-mul-memory-2 c = let room = c .before .before .before .pre (c .before .before .if1 .taken) in search needs
+mul-memory-2 c = let room = c .before .before .before .pre (c .before .before .if1 .taken) in search
+    needs
 
 slice-write-memory : tie.Need-slice-write-memory
-slice-write-memory c = let room = c .before .before .before .pre (c .before .before .if1 .taken) in search needs
+slice-write-memory c = let room = c .before .before .before .pre (c .before .before .if1 .taken) in
+    search needs
 
 same-length : tie.Need-same-length
 same-length c = search needs

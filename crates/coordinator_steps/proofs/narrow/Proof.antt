@@ -22,7 +22,8 @@ speak-requires c κs = search needs
 returns-2 : tie.Need-returns-2
 returns-2 c = λ memory.
     rw (ne-eqb _ _ (c .before .before .before .if1 .left))
-    (simp (c .before .probe-of .ensures, c .before .before .middle-of .ensures) at (c .speak .ensures))
+    (simp (c .before .probe-of .ensures, c .before .before .middle-of .ensures) at
+    (c .speak .ensures))
 
 pub narrow-spec : {M : Type 1} → statement M
 narrow-spec =

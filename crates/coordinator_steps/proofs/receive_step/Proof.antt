@@ -30,7 +30,8 @@ take-count-report-requires : tie.Need-take-count-report-requires
 take-count-report-requires c κs =
     let start = c .before .before .before .before .before .before in
     count-asks (start .args .settings) (start .args .coordinator) (start .args .message)
-    (start .args .memory .now) (start .pre) (c .before .before .before .enum-told .given .1) (c .before .if1 .left)
+    (start .args .memory .now) (start .pre) (c .before .before .before .enum-told .given .1)
+    (c .before .if1 .left)
 
 enum-known-phase : tie.Need-enum-known-phase
 enum-known-phase c = search needs
@@ -78,7 +79,8 @@ returns-4 : tie.Need-returns-4
 returns-4 c =
     let start = c .before .before .before .before .before in
     does-probe (start .args .settings) (start .args .coordinator) (start .args .message)
-    (start .args .memory .now) (start .pre .memory-long) _ _ _ _ (c .before .before .phase2 .given .1)
+    (start .args .memory .now) (start .pre .memory-long) _ _ _ _
+    (c .before .before .phase2 .given .1)
     (c .take-probe-answer .ensures (start .args .memory .now))
 
 returns-5 : tie.Need-returns-5

@@ -32,7 +32,8 @@ returns c =
       answer = rw (eq-eqb _ _ (c .before .before .if1 .taken))
           (rw (c .before .poll-of .ensures) at (c .speak .ensures));
       memory = counted .count-value .ensures
-          ∙ memory-value (start .args .settings) (start .args .coordinator) (start .args .memory .now)
+          ∙ memory-value (start .args .settings) (start .args .coordinator)
+          (start .args .memory .now)
           (start .pre .memory-long) (start .args .message)
           (λ one. start .pre .value-room one .value-known);
     }
@@ -50,7 +51,8 @@ returns-2 c =
     record {
       answer = rw (ne-eqb _ _ (c .before .if1 .left)) (c .keep-silent .ensures);
       memory = counted .count-value .ensures
-          ∙ memory-value (start .args .settings) (start .args .coordinator) (start .args .memory .now)
+          ∙ memory-value (start .args .settings) (start .args .coordinator)
+          (start .args .memory .now)
           (start .pre .memory-long) (start .args .message)
           (λ one. start .pre .value-room one .value-known);
     }

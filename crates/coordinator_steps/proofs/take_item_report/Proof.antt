@@ -30,7 +30,8 @@ returns c =
     let start = c .before .before .before .before in
     record {
       answer = c .keep-silent .ensures;
-      memory = memory-item (start .args .settings) (start .args .coordinator) (start .args .memory .now)
+      memory = memory-item (start .args .settings) (start .args .coordinator)
+          (start .args .memory .now)
           (start .pre .memory-long) (start .args .message) (start .pre .item-known);
     }
 

@@ -28,7 +28,8 @@ speak-requires c κs = search needs
 returns : tie.Need-returns
 returns c = λ memory.
     rw (lt-ltb _ _ (c .before .before .before .if1 .taken))
-    (simp (c .before .probe-of .ensures, c .before .before .middle-of .ensures) at (c .speak .ensures))
+    (simp (c .before .probe-of .ensures, c .before .before .middle-of .ensures) at
+    (c .speak .ensures))
 
 halve-requires : tie.Need-halve-requires
 halve-requires c κs = search needs

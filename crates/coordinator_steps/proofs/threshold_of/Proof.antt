@@ -9,7 +9,11 @@ cast-share : tie.Need-cast-share
 cast-share c = search needs
 
 mul-share : tie.Need-mul-share
-mul-share c = omega (arith, mul-le-mul (c .before .pre .settings-fit .epsilon-small) (c .before .pre .base-small))
+mul-share c = omega (
+  arith,
+  mul-le-mul (c .before .pre .settings-fit .epsilon-small)
+      (c .before .pre .base-small),
+)
 
 cast-parts : tie.Need-cast-parts
 cast-parts c = search needs

@@ -27,7 +27,8 @@ returns c =
     let at-loop = c .before .before .before in
     let start = at-loop .before in
     sym
-    (checked-off (start .args .limit) (start .args .numbers .now) (at-loop .loop .i) (at-loop .loop .inv)
+    (checked-off (start .args .limit) (start .args .numbers .now) (at-loop .loop .i)
+    (at-loop .loop .inv)
     (c .before .before .loop-test .taken) (c .if1 .taken))
 
 add-i : tie.Need-add-i Inv-loop μ-loop
@@ -40,7 +41,8 @@ loop-again : tie.Need-loop-again Inv-loop μ-loop
 loop-again c =
     let at-loop = c .before .before .before in
     let start = at-loop .before in
-    checked-on (start .args .limit) (start .args .numbers .now) (at-loop .loop .i) (at-loop .loop .inv)
+    checked-on (start .args .limit) (start .args .numbers .now) (at-loop .loop .i)
+    (at-loop .loop .inv)
     (c .before .before .loop-test .taken) (c .if1 .left)
 
 returns-2 : tie.Need-returns-2 Inv-loop μ-loop
@@ -48,7 +50,8 @@ returns-2 c =
     let at-loop = c .before in
     let start = at-loop .before in
     sym
-    (checked-end (start .args .limit) (start .args .numbers .now) (at-loop .loop .i) (at-loop .loop .inv)
+    (checked-end (start .args .limit) (start .args .numbers .now) (at-loop .loop .i)
+    (at-loop .loop .inv)
     (c .loop-test .left))
 
 pub all-within-spec : {M : Type 1} → statement M

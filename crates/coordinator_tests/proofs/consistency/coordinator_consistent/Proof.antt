@@ -1,5 +1,5 @@
--- The parts of the test in the code's order are `coordinatorConsistent` (consistent-parts). The base
--- is known to be small when the threshold is computed.
+-- The parts of the test in the code's order are `coordinatorConsistent` (consistent-parts). The
+-- base is known to be small when the threshold is computed.
 use borrow.Author.Tests.{eq-eqb, ne-eqb}
 use native.Mathlib.Omega.{arith}
 use mathlib.Core.Path.{sym, _∙_}
@@ -32,7 +32,11 @@ returns c =
     let threshold-is = c .before .if2 .taken ∙ c .before .before .before .threshold-of .ensures in
     sym
     (consistent-parts (start .args .settings) (start .args .coordinator) (start .args .memory .now)
-    ∙ rw (sym (at-record .before .record-consistent .ensures) ∙ at-record .if1 .taken, eq-eqb _ _ threshold-is)
+    ∙ rw (
+      sym (at-record .before .record-consistent .ensures) ∙ at-record .if1 .taken,
+      eq-eqb _ _
+          threshold-is,
+    )
     (sym (c .numbers-consistent .ensures)))
 
 returns-2 : tie.Need-returns-2
@@ -41,7 +45,11 @@ returns-2 c =
     let start = at-record .before .before .before in
     sym
     (consistent-parts (start .args .settings) (start .args .coordinator) (start .args .memory .now)
-    ∙ rw (sym (at-record .before .record-consistent .ensures) ∙ at-record .if1 .taken, ne-eqb _ _ (λ same. c .if2 .left (same ∙ sym (c .before .before .threshold-of .ensures)))))
+    ∙ rw (
+      sym (at-record .before .record-consistent .ensures) ∙ at-record .if1 .taken,
+      ne-eqb _ _
+          (λ same. c .if2 .left (same ∙ sym (c .before .before .threshold-of .ensures))),
+    ))
 
 returns-3 : tie.Need-returns-3
 returns-3 c =

@@ -38,7 +38,8 @@ coordinator-consistent-requires : tie.Need-coordinator-consistent-requires
 coordinator-consistent-requires c κs =
     let at-settings = c .before .before in
     record {
-      settings-accepted = sym (at-settings .before .test-settings .ensures) ∙ at-settings .if1 .left;
+      settings-accepted = sym (at-settings .before .test-settings .ensures) ∙ at-settings .if1
+          .left;
       memory-long = omega (arith, c .if2 .left, valueCount-is);
     }
 

@@ -23,7 +23,8 @@ slice-aggregate-all-within : tie.Need-slice-aggregate-all-within
 slice-aggregate-all-within c =
     let start = c .before .before .before in
     let memory = start .args .memory .now in
-    let fits : start .args .settings .universe ≤ length memory = omega (arith, start .pre .memory-long) in
+    let fits : start .args .settings .universe ≤ length memory = omega
+    (arith, start .pre .memory-long) in
     sym (length-take-le (start .args .settings .universe) memory fits)
 
 all-within-requires : tie.Need-all-within-requires
@@ -100,7 +101,8 @@ returns-3 c =
     let start = at-items .before .before .before .before .before .args in
     let part = histogram-part (start .settings) (start .memory .now) in
     sym
-    (numbers-histogram-off (coordinatorIn (start .settings) (start .coordinator) (start .memory .now))
+    (numbers-histogram-off (coordinatorIn (start .settings) (start .coordinator)
+    (start .memory .now))
     (sym (at-items .before .all-within .ensures) ∙ at-items .if1 .taken)
     (rw part at (sym (c .before .all-within2 .ensures) ∙ c .if2 .left)))
 
@@ -108,7 +110,8 @@ returns-4 : tie.Need-returns-4
 returns-4 c =
     let start = c .before .before .before .before .before .args in
     sym
-    (numbers-estimates-off (coordinatorIn (start .settings) (start .coordinator) (start .memory .now))
+    (numbers-estimates-off (coordinatorIn (start .settings) (start .coordinator)
+    (start .memory .now))
     (sym (c .before .all-within .ensures) ∙ c .if1 .left))
 
 pub numbers-consistent-spec : {M : Type 1} → statement M

@@ -28,8 +28,15 @@ add-total : tie.Need-add-total Inv-loop μ-loop
 add-total c =
     let at-loop = c .before .before in
     let start = at-loop .before in
-    let number = within-at coordinatorLimit (start .args .numbers .now) (start .pre .small) (at-loop .loop .i) in
-    omega (arith, at-loop .loop .inv .small, at-loop .loop .inv .place, start .pre .few, valueCount-is)
+    let number = within-at coordinatorLimit (start .args .numbers .now) (start .pre .small)
+    (at-loop .loop .i) in
+    omega (
+      arith,
+      at-loop .loop .inv .small,
+      at-loop .loop .inv .place,
+      start .pre .few,
+      valueCount-is,
+    )
 
 add-i : tie.Need-add-i Inv-loop μ-loop
 add-i c = search needs
@@ -49,7 +56,8 @@ returns : tie.Need-returns Inv-loop μ-loop
 returns c =
     let at-loop = c .before in
     let start = at-loop .before in
-    summed-end coordinatorLimit (start .args .numbers .now) (at-loop .loop .total) (at-loop .loop .i)
+    summed-end coordinatorLimit (start .args .numbers .now) (at-loop .loop .total)
+    (at-loop .loop .i)
     (at-loop .loop .inv) (c .loop-test .left)
 
 pub sum-of-spec : {M : Type 1} → statement M

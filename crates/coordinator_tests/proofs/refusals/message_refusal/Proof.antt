@@ -13,7 +13,11 @@ not-due-requires c κs = search needs
 
 returns-2 : tie.Need-returns-2
 returns-2 c = λ memory.
-    rw (lt-leb _ _ (c .before .before .if1 .left), sym (c .before .not-due .ensures) ∙ c .if2 .taken)
+    rw (
+      lt-leb _ _ (c .before .before .if1 .left),
+      sym (c .before .not-due .ensures) ∙ c .if2
+          .taken,
+    )
 
 names-unknown-item-requires : tie.Need-names-unknown-item-requires
 names-unknown-item-requires c κs = search needs

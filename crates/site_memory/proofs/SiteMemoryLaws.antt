@@ -3,17 +3,17 @@
 --   length-siteMemory     writing a site keeps the length
 --   siteIn-siteMemory     what was written is what is read
 --   siteMemory-siteIn     what was read, written again, leaves the memory as it is
-use Prim.Native.Nat.{ℕ, zero, suc, _+_, _*_, _<_, _≤_}
-use mathlib.Core.Path.{_≡_, refl, ap, sym, _∙_}
-use mathlib.Core.List.{List, [], _∷_, _++_, append-assoc}
+--   siteRecord-siteIn     the record of what was read is the record it was read from
+use Prim.Native.Nat.{ℕ, _≤_}
+use mathlib.Core.Path.{_≡_, ap, sym, _∙_}
+use mathlib.Core.List.{List, _++_, append-assoc}
 use native.Mathlib.Omega.{arith}
-use lib.ListN.{length, take, drop, length-append, length-drop, take-append-drop}
+use lib.ListN.{length, take, drop, length-append, length-drop}
 use lib.Seq.{length-take-le, take-at, drop-at}
-use Rattle.laws.proofs.FlatMemory.{overwritten, length-overwritten, overwritten-front, overwritten-take}
+use Rattle.laws.proofs.FlatMemory.{length-overwritten, overwritten-front, overwritten-take}
 use Rattle.model.specs.declared.Settings.{Settings}
 use Rattle.model.specs.declared.SiteRecord.{SiteRecord}
 use Rattle.model.specs.Limits.{valueCount}
-use Rattle.model.specs.Counters.{Counter}
 use Rattle.model.specs.Site.{Site}
 use Rattle.model.specs.SiteMemory.{counterWords, siteWords, siteIn, siteRecord, siteMemory, countersIn, counterNumbers, overwrite}
 use Rattle.counters.proofs.CounterMemory.{length-countersIn, length-counterNumbers, counters-read, counters-kept}

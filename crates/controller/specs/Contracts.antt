@@ -30,13 +30,16 @@ pub record LineNumbers : Type 0 where
   pub value : ℕ
   pub used : ℕ
 
+-- Of one of the four: the line's number, or what stood there.
+abbrev pub fromLine : List ℕ → ℕ → ℕ → ℕ
+fromLine bytes number before = handedOut (lineRefusal bytes) number before
+
 pub record LineExported (bytes : List ℕ) (before after : LineNumbers) (answer : ℕ) : Type 0 where
   pub refusal : answer ≡ lineRefusal bytes
-  pub site : after .site ≡ handedOut (lineRefusal bytes) (readLine bytes .arrival .site) (before .site)
-  pub item : after .item ≡ handedOut (lineRefusal bytes) (readLine bytes .arrival .item) (before .item)
-  pub value :
-      after .value ≡ handedOut (lineRefusal bytes) (readLine bytes .arrival .value) (before .value)
-  pub used : after .used ≡ handedOut (lineRefusal bytes) (readLine bytes .used) (before .used)
+  pub site : after .site ≡ fromLine bytes (readLine bytes .arrival .site) (before .site)
+  pub item : after .item ≡ fromLine bytes (readLine bytes .arrival .item) (before .item)
+  pub value : after .value ≡ fromLine bytes (readLine bytes .arrival .value) (before .value)
+  pub used : after .used ≡ fromLine bytes (readLine bytes .used) (before .used)
 
 abbrev pub lineNumbers : ℕ → ℕ → ℕ → ℕ → LineNumbers
 lineNumbers site item value used = record { site = site; item = item; value = value; used = used }

@@ -9,8 +9,8 @@
 --   changeFirst-keeps                 a part of every element that no change touches
 --   sumBelow-length                   a sum by place is the sum along the list
 use mathlib.Core.Path.{_≡_, refl, sym, ap, _∙_}
-use mathlib.Core.List.{List, [], _∷_, _++_, map}
-use Prim.Native.Nat.{ℕ, zero, suc, _+_, _*_, _≤_, _<_}
+use mathlib.Core.List.{List, [], _∷_, map}
+use Prim.Native.Nat.{ℕ, zero, suc, _+_, _≤_, _<_}
 use native.Mathlib.Omega.{arith}
 use native.Mathlib.Decide.{ℕ-discrete}
 use lib.ListN.{length, getD, set, length-set, length-map}
@@ -19,6 +19,7 @@ use Rattle.laws.proofs.Sums.{sumBelow}
 
 -- ---- Places changed in order
 
+-- The places 0 to n - 1, one after another.
 abbrev pub changeFirst : {A : Type 0} → A → (A → A) → ℕ → List A → List A
 changeFirst default change zero xs = xs
 changeFirst default change (suc n) xs =
@@ -26,6 +27,7 @@ changeFirst default change (suc n) xs =
     (change (getD (changeFirst default change n xs) n default))
 
 module _ {A : Type 0} (default : A) (change : A → A) where
+  -- The length stays.
   pub length-changeFirst : (n : ℕ) (xs : List A)
       → length (changeFirst default change n xs) ≡ length xs
   length-changeFirst zero xs = refl
@@ -74,6 +76,7 @@ module _ {A : Type 0} (default : A) (change : A → A) where
     change-keeps (x ∷ xs) (suc n) zero = refl
     change-keeps (x ∷ xs) (suc n) (suc i) = change-keeps xs n i
 
+    -- After n places were changed.
     pub changeFirst-keeps : (n i : ℕ) (xs : List A)
         → part (getD (changeFirst default change n xs) i default) ≡ part (getD xs i default)
     changeFirst-keeps zero i xs = refl

@@ -4,15 +4,12 @@
 --   itemReport-accepted, countReport-accepted    kinds 1 and 2 at an idle coordinator
 --   pollAnswer-accepted, probeAnswer-accepted    kinds 4 and 6 from the site that the phase names
 --   poll-accepted, probe-accepted, announcement-accepted   kinds 3, 5 and 7 at their site
-use mathlib.Core.Path.{_≡_, refl, sym, ap, _∙_}
-use mathlib.Core.Bool.{Bool, true, false, _&&_, _||_, not}
-use Prim.Native.Nat.{ℕ, _+_, _≤_, _<_}
-use native.Mathlib.Omega.{arith}
+use mathlib.Core.Path.{_≡_, refl}
+use Prim.Native.Nat.{ℕ, _≤_, _<_}
 use native.Mathlib.Decide.{ℕ-discrete}
-use lib.Dec.{eqb, ltb, leb}
 use borrow.Author.Tests.{le-ltb, lt-leb, eq-eqb, ne-eqb}
 use Rattle.model.specs.declared.Settings.{Settings}
-use Rattle.model.specs.declared.Phase.the-variants.{Idle, Collecting, Probing, Announcing}
+use Rattle.model.specs.declared.Phase.the-variants.{Idle, Collecting, Probing}
 use Rattle.model.specs.Refusals.{accepted}
 use Rattle.model.specs.Limits.{topValue, siteLimit}
 use Rattle.model.specs.Messages.{itemReport, countReport, poll, pollAnswer, probe, probeAnswer, announcement}
@@ -22,15 +19,18 @@ use Rattle.model.specs.Coordinator.{Coordinator, middle, coordinatorRefu
 -- ---- At a site
 
 module _ (settings : Settings) (site : Site) (j : ℕ) (known : j < settings .sites) where
+  -- Kind 3 has nothing but its site.
   pub poll-accepted : siteMessageRefusal settings site j (poll j) ≡ accepted
   poll-accepted = rw (lt-leb (settings .sites) j known, eq-eqb j j refl)
 
+  -- Kind 5 with a value up to 1023.
   pub probe-accepted : (value : ℕ)
       → value ≤ topValue
       → siteMessageRefusal settings site j (probe j value) ≡ accepted
   probe-accepted value within =
       rw (lt-leb (settings .sites) j known, eq-eqb j j refl, le-ltb topValue value within)
 
+  -- Kind 7 with a threshold that is no smaller, up to 10^9.
   pub announcement-accepted : (threshold base : ℕ)
       → site .threshold ≤ threshold
       → threshold ≤ siteLimit
@@ -46,6 +46,7 @@ module _ (settings : Settings) (site : Site) (j : ℕ) (known : j < settings .si
 -- ---- At the coordinator
 
 module _ (settings : Settings) (c : Coordinator) (j : ℕ) (known : j < settings .sites) where
+  -- Kind 1 with the coordinator's own threshold.
   pub itemReport-accepted : (item : ℕ)
       → c .phase ≡ Idle
       → item < settings .universe
@@ -58,6 +59,7 @@ module _ (settings : Settings) (c : Coordinator) (j : ℕ) (known : j < settings
         eq-eqb (c .threshold) (c .threshold) refl,
       )
 
+  -- Kind 2 with it, and a value at threshold 1 alone.
   pub countReport-accepted : (value : ℕ)
       → c .phase ≡ Idle
       → value ≤ topValue
@@ -84,6 +86,7 @@ module _ (settings : Settings) (c : Coordinator) (j : ℕ) (known : j < settings
             eq-eqb value 0 (none more),
           )
 
+  -- Kind 4 from the site that is polled, below the threshold.
   pub pollAnswer-accepted : (amount : ℕ)
       → c .phase ≡ Collecting j
       → amount < c .threshold
@@ -96,6 +99,7 @@ module _ (settings : Settings) (c : Coordinator) (j : ℕ) (known : j < settings
         lt-leb (c .threshold) amount below,
       )
 
+  -- Kind 6 from the site that is probed, for the value that was asked.
   pub probeAnswer-accepted : (low high sum count : ℕ)
       → c .phase ≡ Probing j low high sum
       → middle low high ≤ topValue

@@ -64,6 +64,7 @@ withCountReport c amount value phase = record {
 
 -- ---- The parts of the closed form
 
+-- The sites with the arrival observed at its own.
 abbrev pub observedSites : Settings → Network → Arrival → List Site
 observedSites settings network arrival =
     set (network .sites) (arrival .site)
@@ -74,12 +75,14 @@ abbrev pub firstMessages : Settings → Network → Arrival → List Message
 firstMessages settings network arrival =
     observed settings (siteAt network (arrival .site)) arrival .messages
 
+-- The coordinator once the item report, if one is due, is taken.
 abbrev pub afterItemReport : Settings → Network → Arrival → Coordinator
 afterItemReport settings network arrival =
     withItemReport (network .coordinator)
     (reportsItem settings (siteAt network (arrival .site)) arrival)
     (arrival .item) (siteAt network (arrival .site) .threshold)
 
+-- And the count report, which leaves it in this phase.
 abbrev pub afterCountReport : Settings → Network → Arrival → Phase → Coordinator
 afterCountReport settings network arrival phase =
     withCountReport (afterItemReport settings network arrival)
@@ -100,6 +103,7 @@ closedOneAfter settings network arrival =
     networkOf (sitesClosed settings (observedSites settings network arrival) threshold)
     (atRest (withBase (afterCountReport settings network arrival Idle) base threshold Idle))
 
+-- With a new threshold of 2 or more the quantile is found anew.
 abbrev pub closedMoreAfter : Settings → Network → Arrival → Network
 closedMoreAfter settings network arrival =
     let base = baseAfter settings network arrival in
@@ -112,8 +116,8 @@ closedMoreAfter settings network arrival =
 
 -- ---- The four cases
 
--- No kind 2 goes out; it goes out and is not the k-th signal; it is, and the round is closed, with a
--- new threshold of 1, or of 2 and more.
+-- No kind 2 goes out; it goes out and is not the k-th signal; it is, and the round is closed, with
+-- a new threshold of 1, or of 2 and more.
 pub data ArrivalCase (settings : Settings) (network : Network) (arrival : Arrival) : Type 0 where
   noCountReport : reportsCount (siteAt network (arrival .site)) ≡ false
       → ArrivalCase settings network arrival
@@ -157,6 +161,7 @@ module _ {settings : Settings} {network : Network} {arrival : Arrival} where
   networkThen (closesOne due all one) = closedOneAfter settings network arrival
   networkThen (closesMore due all more) = closedMoreAfter settings network arrival
 
+  -- All messages in each case.
   abbrev pub messagesThen : ArrivalCase settings network arrival → List Message
   messagesThen (noCountReport none) = firstMessages settings network arrival
   messagesThen (countReported due few) = firstMessages settings network arrival
@@ -176,6 +181,7 @@ module _ {settings : Settings} {network : Network} {arrival : Arrival} where
   closeCount (closesOne due all one) = 3 * settings .sites
   closeCount (closesMore due all more) = 23 * settings .sites
 
+-- One for each report that is due.
 pub length-firstMessages : (settings : Settings) (network : Network) (arrival : Arrival)
     → length (firstMessages settings network arrival)
     ≡ when (reportsItem settings (siteAt network (arrival .site)) arrival) 1
@@ -192,6 +198,7 @@ length-firstMessages settings network arrival =
     by-reports false true m m′ = refl
     by-reports false false m m′ = refl
 
+-- The messages of the arrival itself, and those of the close.
 pub length-messagesThen : (settings : Settings) (network : Network) (arrival : Arrival)
     (which : ArrivalCase settings network arrival)
     → length (messagesThen which)

@@ -8,8 +8,8 @@
 --   sumBelow-allPending, sumBelow-allArrivals   sums by place are the sums along the list
 --   baseOf-allPending       the new base, where it has k sites: the total with all pendings
 use mathlib.Core.Path.{_≡_, refl, sym, ap, _∙_}
-use mathlib.Core.List.{List, [], _∷_, _++_, map}
-use Prim.Native.Nat.{ℕ, zero, suc, _+_, _≤_, _<_}
+use mathlib.Core.List.{List, [], _∷_, map}
+use Prim.Native.Nat.{ℕ, _+_, _≤_, _<_}
 use native.Mathlib.Omega.{arith}
 use lib.ListN.{length, getD, length-map}
 use Rattle.laws.proofs.Sums.{sumBelow}
@@ -21,15 +21,18 @@ use Rattle.model.proofs.DeliveryMessages.{pendingAt}
 use Rattle.model.proofs.DeliveryLoops.{polled, told}
 use Rattle.model.proofs.DeliveryClose.{baseOf, sitesPolled, sitesClosed}
 
+-- A site after a close: nothing pending, and the new threshold.
 abbrev pub closedSite : ℕ → Site → Site
 closedSite t site = told t (polled site)
 
+-- No site is added or lost.
 pub length-sitesClosed : (settings : Settings) (sites : List Site) (t : ℕ)
     → length (sitesClosed settings sites t) ≡ length sites
 length-sitesClosed settings sites t =
     length-changeFirst freshSite (told t) (settings .sites) (sitesPolled settings sites)
     ∙ length-changeFirst freshSite polled (settings .sites) sites
 
+-- Every site below k is closed.
 pub getD-sitesClosed : (settings : Settings) (sites : List Site) (t i : ℕ)
     → i < settings .sites
     → i < length sites
@@ -50,6 +53,7 @@ sitesClosed-keeps part polled-keeps told-keeps settings sites t i =
     (sitesPolled settings sites)
     ∙ changeFirst-keeps freshSite polled part polled-keeps (settings .sites) i sites
 
+-- All sites are closed, where there are at most k.
 pub sitesClosed-map : (settings : Settings) (sites : List Site) (t : ℕ)
     → length sites ≤ settings .sites
     → sitesClosed settings sites t ≡ map (closedSite t) sites
@@ -73,6 +77,7 @@ sumBelow-allPending settings sites all =
     ∙ sumBelow-length (λ (site : Site). site .pending) freshSite allPending refl
     (λ site others. refl) sites
 
+-- The same for the arrivals.
 pub sumBelow-allArrivals : (settings : Settings) (sites : List Site)
     → length sites ≡ settings .sites
     → sumBelow (λ j. getD sites j freshSite .arrivals) (settings .sites) ≡ allArrivals sites
@@ -81,6 +86,7 @@ sumBelow-allArrivals settings sites all =
     ∙ sumBelow-length (λ (site : Site). site .arrivals) freshSite allArrivals refl
     (λ site others. refl) sites
 
+-- The new base is the total with all pendings.
 pub baseOf-allPending : (settings : Settings) (sites : List Site) (total : ℕ)
     → length sites ≡ settings .sites
     → baseOf settings sites total ≡ total + allPending sites

@@ -4,10 +4,10 @@
 --   CoordinatorWithin              its numbers within the limit
 --   coordinator-sound-of, coordinator-within-of   of one that passes, with its lists' lengths
 --   coordinator-consistent-of      a sound one within the limit passes
-use mathlib.Core.Path.{_≡_, refl, sym, ap, _∙_}
-use mathlib.Core.Bool.{Bool, true, false, _&&_, _||_, not}
+use mathlib.Core.Path.{_≡_, refl}
+use mathlib.Core.Bool.{Bool, true, _&&_, _||_, not}
 use mathlib.Core.List.{List, [], _∷_}
-use Prim.Native.Nat.{ℕ, zero, suc, _+_, _≤_, _<_}
+use Prim.Native.Nat.{ℕ, zero, suc, _≤_}
 use native.Mathlib.Omega.{arith}
 use native.Mathlib.Decide.{ℕ-discrete}
 use lib.Dec.{eqb, ltb, leb}
@@ -22,9 +22,10 @@ use Rattle.model.specs.Settings.{thresholdOf}
 use Rattle.model.specs.SiteMemory.{sum}
 use Rattle.model.specs.Coordinator.{Coordinator}
 use Rattle.model.specs.CoordinatorMemory.{allWithin, phaseConsistent, coordinatorConsistent}
-use Rattle.model.specs.SoundNetwork.{SoundNumbers, SoundPhase, sumOfPhase, SoundCoordinator}
+use Rattle.model.specs.SoundNetwork.{SoundPhase, sumOfPhase, SoundCoordinator}
 
--- "a number of the desk's memory or record, or the sum in its phase, above 100,000,000,000", denied.
+-- "a number of the desk's memory or record, or the sum in its phase, above 100,000,000,000",
+-- denied.
 pub record CoordinatorWithin (c : Coordinator) : Type 0 where
   pub estimates-within : (item : ℕ) → getD (c .estimates) item 0 ≤ coordinatorLimit
   pub values-within : (value : ℕ) → getD (c .histogram) value 0 ≤ coordinatorLimit
@@ -170,6 +171,7 @@ module _ (settings : Settings) (c : Coordinator) where
         total-row = row-8 .second-true;
       }
 
+  -- What passes is sound.
   pub coordinator-sound-of : length (c .estimates) ≡ settings .universe
       → length (c .histogram) ≡ valueCount
       → coordinatorConsistent settings c ≡ true
@@ -188,6 +190,7 @@ module _ (settings : Settings) (c : Coordinator) where
         phase-sound = phase-sound settings (c .signals) (c .phase) (rows .phase-row);
       }
 
+  -- What passes is within the limit.
   pub coordinator-within-of : coordinatorConsistent settings c ≡ true → CoordinatorWithin c
   coordinator-within-of passes =
       let rows : Rows = rows-of passes in
@@ -198,6 +201,7 @@ module _ (settings : Settings) (c : Coordinator) where
         sum-within = phase-sum settings (c .signals) (c .phase) (rows .phase-row);
       }
 
+  -- What is sound and within the limit passes.
   pub coordinator-consistent-of : SoundCoordinator settings c
       → CoordinatorWithin c
       → coordinatorConsistent settings c ≡ true

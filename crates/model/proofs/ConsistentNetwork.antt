@@ -5,15 +5,15 @@
 --   network-sound-of          what passes 4 and 11 holds a sound network
 --   network-within-of         and its coordinator's numbers are within the limit
 --   network-consistent-of     a sound network within the limits passes
-use mathlib.Core.Path.{_≡_, refl, sym, ap, _∙_}
-use mathlib.Core.Bool.{Bool, true, false, _&&_, false≢true}
+use mathlib.Core.Path.{_≡_, refl, ap}
+use mathlib.Core.Bool.{Bool, true, _&&_, false≢true}
 use mathlib.Core.List.{List, [], _∷_}
-use Prim.Native.Nat.{ℕ, zero, suc, _+_, _-_, _*_, _≤_, _<_}
+use Prim.Native.Nat.{ℕ, zero, suc, _+_, _*_, _≤_, _<_}
 use native.Mathlib.Omega.{arith}
-use lib.Dec.{eqb, ltb, leb}
-use lib.ListN.{length, getD, take, drop, length-drop}
+use lib.Dec.{eqb, leb}
+use lib.ListN.{length, getD, drop, length-drop}
 use lib.Seq.{length-take-le}
-use borrow.Author.Tests.{leb-true, eqb-true, le-leb, eq-eqb}
+use borrow.Author.Tests.{eqb-true, le-leb, eq-eqb}
 use Rattle.laws.proofs.Tests.{both-true}
 use Rattle.laws.proofs.Lists.{all-cons}
 use Rattle.model.specs.declared.Settings.{Settings}
@@ -25,11 +25,11 @@ use Rattle.model.specs.declared.CoordinatorRecord.{CoordinatorRecord}
 use Rattle.model.specs.Limits.{valueCount, messageLimit}
 use Rattle.model.specs.Site.{Site, freshSite}
 use Rattle.model.specs.SiteMemory.{siteWords, siteIn, siteConsistent}
-use Rattle.model.specs.Coordinator.{Coordinator, isIdle}
-use Rattle.model.specs.CoordinatorMemory.{coordinatorWords, coordinatorIn, coordinatorConsistent}
-use Rattle.model.specs.Network.{Network, siteAt}
+use Rattle.model.specs.Coordinator.{isIdle}
+use Rattle.model.specs.CoordinatorMemory.{coordinatorWords, coordinatorConsistent}
+use Rattle.model.specs.Network.{Network}
 use Rattle.model.specs.NetworkMemory.{sitesWords, sitesIn, networkIn, sitesConsistent, allPending, allArrivals, sameThreshold, atRestTogether, networkConsistent}
-use Rattle.model.specs.SoundNetwork.{SoundSite, SoundCoordinator, Sound}
+use Rattle.model.specs.SoundNetwork.{SoundSite, Sound}
 use Rattle.model.proofs.ConsistentSites.{sound-of-consistent, consistent-of-sound}
 use Rattle.model.proofs.ConsistentCoordinator.{CoordinatorWithin, coordinator-sound-of, coordinator-within-of, coordinator-consistent-of}
 
@@ -147,6 +147,7 @@ module _ (settings : Settings) (sites : Sites) (coordinator : CoordinatorRecord)
         rest-row = row-3 .second-true;
       }
 
+  -- Memory that is long enough and passes holds a sound network.
   pub network-sound-of : sitesWords settings ≤ length siteNumbers
       → coordinatorWords settings ≤ length coordinatorNumbers
       → networkConsistent settings sites coordinator siteNumbers coordinatorNumbers ≡ true
@@ -170,12 +171,14 @@ module _ (settings : Settings) (sites : Sites) (coordinator : CoordinatorRecord)
         all-counted = eqb-true _ _ (at-rest-3 .second-true);
       }
 
+  -- Its coordinator's numbers are within the limit.
   pub network-within-of : networkConsistent settings sites coordinator siteNumbers
       coordinatorNumbers ≡ true
       → CoordinatorWithin (network .coordinator)
   network-within-of passes =
       coordinator-within-of settings (network .coordinator) (rows-of passes .coordinator-row)
 
+  -- A sound network within the limits passes.
   pub network-consistent-of : Sound settings network
       → CoordinatorWithin (network .coordinator)
       → sites .messages ≤ messageLimit

@@ -1,15 +1,14 @@
--- Refusal 11 of a site means `SoundSite`: a site's memory passes the test exactly if the site that it
--- holds is sound. Document 01, "Inconsistent".
+-- Refusal 11 of a site means `SoundSite`: a site's memory passes the test exactly if the site that
+-- it holds is sound. Document 01, "Inconsistent".
 --
 --   length-countersIn     as many counters are read as are in use
 --   sound-of-consistent   memory that is long enough and passes holds a sound site
 --   consistent-of-sound   memory that holds a sound site passes
-use mathlib.Core.Path.{_≡_, refl, sym, ap, _∙_}
-use mathlib.Core.Bool.{Bool, true, false, _&&_}
+use mathlib.Core.Path.{_≡_, refl}
+use mathlib.Core.Bool.{true}
 use mathlib.Core.List.{List, [], _∷_}
-use Prim.Native.Nat.{ℕ, zero, suc, _+_, _-_, _*_, _≤_, _<_}
+use Prim.Native.Nat.{ℕ, zero, suc, _+_, _≤_, _<_}
 use native.Mathlib.Omega.{arith}
-use lib.Dec.{eqb, ltb, leb}
 use lib.ListN.{length, take, drop, length-drop}
 use lib.Seq.{length-take-le}
 use borrow.Author.Tests.{leb-true, ltb-true, eqb-true, le-leb, lt-ltb, eq-eqb}
@@ -25,6 +24,7 @@ use Rattle.model.specs.SoundNetwork.{SoundCounter, SoundSite}
 
 -- ---- Counters
 
+-- As many counters are read as are asked for.
 pub length-countersIn : (used : ℕ) (memory : List ℕ) → length (countersIn used memory) ≡ used
 length-countersIn zero memory = refl
 length-countersIn (suc used) memory = omega (arith, length-countersIn used (drop 4 memory))
@@ -90,6 +90,7 @@ module _ (settings : Settings) (numbers : SiteRecord) (memory : List ℕ) where
       length-take-le valueCount (drop (counterWords settings) memory)
       (omega (arith, length-drop (counterWords settings) memory))
 
+  -- Memory that is long enough and passes holds a sound site.
   pub sound-of-consistent : siteWords settings ≤ length memory
       → siteConsistent settings numbers memory ≡ true
       → SoundSite settings site
@@ -112,6 +113,7 @@ module _ (settings : Settings) (numbers : SiteRecord) (memory : List ℕ) where
         threshold-within = leb-true _ _ (ends .second-true);
       }
 
+  -- Memory that holds a sound site passes.
   pub consistent-of-sound : SoundSite settings site
       → siteConsistent settings numbers memory ≡ true
   consistent-of-sound sound =

@@ -1,18 +1,17 @@
--- The coordinator's numbers stay sound whichever message it takes, for a coordinator of any content.
--- PROOF.md section 7, "phase by phase".
+-- The coordinator's numbers stay sound whichever message it takes, for a coordinator of any
+-- content. PROOF.md section 7, "phase by phase".
 --
 --   numbers-fresh, numbers-phase, numbers-rest     a fresh one; another phase; at rest again
 --   numbers-item, numbers-count                    kinds 1 and 2
 --   numbers-total, numbers-base, numbers-quantile  kinds 4 and 6
-use mathlib.Core.Path.{_≡_, refl, sym, ap, _∙_}
+use mathlib.Core.Path.{_≡_, refl, sym, _∙_}
 use mathlib.Core.Bool.{Bool, true, false}
 use mathlib.Core.List.{List}
-use Prim.Native.Nat.{ℕ, zero, suc, _+_, _≤_, _<_}
+use Prim.Native.Nat.{ℕ, _+_, _≤_, _<_}
 use native.Mathlib.Omega.{arith}
-use native.Mathlib.Decide.{ℕ-discrete}
 use lib.Dec.{eqb}
 use lib.ListN.{length, getD, set, length-set, length-replicate}
-use borrow.Author.Tests.{eq-eqb, ne-eqb}
+use borrow.Author.Tests.{eq-eqb}
 use Rattle.model.specs.declared.Settings.{Settings}
 use Rattle.model.specs.declared.Phase.{Phase}
 use Rattle.model.specs.Limits.{topValue, valueCount}
@@ -22,9 +21,11 @@ use Rattle.model.specs.Site.{oneMoreAt}
 use Rattle.model.specs.SiteMemory.{sum}
 use Rattle.model.specs.Coordinator.{Coordinator, freshCoordinator, withPhase, withTotal, withBase, withQuantile, atRest}
 use Rattle.model.specs.SoundNetwork.{SoundNumbers}
-use Rattle.model.proofs.Threshold.{threshold-positive, threshold-mono, threshold-of-zero}
-use Rattle.model.proofs.SoundSites.{sum-zeros, sum-oneMore, value-counted}
+use Rattle.model.proofs.Threshold.{threshold-mono, threshold-of-zero}
+use Rattle.model.proofs.SoundSites.{sum-zeros, sum-oneMore}
+use Rattle.model.proofs.ReportLaws.{value-counted}
 
+-- A fresh coordinator has sound numbers.
 pub numbers-fresh : (settings : Settings) → SoundNumbers settings (freshCoordinator settings)
 numbers-fresh settings = record {
   estimates-length = length-replicate {A = ℕ} (settings .universe) 0;
@@ -38,6 +39,7 @@ numbers-fresh settings = record {
 module _ {settings : Settings} {c : Coordinator} (sound : SoundNumbers settings c) where
   -- ---- Only the phase changes, or the signals with it
 
+  -- Another phase.
   pub numbers-phase : (phase : Phase) → SoundNumbers settings (withPhase c phase)
   numbers-phase phase = record {
     estimates-length = sound .estimates-length;
@@ -48,6 +50,7 @@ module _ {settings : Settings} {c : Coordinator} (sound : SoundNumbers settings 
     histogram-sum = sound .histogram-sum;
   }
 
+  -- At rest: signals are 0 and the phase is idle.
   pub numbers-rest : SoundNumbers settings (atRest c)
   numbers-rest = record {
     estimates-length = sound .estimates-length;
@@ -92,6 +95,7 @@ module _ {settings : Settings} {c : Coordinator} (sound : SoundNumbers settings 
         omega (arith, sound .histogram-sum was-one);
   }
 
+  -- A quantile that a halving left.
   pub numbers-quantile : (quantile : ℕ) (phase : Phase)
       → quantile ≤ topValue
       → SoundNumbers settings (withQuantile c quantile phase)
@@ -106,6 +110,7 @@ module _ {settings : Settings} {c : Coordinator} (sound : SoundNumbers settings 
 
   -- ---- Kinds 1 and 2
 
+  -- Kind 1 adds to one estimate.
   pub numbers-item : (item amount : ℕ) (phase : Phase)
       → SoundNumbers settings (record {
         estimates = set (c .estimates) item (getD (c .estimates) item 0 + amount);
@@ -149,6 +154,7 @@ module _ {settings : Settings} {c : Coordinator} (sound : SoundNumbers settings 
         sum-oneMore (c .histogram) value (omega (arith, sound .histogram-length)),
       ))
 
+  -- Kind 2 adds to the total, and at threshold 1 to a value count: both by 1 then.
   pub numbers-count : (value signals : ℕ) (phase : Phase)
       → value ≤ topValue
       → SoundNumbers settings (record {

@@ -4,35 +4,35 @@
 --   baseOf settings sites total       the total with all pendings: the new base
 --   quantileFound settings sites base what the ten halvings leave
 --   sitesClosed settings sites t      the sites: pendings 0, threshold t
---   closeOne, closeMore               the delivery of a close whose new threshold is 1, or 2 and more
+--   closeOne, closeMore               the delivery of a close: new threshold 1, or 2 and more
 --   closeMessagesOne, closeMessagesMore   their messages, 3 * k and 23 * k of them
 -- Letters: k the sites, l the last of them, t a threshold.
-use mathlib.Core.Path.{_≡_, refl, sym, ap, _∙_, subst}
-use mathlib.Core.Bool.{Bool, true, false}
+use mathlib.Core.Path.{_≡_, refl, ap, subst}
+use mathlib.Core.Bool.{Bool}
 use mathlib.Core.List.{List, [], _∷_, _++_}
-use Prim.Native.Nat.{ℕ, zero, suc, _+_, _*_, _^_, _≤_, _<_}
+use Prim.Native.Nat.{ℕ, suc, _+_, _*_, _≤_, _<_}
 use native.Mathlib.Omega.{arith}
-use lib.ListN.{length, getD, set, length-append}
+use lib.ListN.{length, length-append}
 use Rattle.laws.proofs.Sums.{sumBelow, sumBelow-same}
 use Rattle.laws.proofs.Updates.{changeFirst, changeFirst-keeps}
 use Rattle.model.specs.declared.Settings.{Settings}
 use Rattle.model.specs.declared.Message.{Message}
-use Rattle.model.specs.declared.Phase.{Phase}
-use Rattle.model.specs.declared.Phase.the-variants.{Idle, Collecting, Probing, Announcing}
+use Rattle.model.specs.declared.Phase.the-variants.{Idle, Collecting, Announcing}
 use Rattle.model.specs.Limits.{topValue}
 use Rattle.model.specs.Settings.{thresholdOf}
-use Rattle.model.specs.Messages.{poll, pollAnswer, probe}
+use Rattle.model.specs.Messages.{poll, pollAnswer}
 use Rattle.model.specs.Site.{Site, freshSite, upTo}
-use Rattle.model.specs.Coordinator.{Coordinator, withPhase, withTotal, withBase, withQuantile, atRest, middle, enough}
+use Rattle.model.specs.Coordinator.{Coordinator, withPhase, withTotal, withBase, withQuantile, atRest, enough}
 use Rattle.model.specs.Network.{Network}
 use Rattle.model.proofs.Halving.{halve}
 use Rattle.model.proofs.DeliverySteps.{Delivers, more-steps}
-use Rattle.model.proofs.DeliveryMessages.{pendingAt, upToAt, exchanges, length-exchanges, pollMessages, halvingMessages, length-halvingMessages, announcements, length-announcements}
+use Rattle.model.proofs.DeliveryMessages.{pendingAt, upToAt, length-exchanges, pollMessages, halvingMessages, length-halvingMessages, announcements, length-announcements}
 use Rattle.model.proofs.DeliveryLoops.{networkOf, polled, told, polls, poll-last-one, poll-last-more, pending-unpolled, announces}
 use Rattle.model.proofs.DeliveryHalvings.{countUpTo, halvings-end}
 
 -- ---- The close's numbers
 
+-- The new base: the total with what all sites have pending.
 abbrev pub baseOf : Settings → List Site → ℕ → ℕ
 baseOf settings sites total = total + sumBelow (pendingAt sites) (settings .sites)
 
@@ -41,6 +41,7 @@ abbrev pub enoughAt : Settings → List Site → ℕ → ℕ → Bool
 enoughAt settings sites base value =
     enough (settings .rank) base (countUpTo settings sites value)
 
+-- The value that ten halvings of the whole interval leave.
 abbrev pub quantileFound : Settings → List Site → ℕ → ℕ
 quantileFound settings sites base = halve (enoughAt settings sites base) 10 0 topValue
 
@@ -48,17 +49,20 @@ quantileFound settings sites base = halve (enoughAt settings sites base) 10 0 to
 abbrev pub sitesPolled : Settings → List Site → List Site
 sitesPolled settings sites = changeFirst freshSite polled (settings .sites) sites
 
+-- And with the new threshold t.
 abbrev pub sitesClosed : Settings → List Site → ℕ → List Site
 sitesClosed settings sites t =
     changeFirst freshSite (told t) (settings .sites) (sitesPolled settings sites)
 
 -- ---- The close's messages
 
+-- New threshold 1: all polls, then the announcements.
 abbrev pub closeMessagesOne : Settings → List Site → ℕ → List Message
 closeMessagesOne settings sites base =
     pollMessages sites 0 (settings .sites)
     ++ announcements (thresholdOf settings base) base 0 (settings .sites)
 
+-- New threshold 2 or more: the halvings stand between.
 abbrev pub closeMessagesMore : Settings → List Site → ℕ → List Message
 closeMessagesMore settings sites base =
     pollMessages sites 0 (settings .sites)
@@ -66,11 +70,13 @@ closeMessagesMore settings sites base =
     (enoughAt settings sites base) 10 0 topValue
     ++ announcements (thresholdOf settings base) base 0 (settings .sites))
 
+-- Two for each poll, and one announcement.
 pub length-closeMessagesOne : (settings : Settings) (sites : List Site) (base : ℕ)
     → length (closeMessagesOne settings sites base) ≡ 3 * settings .sites
 length-closeMessagesOne settings sites base =
     rw (length-append, length-exchanges, length-announcements) (omega arith)
 
+-- And twenty for the probes of each site.
 pub length-closeMessagesMore : (settings : Settings) (sites : List Site) (base : ℕ)
     → length (closeMessagesMore settings sites base) ≡ 23 * settings .sites
 length-closeMessagesMore settings sites base =

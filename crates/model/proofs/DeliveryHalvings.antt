@@ -1,29 +1,27 @@
--- The halvings of a close: each asks every site in turn and narrows the interval, until one value is
--- left. For a free number of halvings, and any interval. PROOF.md sections 4 and 5.
+-- The halvings of a close: each asks every site in turn and narrows the interval, until one value
+-- is left. For a free number of halvings, and any interval. PROOF.md sections 4 and 5.
 --
 --   countUpTo settings sites value   the arrivals at or below a value, summed over the sites
 --   probes                           from any site on, to the probe of the last site
 --   halvings-end                     all halvings, from any interval of at most 2 ^ h values
 -- Letters: k the sites, l the last of them, j the site that is asked, r the sites after it, h
 -- halvings, n steps of the delivery that follows.
-use mathlib.Core.Path.{_≡_, refl, sym, ap, _∙_, subst}
+use mathlib.Core.Path.{_≡_, refl, ap, _∙_, subst}
 use mathlib.Core.Bool.{Bool, true, false}
 use mathlib.Core.List.{List, [], _∷_, _++_, append-assoc}
 use Prim.Native.Nat.{ℕ, zero, suc, _+_, _*_, _^_, _≤_, _<_}
 use native.Mathlib.Omega.{arith}
 use native.Mathlib.Numerals.{add-one}
-use lib.Dec.{eqb, ltb, leb}
-use lib.ListN.{getD, set}
+use lib.Dec.{eqb, ltb}
 use lib.Seq.{set-getD}
 use borrow.Author.Tests.{lt-ltb, le-ltb, eqb-true, eqb-false, eq-eqb, ne-eqb}
 use Rattle.laws.proofs.Sums.{sumBelow}
 use Rattle.model.specs.declared.Settings.{Settings}
 use Rattle.model.specs.declared.Message.{Message}
-use Rattle.model.specs.declared.Phase.{Phase}
-use Rattle.model.specs.declared.Phase.the-variants.{Idle, Collecting, Probing, Announcing}
+use Rattle.model.specs.declared.Phase.the-variants.{Probing, Announcing}
 use Rattle.model.specs.Messages.{probe, probeAnswer}
-use Rattle.model.specs.Site.{Site, freshSite, upTo}
-use Rattle.model.specs.Coordinator.{Coordinator, withPhase, withQuantile, middle, enough, narrowed}
+use Rattle.model.specs.Site.{Site, freshSite}
+use Rattle.model.specs.Coordinator.{Coordinator, withPhase, withQuantile, middle, enough, narrowed, halved}
 use Rattle.model.specs.Network.{Network}
 use Rattle.model.proofs.Halving.{halve, halve-done, halve-lower, halve-upper}
 use Rattle.model.proofs.DeliverySteps.{Delivers, hands, more-steps}
@@ -53,42 +51,24 @@ module _ (settings : Settings) (final : Network) (sites : List Site) (c : Coordi
       (hands (suc n) _ _ _ []
       (hands n sent _ _ [] (rw (goes-on, add-one j, set-getD sites j freshSite) later)))
 
-  -- The last site's answer decides: the lower half, or the upper.
-  probe-lower : (n : ℕ) (sent : List Message) (low high j sum : ℕ)
+  -- The last site's answer ends the halving.
+  probe-last : (n : ℕ) (sent : List Message) (low high j sum : ℕ)
       → suc j ≡ settings .sites
-      → enough (settings .rank) (c .base) (sum + upToAt (middle low high) sites j) ≡ true
       → Delivers settings final n sent
-      (networkOf sites (narrowed c low (middle low high) .coordinator))
-      (narrowed c low (middle low high) .messages)
+      (networkOf sites
+      (halved settings c low high (sum + upToAt (middle low high) sites j) .coordinator))
+      (halved settings c low high (sum + upToAt (middle low high) sites j) .messages)
       → Delivers settings final (n + 2)
       (probe j (middle low high)
       ∷ (probeAnswer j (middle low high) (upToAt (middle low high) sites j) ∷ sent))
       (networkOf sites (withPhase c (Probing j low high sum)))
       (probe j (middle low high) ∷ [])
-  probe-lower n sent low high j sum last holds later =
+  probe-last n sent low high j sum last later =
       let ends : ltb (j + 1) (settings .sites) ≡ false =
       le-ltb (j + 1) (settings .sites) (omega arith) in
       more-steps (omega arith)
       (hands (suc n) _ _ _ []
-      (hands n sent _ _ [] (rw (ends, holds, set-getD sites j freshSite) later)))
-
-  probe-upper : (n : ℕ) (sent : List Message) (low high j sum : ℕ)
-      → suc j ≡ settings .sites
-      → enough (settings .rank) (c .base) (sum + upToAt (middle low high) sites j) ≡ false
-      → Delivers settings final n sent
-      (networkOf sites (narrowed c (middle low high + 1) high .coordinator))
-      (narrowed c (middle low high + 1) high .messages)
-      → Delivers settings final (n + 2)
-      (probe j (middle low high)
-      ∷ (probeAnswer j (middle low high) (upToAt (middle low high) sites j) ∷ sent))
-      (networkOf sites (withPhase c (Probing j low high sum)))
-      (probe j (middle low high) ∷ [])
-  probe-upper n sent low high j sum last fails later =
-      let ends : ltb (j + 1) (settings .sites) ≡ false =
-      le-ltb (j + 1) (settings .sites) (omega arith) in
-      more-steps (omega arith)
-      (hands (suc n) _ _ _ []
-      (hands n sent _ _ [] (rw (ends, fails, set-getD sites j freshSite) later)))
+      (hands n sent _ _ [] (rw (ends, set-getD sites j freshSite) later)))
 
   -- The network when the first j sites have answered for this interval's middle.
   abbrev pub probeState : ℕ → ℕ → ℕ → Network
@@ -163,6 +143,24 @@ module _ (settings : Settings) (final : Network) (sites : List Site) (c : Coordi
       ap (λ (k : ℕ). enough (settings .rank) (c .base) (sumBelow (upToAt v sites) k)) last
       ∙ tests v ∙ is
 
+  -- All sites are asked, and the last answer ends this halving.
+  one-halving : (h low high : ℕ) (messages : List Message)
+      → low < high
+      → Delivers settings final (n + 2 * (settings .sites * h)) messages
+      (networkOf sites
+      (halved settings c low high (sumBelow (upToAt (middle low high) sites) (suc l)) .coordinator))
+      (halved settings c low high (sumBelow (upToAt (middle low high) sites) (suc l)) .messages)
+      → Delivers settings final (n + 2 * (settings .sites * suc h))
+      (probeMessages sites (middle low high) 0 (settings .sites) ++ messages)
+      (networkOf sites (narrowed c low high .coordinator))
+      (narrowed c low high .messages)
+  one-halving h low high messages wide later =
+      rw (ne-eqb low high (λ done. omega arith))
+      (more-steps (omega (arith, ap (λ (x : ℕ). x * h) last))
+      (all-probes settings final sites c low high (n + 2 * (settings .sites * h) + 2) l messages
+      last (probe-last settings final sites c (n + 2 * (settings .sites * h)) messages low high l _
+      last later)))
+
   half-left : (h low high : ℕ)
       → low < high
       → (b : Bool) → test (middle low high) ≡ b
@@ -170,32 +168,19 @@ module _ (settings : Settings) (final : Network) (sites : List Site) (c : Coordi
       → Halves h (middle low high + 1) high
       → Halves (suc h) low high
   half-left h low high wide true holds in-lower in-upper later =
-      let k : ℕ = settings .sites in
-      let messages : List Message = halvingMessages sites k test h low (middle low high) ++ sent in
       let rest = in-lower (rw (halve-lower test h low high wide holds) at later) in
-      let answer = probe-lower settings final sites c (n + 2 * (k * h)) messages low high l _ last
-      (tested (middle low high) true holds) rest in
       rw (
-        halvingMessages-lower sites k test h low high wide holds,
+        halvingMessages-lower sites (settings .sites) test h low high wide holds,
         append-assoc,
-        ne-eqb low high (λ done. omega arith),
       )
-      (more-steps (omega (arith, ap (λ (x : ℕ). x * h) last))
-      (all-probes settings final sites c low high (n + 2 * (k * h) + 2) l messages last answer))
+      (one-halving h low high _ wide (rw (tested (middle low high) true holds) rest))
   half-left h low high wide false fails in-lower in-upper later =
-      let k : ℕ = settings .sites in
-      let messages : List Message =
-      halvingMessages sites k test h (middle low high + 1) high ++ sent in
       let rest = in-upper (rw (halve-upper test h low high wide fails) at later) in
-      let answer = probe-upper settings final sites c (n + 2 * (k * h)) messages low high l _ last
-      (tested (middle low high) false fails) rest in
       rw (
-        halvingMessages-upper sites k test h low high wide fails,
+        halvingMessages-upper sites (settings .sites) test h low high wide fails,
         append-assoc,
-        ne-eqb low high (λ done. omega arith),
       )
-      (more-steps (omega (arith, ap (λ (x : ℕ). x * h) last))
-      (all-probes settings final sites c low high (n + 2 * (k * h) + 2) l messages last answer))
+      (one-halving h low high _ wide (rw (tested (middle low high) false fails) rest))
 
   -- From any interval of at most 2 ^ h values: what remains is the quantile.
   pub halvings-end : (h low high : ℕ)

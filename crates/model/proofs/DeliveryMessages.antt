@@ -5,10 +5,10 @@
 --   halvingMessages sites k test h low high  kinds 5 and 6 of up to h halvings at k sites
 --   announcements threshold base j n         kind 7 for n sites from site j on
 --   length-*                                 their numbers: 2 * n, 2 * n, 2 * k a halving, n
-use mathlib.Core.Path.{_≡_, refl, sym, ap, _∙_}
+use mathlib.Core.Path.{_≡_, refl}
 use mathlib.Core.Bool.{Bool, true, false}
 use mathlib.Core.List.{List, [], _∷_, _++_}
-use Prim.Native.Nat.{ℕ, zero, suc, _+_, _*_, _^_, _≤_, _<_}
+use Prim.Native.Nat.{ℕ, zero, suc, _+_, _*_, _^_, _<_}
 use native.Mathlib.Omega.{arith}
 use lib.Dec.{eqb}
 use lib.ListN.{length, getD, length-append}
@@ -26,6 +26,7 @@ abbrev pub exchanges : (ℕ → Message) → (ℕ → Message) → ℕ → ℕ �
 exchanges ask answer j zero = []
 exchanges ask answer j (suc n) = ask j ∷ (answer j ∷ exchanges ask answer (suc j) n)
 
+-- A question and an answer for each.
 pub length-exchanges : (ask answer : ℕ → Message) (j n : ℕ)
     → length (exchanges ask answer j n) ≡ 2 * n
 length-exchanges ask answer j zero = refl
@@ -35,12 +36,15 @@ length-exchanges ask answer j (suc n) = omega (arith, length-exchanges ask answe
 abbrev pub pendingAt : List Site → ℕ → ℕ
 pendingAt sites j = getD sites j freshSite .pending
 
+-- The arrivals of site j at or below a value.
 abbrev pub upToAt : ℕ → List Site → ℕ → ℕ
 upToAt value sites j = upTo value (getD sites j freshSite .histogram)
 
+-- Kind 3 with kind 4, from site j on.
 abbrev pub pollMessages : List Site → ℕ → ℕ → List Message
 pollMessages sites j n = exchanges poll (λ i. pollAnswer i (pendingAt sites i)) j n
 
+-- Kind 5 with kind 6 for one value, from site j on.
 abbrev pub probeMessages : List Site → ℕ → ℕ → ℕ → List Message
 probeMessages sites value j n =
     exchanges (λ i. probe i value) (λ i. probeAnswer i value (upToAt value sites i)) j n
@@ -61,6 +65,7 @@ halvingMessages sites k test (suc h) low high =
     ]
 
 module _ (sites : List Site) (k : ℕ) (test : ℕ → Bool) where
+  -- One value is left: nothing is asked.
   pub halvingMessages-done : (h low high : ℕ)
       → low ≡ high
       → halvingMessages sites k test h low high ≡ []
@@ -68,6 +73,7 @@ module _ (sites : List Site) (k : ℕ) (test : ℕ → Bool) where
   halvingMessages-done zero low high done = refl
   halvingMessages-done (suc h) low high done = rw (eq-eqb low high done, halvingMessages)
 
+  -- The test holds at the middle: the lower half follows.
   pub halvingMessages-lower : (h low high : ℕ)
       → low < high
       → test (middle low high) ≡ true
@@ -78,6 +84,7 @@ module _ (sites : List Site) (k : ℕ) (test : ℕ → Bool) where
   halvingMessages-lower h low high wide holds =
       rw (ne-eqb low high (λ done. omega arith), halvingMessages, holds, halvingMessages)
 
+  -- It fails there: the upper half follows.
   pub halvingMessages-upper : (h low high : ℕ)
       → low < high
       → test (middle low high) ≡ false
@@ -115,11 +122,13 @@ module _ (sites : List Site) (k : ℕ) (test : ℕ → Bool) where
 
 -- ---- Announcements
 
+-- Kind 7 for each site from j on, n of them.
 abbrev pub announcements : ℕ → ℕ → ℕ → ℕ → List Message
 announcements threshold base j zero = []
 announcements threshold base j (suc n) =
     announcement j threshold base ∷ announcements threshold base (suc j) n
 
+-- One for each.
 pub length-announcements : (threshold base j n : ℕ)
     → length (announcements threshold base j n) ≡ n
 length-announcements threshold base j zero = refl

@@ -1,6 +1,6 @@
--- Delivery step by step and as a whole. `Delivers` says where a delivery ends and which messages are
--- handed over on the way, for all numbers of steps that are enough; it is built backwards from the
--- end, one law for each step. PROOF.md section 4.
+-- Delivery step by step and as a whole. `Delivers` says where a delivery ends and which messages
+-- are handed over on the way, for all numbers of steps that are enough; it is built backwards from
+-- the end, one law for each step. PROOF.md section 4.
 --
 --   delivered-is-steps   the model's `delivered` is that many steps, and forgets what waits
 --   Delivers             from this network with these messages waiting, n steps hand over `sent`,
@@ -10,13 +10,13 @@
 use mathlib.Core.Path.{_≡_, refl, sym, ap, _∙_}
 use mathlib.Core.Bool.{Bool, true, false}
 use mathlib.Core.List.{List, [], _∷_, _++_, append-assoc, append-nil}
-use Prim.Native.Nat.{ℕ, zero, suc, _+_, _≤_, _<_}
+use Prim.Native.Nat.{ℕ, zero, suc, _≤_}
 use native.Mathlib.Omega.{arith}
 use Rattle.model.specs.declared.Settings.{Settings}
 use Rattle.model.specs.declared.Message.{Message}
 use Rattle.model.specs.Coordinator.{isAnnouncing}
-use Rattle.model.specs.Network.{Network, Delivered, delivered, handOver, askAnnouncement}
-use Rattle.model.specs.DeliveryClaims.{Delivery, delivery, joining, deliveryStep, deliverySteps, outcome}
+use Rattle.model.specs.Network.{Network, delivered, handOver, askAnnouncement}
+use Rattle.model.specs.DeliveryClaims.{delivery, joining, deliverySteps, outcome}
 
 -- ---- The model's delivery as steps
 
@@ -35,6 +35,7 @@ pub steps-asked : (fuel : ℕ) (settings : Settings) (network : Network) (log : 
     ≡ deliverySteps fuel settings (joining (askAnnouncement settings network) [] log)
 steps-asked fuel settings network log announcing = rw announcing
 
+-- The model's delivery takes the same steps, and stops early where nothing is left to do.
 pub delivered-is-steps : (fuel : ℕ) (settings : Settings) (network : Network)
     (waiting log : List Message)
     → delivered fuel settings network waiting log
@@ -62,6 +63,7 @@ delivered-is-steps (suc fuel) settings network (m ∷ waiting) log =
 
 -- ---- Whole deliveries
 
+-- Where a delivery ends: `sent` is what waits, and all that goes out later, in order.
 pub record Delivers (settings : Settings) (final : Network) (n : ℕ) (sent : List Message)
     (network : Network) (waiting : List Message) : Type 0 where
   pub ends : (fuel : ℕ) (log : List Message)
@@ -70,6 +72,7 @@ pub record Delivers (settings : Settings) (final : Network) (n : ℕ) (sent : Li
       ≡ delivery final [] (log ++ sent)
 
 module _ {settings : Settings} {final : Network} where
+  -- More steps than needed are as good.
   pub more-steps : {n n′ : ℕ} {sent : List Message} {network : Network} {waiting : List Message}
       → n ≤ n′
       → Delivers settings final n sent network waiting

@@ -1,39 +1,34 @@
 -- Full delivery keeps what specs/DeliveryClaims.antt claims: few messages, and nothing left over.
 -- Both from the closed form of a delivery, case by case. PROOF.md section 4.
 use mathlib.Core.Path.{_≡_, refl, sym, ap, _∙_}
-use mathlib.Core.Bool.{Bool, true, false}
-use mathlib.Core.List.{List, [], _∷_, _++_}
+use mathlib.Core.List.{[]}
 use Prim.Native.Nat.{ℕ, _+_, _*_, _≤_}
 use native.Mathlib.Omega.{arith}
 use lib.ListN.{length}
 use Rattle.model.specs.declared.Settings.{Settings}
 use Rattle.model.specs.declared.Arrival.{Arrival}
-use Rattle.model.specs.declared.Message.{Message}
 use Rattle.model.specs.declared.Phase.the-variants.{Idle}
-use Rattle.model.specs.Refusals.{when}
 use Rattle.model.specs.Limits.{mostMessages}
 use Rattle.model.specs.Site.{reportsItem, reportsCount}
 use Rattle.model.specs.Network.{Network, siteAt, deliveryFuel, afterArrival}
-use Rattle.model.specs.DeliveryClaims.{Delivery, delivery, deliverySteps, outcome, deliveryOf, Resting, DeliveryClaims}
+use Rattle.model.specs.DeliveryClaims.{delivery, deliverySteps, outcome, deliveryOf, deliveredWith, Resting, DeliveryClaims}
 use Rattle.model.proofs.DeliverySteps.{delivered-is-steps}
 use Rattle.model.proofs.ArrivalParts.{firstMessages, ArrivalCase, noCountReport, countReported, closesOne, closesMore, arrival-case, networkThen, messagesThen, closeCount, length-firstMessages, length-messagesThen}
+use Rattle.model.proofs.ReportLaws.{when-le}
 use Rattle.model.proofs.AfterArrival.{delivers-after, after-arrival}
 
 -- ---- Few messages
 
+-- An arrival itself sends kind 1 at most once, and kind 2 at most once.
 pub first-at-most-two : (settings : Settings) (network : Network) (arrival : Arrival)
     → length (firstMessages settings network arrival) ≤ 2
 first-at-most-two settings network arrival =
     omega (
       arith,
       length-firstMessages settings network arrival,
-      at-most-one (reportsItem settings (siteAt network (arrival .site)) arrival),
-      at-most-one (reportsCount (siteAt network (arrival .site))),
+      when-le (reportsItem settings (siteAt network (arrival .site)) arrival),
+      when-le (reportsCount (siteAt network (arrival .site))),
     )
-  where
-    at-most-one : (due : Bool) → when due 1 ≤ 1
-    at-most-one true = omega arith
-    at-most-one false = omega arith
 
 -- A close has at most 23 * k messages.
 close-at-most : (settings : Settings) (network : Network) (arrival : Arrival)
@@ -81,11 +76,11 @@ module _ (settings : Settings) (network : Network) (arrival : Arrival)
       (omega arith)
 
   more-fuel : (more : ℕ)
-      → outcome
-      (deliverySteps (deliveryFuel settings + more) settings (deliveryOf settings network arrival))
+      → deliveredWith (deliveryFuel settings + more) settings network arrival
       ≡ afterArrival settings network arrival
   more-fuel more =
-      ap outcome (ends-there more) ∙ sym (after-arrival settings network arrival idle which)
+      delivered-is-steps (deliveryFuel settings + more) settings _ _ _
+      ∙ (ap outcome (ends-there more) ∙ sym (after-arrival settings network arrival idle which))
 
   comes-to-rest : Resting
       (deliverySteps (deliveryFuel settings) settings (deliveryOf settings network arrival))
@@ -94,6 +89,7 @@ module _ (settings : Settings) (network : Network) (arrival : Arrival)
       (omega arith))
       (record { nothing-waits = refl; idle = idle-then settings network arrival which })
 
+-- The claims on full delivery, all proved.
 pub delivery-claims : DeliveryClaims
 delivery-claims = record {
   few-messages = few-messages;

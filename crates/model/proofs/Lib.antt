@@ -7,6 +7,7 @@ pub mod LineLaws
 pub mod ReadBack
 pub mod Halving
 pub mod Threshold
+pub mod Growth
 pub mod Rounds
 pub mod RoundBounds
 pub mod HeavyHitters
@@ -46,12 +47,15 @@ pub mod CoordinatorSound
 pub mod Together
 pub mod Stages
 pub mod AcceptedMessages
+pub mod PhaseSteps
 pub mod ReportStage
+pub mod NarrowedStage
 pub mod PollStage
 pub mod ProbeStage
 pub mod AnnounceStage
 pub mod MidDelivery
 pub mod SoundStages
+pub mod StageFacts
 pub mod NeverFalls
 pub mod SoundTheorem
 pub mod NumberGrowth

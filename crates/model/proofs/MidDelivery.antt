@@ -1,27 +1,25 @@
--- A delivery in mid-way, whatever it has done so far: each step keeps a stage, and finishing it in the
--- model's order comes to the same network and the same messages. PROOF.md sections 4 and 7.
+-- A delivery in mid-way, whatever it has done so far: each step keeps a stage, and finishing it in
+-- the model's order comes to the same network and the same messages. PROOF.md sections 4 and 7.
 --
 --   hand-on, ask-on         the head of the queue is accepted; the two steps keep a stage
 --   Finishes                finishing from here ends there, with all these messages
 --   ask-early               a kind 7 asked for while others wait: the same as in the model's order
 --   MidDelivery             a stage from which the delivery finishes as it should
 --   mid-handed, mid-asked   kept by both steps
-use mathlib.Core.Path.{_≡_, refl, sym, ap, _∙_, subst}
+use mathlib.Core.Path.{_≡_, refl, sym, _∙_}
 use mathlib.Core.Bool.{Bool, true, false, false≢true}
-use mathlib.Core.List.{List, [], _∷_, _++_, append-nil}
-use Prim.Native.Nat.{ℕ, zero, suc, _+_, _-_, _*_, _≤_, _<_}
+use mathlib.Core.List.{List, [], _∷_, append-nil}
+use Prim.Native.Nat.{ℕ, zero, suc, _-_, _≤_, _<_}
 use native.Mathlib.Omega.{arith}
 use lib.Dec.{ltb}
 use borrow.Author.Tests.{ltb-true}
 use Rattle.model.specs.declared.Settings.{Settings}
 use Rattle.model.specs.declared.Message.{Message}
-use Rattle.model.specs.declared.Phase.{Phase}
-use Rattle.model.specs.declared.Phase.the-variants.{Idle, Collecting, Probing, Announcing}
-use Rattle.model.specs.Refusals.{accepted}
+use Rattle.model.specs.declared.Phase.the-variants.{Idle}
 use Rattle.model.specs.Messages.{announcement}
 use Rattle.model.specs.Coordinator.{isAnnouncing}
 use Rattle.model.specs.Network.{Network, handOver, askAnnouncement}
-use Rattle.model.specs.DeliveryClaims.{Delivery, delivery, joining, deliverySteps, messageRefusal}
+use Rattle.model.specs.DeliveryClaims.{Delivery, delivery, joining, deliverySteps}
 use Rattle.model.proofs.SettingsLaws.{Settled}
 use Rattle.model.proofs.DeliverySteps.{steps-asked}
 use Rattle.model.proofs.DeliveryMessages.{announcements}
@@ -33,6 +31,7 @@ use Rattle.model.proofs.AnnounceStage.{handed-announces, asked-announce
 
 -- ---- The two steps keep a stage
 
+-- The head of the queue is accepted, at whatever stage.
 pub hand-on : {settings : Settings} {network : Network} {m : Message} {waiting : List Message}
     {left : ℕ}
     → Settled settings
@@ -53,6 +52,7 @@ announces-of (polling p) announces = absurd (false≢true (rw (p .phase-is) at a
 announces-of (halving p) announces = absurd (false≢true (rw (p .phase-is) at announces))
 announces-of (announcing a) announces = a
 
+-- The next kind 7 of an announcing coordinator.
 pub ask-on : {settings : Settings} {network : Network} {waiting : List Message} {left : ℕ}
     → Stage settings network waiting left
     → isAnnouncing (network .coordinator .phase) ≡ true
@@ -61,6 +61,7 @@ ask-on stage announces = asked-announces (announces-of stage announces) announce
 
 -- ---- Finishing
 
+-- However many steps beyond those that are left, it ends there.
 pub record Finishes (settings : Settings) (final : Network) (all : List Message) (left : ℕ)
     (d : Delivery) : Type 0 where
   pub ends : (fuel : ℕ) → left ≤ fuel → deliverySteps fuel settings d ≡ delivery final [] all
@@ -77,12 +78,13 @@ ask-early settings network t base i zero log announces fuel enough =
 ask-early settings network t base i (suc w) log announces zero enough = absurd (omega arith)
 ask-early settings network t base i (suc w) log announces (suc fuel) enough =
     let told : Network = handOver settings network (announcement i t base) .network in
-    rw (append-nil, append-nil)
+    rw (append-nil (announcements t base (suc i) w), append-nil log)
     (ask-early settings told t base (suc i) w log announces fuel (omega arith)
     ∙ simp append-nil)
 
 -- ---- In mid-delivery
 
+-- A delivery at a stage, that finishes at this network with all these messages.
 pub record MidDelivery (settings : Settings) (final : Network) (all : List Message) (left : ℕ)
     (d : Delivery) : Type 0 where
   pub stage : Stage settings (d .network) (d .waiting) left

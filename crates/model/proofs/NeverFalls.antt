@@ -1,12 +1,12 @@
--- No step of a delivery lowers an estimate or a value count of the coordinator, whatever the network
--- and whatever waits: so in mid-delivery they are at most what the delivery comes to.
+-- No step of a delivery lowers an estimate or a value count of the coordinator, whatever the
+-- network and whatever waits: so in mid-delivery they are at most what the delivery comes to.
 --
 --   NoLess c c′        each number of c′ is at least that of c
 --   received-no-less   after any message; asked-no-less after an announcement
 --   steps-no-less      after any number of steps
-use mathlib.Core.Path.{_≡_, refl, sym, ap}
+use mathlib.Core.Path.{_≡_, refl}
 use mathlib.Core.Bool.{Bool, true, false}
-use mathlib.Core.List.{List, [], _∷_, _++_}
+use mathlib.Core.List.{List, [], _∷_}
 use Prim.Native.Nat.{ℕ, zero, suc, _+_, _≤_}
 use native.Mathlib.Omega.{arith}
 use lib.Dec.{eqb, ltb, leb}
@@ -23,6 +23,7 @@ use Rattle.model.specs.Coordinator.{Coordinator, CoordinatorStep, withPh
 use Rattle.model.specs.Network.{Network, Delivered, handOver, handToCoordinator, handToSite}
 use Rattle.model.specs.DeliveryClaims.{Delivery, delivery, deliveryStep, deliverySteps}
 
+-- Every estimate and value count is as large or larger.
 pub record NoLess (c c′ : Coordinator) : Type 0 where
   pub estimates : (item : ℕ) → getD (c .estimates) item 0 ≤ getD (c′ .estimates) item 0
   pub values : (value : ℕ) → getD (c .histogram) value 0 ≤ getD (c′ .histogram) value 0
@@ -110,6 +111,7 @@ module _ (settings : Settings) (c : Coordinator) where
       (halved-same low high (sum + m .b))
   received-in (Announcing site) m = no-less-self c
 
+  -- A message of any kind, in any phase.
   pub received-no-less : (m : Message) → NoLessAfter (coordinatorReceives settings c m)
   received-no-less m = received-in (c .phase) m
 
@@ -122,6 +124,7 @@ module _ (settings : Settings) (c : Coordinator) where
       (withPhase c (Announcing (site + 1))) (atRest c)
       (no-less-same c _ refl refl) (no-less-same c _ refl refl)
 
+  -- An announcement that is asked for.
   pub asked-no-less : NoLessAfter (announced settings c)
   asked-no-less = asked-in (c .phase)
 
@@ -143,6 +146,7 @@ step-no-less settings network [] log =
     (asked-no-less settings (network .coordinator)) (no-less-self (network .coordinator))
 step-no-less settings network (m ∷ waiting) log = handed-no-less settings network m
 
+-- Any number of steps of any delivery.
 pub steps-no-less : (fuel : ℕ) (settings : Settings) (d : Delivery)
     → NoLess (d .network .coordinator) (deliverySteps fuel settings d .network .coordinator)
 steps-no-less zero settings d = no-less-self (d .network .coordinator)

@@ -1,34 +1,31 @@
--- One arrival, and what it adds to the coordinator's numbers: to an estimate what was unreported, to
--- a value count one. From the closed form of its delivery. PROOF.md S7.
+-- One arrival, and what it adds to the coordinator's numbers: to an estimate what was unreported,
+-- to a value count one. From the closed form of its delivery. PROOF.md S7.
 --
 --   unreported-then, arrivals-then   all unreported and all arrivals after an arrival
 --   estimate-then, value-then        an estimate and a value count after it
 --   grown-then                       all of it, where the network then has its sites
 use mathlib.Core.Path.{_≡_, refl, sym, ap, _∙_}
 use mathlib.Core.Bool.{Bool, true, false}
-use mathlib.Core.List.{List, [], _∷_, _++_}
-use Prim.Native.Nat.{ℕ, zero, suc, _+_, _*_, _≤_, _<_}
+use mathlib.Core.List.{List, [], _∷_}
+use Prim.Native.Nat.{ℕ, zero, suc, _+_, _≤_, _<_}
 use native.Mathlib.Omega.{arith}
-use native.Mathlib.Decide.{ℕ-discrete, decLt}
 use lib.Dec.{eqb}
-use lib.ListN.{length, getD, set, length-set, List·getD-eq-default}
-use lib.Seq.{getD-set-same, getD-set-other, set-out}
+use lib.ListN.{length, getD, set}
 use Rattle.laws.proofs.Sums.{sumBelow, sumBelow-same, sumBelow-set, sumOf, sumOf-nil, sumOf-cons}
 use Rattle.laws.proofs.Updates.{sumBelow-length}
 use Rattle.model.specs.declared.Settings.{Settings}
 use Rattle.model.specs.declared.Arrival.{Arrival}
 use Rattle.model.specs.declared.Phase.the-variants.{Idle}
 use Rattle.model.specs.Choice.{if_then_else_}
-use Rattle.model.specs.Counters.{Counter, unreported, lostBy}
+use Rattle.model.specs.Counters.{Counter, unreported}
 use Rattle.model.specs.Site.{Site, freshSite, oneMoreAt, observed, reportsItem, reportedValue}
-use Rattle.model.specs.Network.{Network, siteAt, afterArrival}
+use Rattle.model.specs.Network.{Network, siteAt}
 use Rattle.model.specs.NetworkMemory.{allArrivals}
-use Rattle.model.specs.SoundNetwork.{SoundSite, estimateOf, countOfValue, Sound}
+use Rattle.model.specs.SoundNetwork.{estimateOf, countOfValue, Sound}
 use Rattle.model.specs.NumberClaims.{unreportedIn, allUnreported, Grown}
 use Rattle.model.proofs.SettingsLaws.{Settled}
 use Rattle.model.proofs.DeliveryLoops.{polled, told}
-use Rattle.model.proofs.ArrivalParts.{observedSites, afterItemReport, afterCountReport, ArrivalCase, noCountReport, countReported, closesOne, closesMore, arrival-case, networkThen}
-use Rattle.model.proofs.AfterArrival.{after-arrival}
+use Rattle.model.proofs.ArrivalParts.{observedSites, afterItemReport, afterCountReport, ArrivalCase, noCountReport, countReported, closesOne, closesMore, networkThen}
 use Rattle.model.proofs.SitesInvariant.{arrivalsAt, unreportedAt}
 use Rattle.model.proofs.ClosedSites.{sitesClosed-keeps, sumBelow-allArrivals}
 use Rattle.model.proofs.SoundSites.{ArrivalTaken, unreported-moves}
@@ -50,6 +47,7 @@ unreportedIn-sum [] = sumOf-nil unreported
 unreportedIn-sum (counter ∷ counters) =
     omega (arith, sumOf-cons unreported counter counters, unreportedIn-sum counters)
 
+-- The sum by place over all sites is the claim's sum.
 pub sumBelow-allUnreported : (settings : Settings) (sites : List Site)
     → length sites ≡ settings .sites
     → sumBelow (unreportedAt sites) (settings .sites) ≡ allUnreported sites
@@ -114,7 +112,8 @@ module _ {settings : Settings} {network : Network} {arrival : Arrival}
   sum-then part polled-keeps told-keeps which =
       omega (
         arith,
-        sumBelow-same (λ j. part (siteAt (networkThen which) j)) (λ j. part (getD sites j freshSite)) k
+        sumBelow-same (λ j. part (siteAt (networkThen which) j))
+            (λ j. part (getD sites j freshSite)) k
             (λ j _. then-keeps part polled-keeps told-keeps which j),
         sumBelow-set part freshSite (network .sites) (arrival .site) k
             (observed settings site arrival .site) inside (taken .known .site-known),
@@ -174,6 +173,7 @@ module _ {settings : Settings} {network : Network} {arrival : Arrival}
   value-then (closesOne due all one) value = value-counted-then value
   value-then (closesMore due all more) value = value-counted-then value
 
+  -- One arrival with full delivery, in each of its cases.
   pub grown-then : (which : ArrivalCase settings network arrival)
       → length (networkThen which .sites) ≡ k
       → Grown network (networkThen which)

@@ -1,35 +1,32 @@
 -- The coordinator's numbers stay small, from any sound network through any batch: the claims of
 -- specs/NumberClaims.antt. Growth is counted by all arrivals, and these are at most k × 10^9.
-use mathlib.Core.Path.{_≡_, refl, sym, ap, _∙_, subst}
+use mathlib.Core.Path.{_≡_, refl, ap}
 use mathlib.Core.Bool.{Bool, true, false}
-use mathlib.Core.List.{List, [], _∷_, _++_}
-use Prim.Native.Nat.{ℕ, zero, suc, _+_, _-_, _*_, _≤_, _<_}
-use native.Mathlib.Nat.{mul-le-mul, mul-le-mul-right}
+use mathlib.Core.List.{List, [], _∷_}
+use Prim.Native.Nat.{ℕ, suc, _-_, _*_, _≤_, _<_}
+use native.Mathlib.Nat.{mul-le-mul-right}
 use native.Mathlib.Omega.{arith}
-use lib.Dec.{eqb}
-use lib.ListN.{length, getD}
+use lib.ListN.{length}
 use borrow.Author.Tests.{eqb-true}
-use Rattle.laws.proofs.Sums.{sumBelow, sumBelow-le, sumBelow-const, sumOf}
+use Rattle.laws.proofs.Sums.{sumBelow-le, sumBelow-const}
 use Rattle.model.specs.declared.Settings.{Settings}
 use Rattle.model.specs.declared.Arrival.{Arrival}
-use Rattle.model.specs.declared.Message.{Message}
 use Rattle.model.specs.Choice.{isZero}
 use Rattle.model.specs.Refusals.{accepted}
 use Rattle.model.specs.Limits.{siteLimit, coordinatorLimit}
 use Rattle.model.specs.Settings.{settingsRefusal}
 use Rattle.model.specs.Counters.{Counter, counterAt, unreported}
-use Rattle.model.specs.Site.{Site}
 use Rattle.model.specs.Network.{Network, siteAt, Delivered, afterArrival}
 use Rattle.model.specs.NetworkMemory.{allArrivals}
 use Rattle.model.specs.Runs.{refusalIn, batchRefusal, Batch, batchFrom, batchOf}
-use Rattle.model.specs.SoundNetwork.{SoundSite, estimateOf, countOfValue, Sound}
-use Rattle.model.specs.NumberClaims.{unreportedIn, allUnreported, Grown, estimateLimit, valueCountLimit, WithinLimit, BatchNumbers, NumberClaims}
+use Rattle.model.specs.SoundNetwork.{SoundSite, Sound}
+use Rattle.model.specs.NumberClaims.{unreportedIn, allUnreported, Grown, BatchNumbers, NumberClaims}
 use Rattle.model.proofs.RefusalLaws.{both-accepted}
 use Rattle.model.proofs.SettingsLaws.{Settled, settled}
 use Rattle.model.proofs.ArrivalParts.{ArrivalCase, arrival-case, networkThen}
 use Rattle.model.proofs.AfterArrival.{after-arrival}
 use Rattle.model.proofs.SitesInvariant.{unreportedAt}
-use Rattle.model.proofs.ClosedSites.{sumBelow-allPending, sumBelow-allArrivals}
+use Rattle.model.proofs.ClosedSites.{sumBelow-allArrivals}
 use Rattle.model.proofs.SoundSites.{taken-of-no-refusal}
 use Rattle.model.proofs.Together.{total-bounded, arrivals-bounded}
 use Rattle.model.proofs.SoundStages.{together-of-sound}
@@ -38,12 +35,14 @@ use Rattle.model.proofs.NumberGrowth.{unreportedIn-sum, sumBelow-allUnr
 
 -- ---- Growth, arrival by arrival
 
+-- No arrival, no growth.
 pub grown-self : (network : Network) → Grown network network
 grown-self network = record {
   estimate-grows = λ item. omega arith;
   value-grows = λ value. omega arith;
 }
 
+-- Growth after growth.
 pub grown-more : {first second third : Network}
     → Grown first second
     → Grown second third
@@ -192,6 +191,7 @@ module _ (settings : Settings) (room : ℕ) (network : Network)
         total-small = total-few fit (kept .sound);
       }
 
+-- The claims on the coordinator's numbers, all proved.
 pub number-claims : NumberClaims
 number-claims = record {
   arrival-grows = arrival-grows;

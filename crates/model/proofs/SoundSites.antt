@@ -6,36 +6,39 @@
 --   sound-observed         an arrival; what moves then: pending-moves, unreported-moves
 --   sound-polled           kind 3; sound-told kind 7 (kind 5 changes nothing)
 --   upTo-within            kind 6 never counts more than the site's arrivals
-use mathlib.Core.Path.{_≡_, refl, sym, ap, _∙_}
+use mathlib.Core.Path.{_≡_, refl, ap, _∙_}
 use mathlib.Core.Bool.{Bool, true, false}
-use mathlib.Core.List.{List, [], _∷_, _++_}
-use Prim.Native.Nat.{ℕ, zero, suc, _+_, _-_, _≤_, _<_}
+use mathlib.Core.List.{List, [], _∷_}
+use Prim.Native.Nat.{ℕ, zero, suc, _+_, _≤_, _<_}
 use native.Mathlib.Omega.{arith}
-use lib.Dec.{leb, ltb, eqb}
-use lib.ListN.{length, getD, set, replicate, length-set, length-replicate}
+use lib.Dec.{leb}
+use lib.ListN.{length, replicate, length-set, length-replicate}
 use borrow.Author.Tests.{leb-true, leb-false}
 use Rattle.laws.proofs.Sums.{sumOf}
 use Rattle.model.specs.declared.Settings.{Settings}
 use Rattle.model.specs.declared.Arrival.{Arrival}
 use Rattle.model.specs.Choice.{if_then_else_}
-use Rattle.model.specs.Refusals.{accepted, siteFull, when, _orElse_}
-use Rattle.model.specs.Limits.{topValue, valueCount, siteLimit}
-use Rattle.model.specs.Counters.{Counter, counterAt, unreported, lostBy}
+use Rattle.model.specs.Refusals.{accepted, siteFull}
+use Rattle.model.specs.Limits.{valueCount, siteLimit}
+use Rattle.model.specs.Counters.{Counter, unreported, lostBy}
 use Rattle.model.specs.Site.{Site, freshSite, addressRefusal, arrivalRefusal, oneMoreAt, placementIn, placeFor, countersWith, reportsItem, reportsCount, observed, upTo}
 use Rattle.model.specs.SiteMemory.{sum}
-use Rattle.model.specs.SoundNetwork.{SoundCounter, SoundSite}
+use Rattle.model.specs.SoundNetwork.{SoundSite}
 use Rattle.model.proofs.RefusalLaws.{both-accepted, passed}
 use Rattle.model.proofs.Counting.{placementFor-is}
 use Rattle.model.proofs.NetworkInvariant.{ArrivalKnown, known-of-no-refusal}
 use Rattle.model.proofs.DeliveryLoops.{polled, told}
-use Rattle.model.proofs.SoundCounters.{CountersSound, counter-wider, CountedSound, counted-sound, reported-sound, unreported-observed}
+use Rattle.model.proofs.ReportLaws.{value-counted}
+use Rattle.model.proofs.SoundCounters.{counter-wider, CountedSound, counted-sound, reported-sound, unreported-observed}
 
 -- ---- Lists of numbers
 
+-- A list of zeros sums to 0.
 pub sum-zeros : (n : ℕ) → sum (replicate n 0) ≡ 0
 sum-zeros zero = refl
 sum-zeros (suc n) = omega (arith, sum-zeros n)
 
+-- One more at a place of the list is one more in the sum.
 pub sum-oneMore : (numbers : List ℕ) (place : ℕ)
     → place < length numbers
     → sum (oneMoreAt numbers place) ≡ sum numbers + 1
@@ -43,23 +46,21 @@ sum-oneMore [] place inside = absurd (omega arith)
 sum-oneMore (x ∷ xs) zero inside = omega arith
 sum-oneMore (x ∷ xs) (suc place) inside = omega (arith, sum-oneMore xs place (omega arith))
 
+-- The counts up to a value are some of all counts.
 pub upTo-le-sum : (value : ℕ) (numbers : List ℕ) → upTo value numbers ≤ sum numbers
 upTo-le-sum zero [] = omega arith
 upTo-le-sum (suc value) [] = omega arith
 upTo-le-sum zero (x ∷ xs) = omega arith
 upTo-le-sum (suc value) (x ∷ xs) = omega (arith, upTo-le-sum value xs)
 
--- Values up to the top value have a place in a histogram.
-pub value-counted : (value : ℕ) → value ≤ topValue → value < valueCount
-unfolding valueCount
-value-counted value known = omega arith
-
 -- ---- Accepted arrivals
 
+-- Site, item and value are known, and the site has room for one more.
 pub record ArrivalTaken (settings : Settings) (site : Site) (arrival : Arrival) : Type 0 where
   pub known : ArrivalKnown settings arrival
   pub room : site .arrivals < siteLimit
 
+-- That is what an arrival is that no row refuses.
 pub taken-of-no-refusal : (settings : Settings) (site : Site) (arrival : Arrival)
     → arrivalRefusal settings site arrival ≡ accepted
     → ArrivalTaken settings site arrival
@@ -73,6 +74,7 @@ taken-of-no-refusal settings site arrival none =
 
 -- ---- Fresh, polled, told
 
+-- A fresh site is sound.
 pub sound-fresh : (settings : Settings) → SoundSite settings freshSite
 sound-fresh settings = record {
   few-counters = omega arith;
@@ -86,6 +88,7 @@ sound-fresh settings = record {
 }
 
 module _ {settings : Settings} {site : Site} (sound : SoundSite settings site) where
+  -- Kind 3: nothing is pending then.
   pub sound-polled : SoundSite settings (polled site)
   sound-polled = record {
     few-counters = sound .few-counters;
@@ -98,6 +101,7 @@ module _ {settings : Settings} {site : Site} (sound : SoundSite settings site) w
     threshold-within = sound .threshold-within;
   }
 
+  -- Kind 7: a threshold that is no smaller, and within the limit.
   pub sound-told : (t : ℕ)
       → site .threshold ≤ t
       → t ≤ siteLimit
@@ -114,6 +118,7 @@ module _ {settings : Settings} {site : Site} (sound : SoundSite settings site) w
     threshold-within = within;
   }
 
+  -- Kind 6 counts at most the site's arrivals.
   pub upTo-within : (value : ℕ) → upTo value (site .histogram) ≤ site .arrivals
   upTo-within value =
       omega (arith, upTo-le-sum value (site .histogram), sound .histogram-sum)
@@ -149,6 +154,7 @@ module _ {settings : Settings} {site : Site} {arrival : Arrival}
       value-counted (arrival .value) (taken .known .value-known) in
       omega (arith, sound .histogram-length)
 
+  -- An accepted arrival leaves the site sound.
   pub sound-observed : SoundSite settings (observed settings site arrival .site)
   sound-observed =
       let reported = reported-sound (sound .threshold-positive) counted

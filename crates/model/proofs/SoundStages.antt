@@ -1,42 +1,35 @@
--- From rest into a delivery and back: a sound network with an accepted arrival is at the first stage;
--- a stage with nothing left to do is a sound network; and at every stage the sites and the
--- coordinator are sound by themselves. PROOF.md section 7.
+-- From rest into a delivery and back: a sound network with an accepted arrival is at the first
+-- stage, and a stage with nothing left to do is a sound network. PROOF.md section 7.
 --
 --   together-of-sound, sound-of-together   a sound network as `Together`
 --   start-stage                            the stage that an arrival begins
 --   sound-at-rest                          the stage that a delivery ends with
---   stage-sites, stage-coordinator         each by itself
---   stage-total, stage-sum                 within the limit 10^11
 use mathlib.Core.Path.{_≡_, refl, sym, ap, _∙_, subst}
 use mathlib.Core.Bool.{Bool, true, false, false≢true}
-use mathlib.Core.List.{List, [], _∷_, _++_}
-use Prim.Native.Nat.{ℕ, zero, suc, _+_, _-_, _*_, _≤_, _<_}
+use mathlib.Core.List.{[], _∷_, _++_}
+use Prim.Native.Nat.{ℕ, zero, suc, _+_, _*_, _≤_, _<_}
 use native.Mathlib.Omega.{arith}
-use native.Mathlib.Decide.{ℕ-discrete}
 use lib.Dec.{eqb, ltb}
-use lib.ListN.{getD}
-use borrow.Author.Tests.{ltb-true, ltb-false, eq-eqb, ne-eqb}
-use Rattle.laws.proofs.Sums.{sumBelow}
+use borrow.Author.Tests.{ltb-false, ne-eqb}
 use Rattle.model.specs.declared.Settings.{Settings}
 use Rattle.model.specs.declared.Arrival.{Arrival}
-use Rattle.model.specs.declared.Message.{Message}
-use Rattle.model.specs.declared.Phase.{Phase}
-use Rattle.model.specs.declared.Phase.the-variants.{Idle, Collecting, Probing, Announcing}
+use Rattle.model.specs.declared.Phase.the-variants.{Idle, Announcing}
 use Rattle.model.specs.Choice.{if_then_else_}
-use Rattle.model.specs.Limits.{topValue, coordinatorLimit}
+use Rattle.model.specs.Limits.{topValue}
 use Rattle.model.specs.Site.{Site, observed, reportsItem, reportsCount, reportedValue}
 use Rattle.model.specs.Coordinator.{isAnnouncing}
 use Rattle.model.specs.Network.{Network, siteAt, withSite, deliveryFuel}
-use Rattle.model.specs.SoundNetwork.{SoundSite, SoundPhase, sumOfPhase, SoundCoordinator, Sound}
+use Rattle.model.specs.SoundNetwork.{SoundSite, Sound}
 use Rattle.model.proofs.SettingsLaws.{Settled}
 use Rattle.model.proofs.ClosedSites.{sumBelow-allPending, sumBelow-allArrivals}
 use Rattle.model.proofs.ArrivalParts.{firstMessages}
 use Rattle.model.proofs.SoundSites.{ArrivalTaken, sound-observed, pending-moves}
-use Rattle.model.proofs.Together.{Together, total-bounded, together-site}
-use Rattle.model.proofs.Stages.{Reports, Polls, Probes, Announces, Stage, reporting, polling, halving, announcing, itemWaiting, countWaiting}
+use Rattle.model.proofs.Together.{Together, together-site}
+use Rattle.model.proofs.Stages.{Reports, Announces, Stage, reporting, polling, halving, announcing, itemWaiting, countWaiting}
 
 -- ---- A network at rest
 
+-- At rest all sites are informed, and nothing is on its way.
 pub together-of-sound : {settings : Settings} {network : Network}
     → Sound settings network
     → Together settings network (settings .sites) 0
@@ -54,6 +47,7 @@ together-of-sound {settings} {network} sound = record {
   );
 }
 
+-- And the other way round, where the coordinator is idle with signals to come.
 pub sound-of-together : {settings : Settings} {network : Network}
     → Together settings network (settings .sites) 0
     → network .coordinator .phase ≡ Idle
@@ -73,6 +67,7 @@ sound-of-together {settings} {network} together idle few = record {
   );
 }
 
+-- An idle coordinator of a sound network has fewer than k signals.
 pub few-signals : {settings : Settings} {network : Network}
     → Sound settings network
     → network .coordinator .signals < settings .sites
@@ -121,7 +116,8 @@ module _ {settings : Settings} {network : Network} {arrival : Arrival}
       let moves : (if reportsCount site then 0 else site .pending + 1)
       + (if reportsCount site then t else 0) ≡ site .pending + 1 =
       subst (λ (amount : ℕ).
-      (if reportsCount site then 0 else site .pending + 1) + (if reportsCount site then amount else 0)
+      (if reportsCount site then 0 else site .pending + 1)
+      + (if reportsCount site then amount else 0)
       ≡ site .pending + 1)
       same (pending-moves (fit .capacity .at-least) taken site-sound (reportsCount site) refl) in
       together-site (together-of-sound sound) (arrival .site)
@@ -138,6 +134,7 @@ module _ {settings : Settings} {network : Network} {arrival : Arrival}
   steps-enough false true = omega arith
   steps-enough false false = omega arith
 
+  -- The arrival is observed, and its own messages wait.
   pub start-stage : Stage settings
       (withSite network (arrival .site) (observed settings site arrival .site))
       (firstMessages settings network arrival) (deliveryFuel settings)
@@ -207,6 +204,7 @@ rest-announces {settings} {network} {left} fit a silent =
         sound-of-together (rw all at (a .together)) (rw last at (a .phase-is))
         (omega (arith, fit .sites .at-least))
 
+-- Nothing waits and no kind 7 is to come: the network is sound again.
 pub sound-at-rest : {settings : Settings} {network : Network} {left : ℕ}
     → Settled settings
     → Stage settings network [] left
@@ -222,85 +220,3 @@ sound-at-rest fit (halving p) silent =
     let impossible : _≡_ {A = ℕ} 0 1 = cc in
     absurd (omega arith)
 sound-at-rest fit (announcing a) silent = rest-announces fit a silent
-
--- ---- Each by itself, at every stage
-
-pub stage-sites : {settings : Settings} {network : Network} {waiting : List Message} {left : ℕ}
-    → Stage settings network waiting left
-    → (j : ℕ) → j < settings .sites
-    → SoundSite settings (siteAt network j)
-stage-sites (reporting r) = r .together .sites-sound
-stage-sites (polling p) = p .together .sites-sound
-stage-sites (halving p) = p .together .sites-sound
-stage-sites (announcing a) = a .together .sites-sound
-
-announces-phase : {settings : Settings} {network : Network} {waiting : List Message} {left : ℕ}
-    → Settled settings
-    → Announces settings network waiting left
-    → SoundPhase settings (network .coordinator .signals) (network .coordinator .phase)
-announces-phase {settings} {network} fit a = by-phase (ltb (a .j) (settings .sites)) refl
-  where
-    by-phase : (more : Bool) → ltb (a .j) (settings .sites) ≡ more
-        → SoundPhase settings (network .coordinator .signals) (network .coordinator .phase)
-    by-phase true more =
-        let announces : network .coordinator .phase ≡ Announcing (a .j) =
-        rw more at (a .phase-is) in
-        let signals : network .coordinator .signals ≡ settings .sites =
-        rw more at (a .signals-are) in
-        rw announces (record {
-          all-signals = signals;
-          site-known = ltb-true (a .j) (settings .sites) more;
-        })
-    by-phase false last =
-        let idle : network .coordinator .phase ≡ Idle = rw last at (a .phase-is) in
-        let signals : network .coordinator .signals ≡ 0 = rw last at (a .signals-are) in
-        rw idle (omega (arith, fit .sites .at-least))
-
-pub stage-coordinator : {settings : Settings} {network : Network} {waiting : List Message}
-    {left : ℕ}
-    → Settled settings
-    → Stage settings network waiting left
-    → SoundCoordinator settings (network .coordinator)
-stage-coordinator fit (reporting r) =
-    record { numbers = r .together .numbers; phase-sound = rw (r .idle) (r .few-signals) }
-stage-coordinator fit (polling p) =
-    record { numbers = p .together .numbers; phase-sound = rw (p .phase-is) (p .closing) }
-stage-coordinator fit (halving p) =
-    record { numbers = p .together .numbers; phase-sound = rw (p .phase-is) (p .halving) }
-stage-coordinator fit (announcing a) =
-    record { numbers = a .together .numbers; phase-sound = announces-phase fit a }
-
--- ---- The limit, at every stage
-
-total-small : {settings : Settings} {network : Network} {informed flight : ℕ}
-    → Settled settings
-    → Together settings network informed flight
-    → network .coordinator .total ≤ coordinatorLimit
-total-small fit together = omega (arith, total-bounded together, fit .sites .at-most)
-
--- The total is at most all arrivals, 32 × 10^9.
-pub stage-total : {settings : Settings} {network : Network} {waiting : List Message} {left : ℕ}
-    → Settled settings
-    → Stage settings network waiting left
-    → network .coordinator .total ≤ coordinatorLimit
-stage-total fit (reporting r) = total-small fit (r .together)
-stage-total fit (polling p) = total-small fit (p .together)
-stage-total fit (halving p) = total-small fit (p .together)
-stage-total fit (announcing a) = total-small fit (a .together)
-
--- The sum of a halving has at most 10^9 from each site that answered.
-pub stage-sum : {settings : Settings} {network : Network} {waiting : List Message} {left : ℕ}
-    → Settled settings
-    → Stage settings network waiting left
-    → sumOfPhase (network .coordinator .phase) ≤ coordinatorLimit
-stage-sum fit (reporting r) = rw (r .idle) (omega arith)
-stage-sum fit (polling p) = rw (p .phase-is) (omega arith)
-stage-sum fit (halving p) =
-    rw (p .phase-is)
-    (omega (arith, p .sum-within, p .halving .closing .site-known, fit .sites .at-most))
-stage-sum {settings} {network} fit (announcing a) =
-    rw (a .phase-is) (by-phase (ltb (a .j) (settings .sites)))
-  where
-    by-phase : (more : Bool) → sumOfPhase (if more then Announcing (a .j) else Idle) ≤ coordinatorLimit
-    by-phase true = omega arith
-    by-phase false = omega arith

@@ -1,6 +1,6 @@
--- Where a delivery may stand, step by step: the arrival's own messages, a poll or its answer, a probe
--- or its answer, the announcements. Each stage says which messages wait, that they carry what is
--- due, and how many steps are left at most. PROOF.md section 4 (the queue) and section 7.
+-- Where a delivery may stand, step by step: the arrival's own messages, a poll or its answer, a
+-- probe or its answer, the announcements. Each stage says which messages wait, that they carry
+-- what is due, and how many steps are left at most. PROOF.md section 4 (the queue) and section 7.
 --
 --   Reports      kinds 1 and 2 still wait, or nothing does
 --   Polls        kind 3 or its answer 4
@@ -14,7 +14,7 @@
 -- Letters: k the sites, j the site that the phase names, i the first site whose kind 7 waits, w how
 -- many wait, h halvings.
 use mathlib.Core.Path.{_≡_}
-use mathlib.Core.Bool.{Bool, true, false}
+use mathlib.Core.Bool.{Bool}
 use mathlib.Core.List.{List, [], _∷_, _++_}
 use Prim.Native.Nat.{ℕ, _+_, _-_, _*_, _^_, _≤_, _<_}
 use lib.Dec.{ltb}
@@ -35,12 +35,15 @@ use Rattle.model.proofs.Together.{Together}
 
 -- ---- The arrival's own messages
 
+-- Kind 1, if it is still due.
 abbrev pub itemWaiting : Bool → ℕ → ℕ → ℕ → List Message
 itemWaiting due site item amount = if due then itemReport site item amount ∷ [] else []
 
+-- Kind 2, if it is still due.
 abbrev pub countWaiting : Bool → ℕ → ℕ → ℕ → List Message
 countWaiting due site amount value = if due then countReport site amount value ∷ [] else []
 
+-- The arrival's own messages: those that are due still wait.
 pub record Reports (settings : Settings) (network : Network) (waiting : List Message) (left : ℕ)
     : Type 0 where
   pub itemDue : Bool
@@ -64,6 +67,7 @@ pub record Reports (settings : Settings) (network : Network) (waiting : List Mes
 
 -- ---- Polls and probes
 
+-- A poll of site j, or its answer, which is on its way.
 pub record Polls (settings : Settings) (network : Network) (waiting : List Message) (left : ℕ)
     : Type 0 where
   pub answered : Bool
@@ -76,6 +80,7 @@ pub record Polls (settings : Settings) (network : Network) (waiting : List Messa
   pub together : Together settings network (settings .sites) (if answered then amount else 0)
   pub steps-left : 24 * settings .sites ≤ left + (2 * j + (if answered then 1 else 0))
 
+-- A probe of site j, or its answer; no site has the new threshold yet.
 pub record Probes (settings : Settings) (network : Network) (waiting : List Message) (left : ℕ)
     : Type 0 where
   pub answered : Bool
@@ -102,9 +107,11 @@ pub record Probes (settings : Settings) (network : Network) (waiting : List Mess
 abbrev pub announcingAt : Settings → ℕ → Phase
 announcingAt settings j = if ltb j (settings .sites) then Announcing j else Idle
 
+-- Signals are k until the last announcement is handed out.
 abbrev pub signalsAt : Settings → ℕ → ℕ
 signalsAt settings j = if ltb j (settings .sites) then settings .sites else 0
 
+-- The announcements for sites i to j - 1 wait; the sites below i have the new threshold.
 pub record Announces (settings : Settings) (network : Network) (waiting : List Message) (left : ℕ)
     : Type 0 where
   pub i : ℕ
@@ -119,6 +126,7 @@ pub record Announces (settings : Settings) (network : Network) (waiting : List M
   pub together : Together settings network i 0
   pub steps-left : w + 2 * settings .sites ≤ left + 2 * j
 
+-- A delivery is always at one of these.
 pub data Stage (settings : Settings) (network : Network) (waiting : List Message) (left : ℕ)
     : Type 0 where
   reporting : Reports settings network waiting left → Stage settings network waiting left

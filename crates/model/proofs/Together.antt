@@ -4,15 +4,13 @@
 --
 --   Together settings network informed flight   the first so many sites have the coordinator's
 --                                               threshold, and so much is on its way
---   total-bounded, threshold-bounded            the total is at most k * 10^9, three thresholds 10^9
+--   total-bounded, threshold-bounded            the total ≤ k × 10^9, three thresholds ≤ 10^9
 --   together-site, together-coordinator         one site or the coordinator is changed
 -- Letters: k the sites, j one of them.
-use mathlib.Core.Path.{_≡_, refl, sym, ap, _∙_}
-use mathlib.Core.List.{List, [], _∷_}
-use Prim.Native.Nat.{ℕ, zero, suc, _+_, _*_, _≤_, _<_}
+use mathlib.Core.Path.{_≡_, _∙_}
+use Prim.Native.Nat.{ℕ, _+_, _*_, _≤_, _<_}
 use native.Mathlib.Omega.{arith}
-use native.Mathlib.Decide.{ℕ-discrete}
-use lib.ListN.{length, getD, set, length-set}
+use lib.ListN.{length, length-set}
 use Rattle.laws.proofs.Lists.{at-set}
 use Rattle.laws.proofs.Sums.{sumBelow, sumBelow-le, sumBelow-const, sumBelow-set}
 use Rattle.model.specs.declared.Settings.{Settings}
@@ -27,6 +25,7 @@ use Rattle.model.proofs.Threshold.{threshold-limit}
 use Rattle.model.proofs.DeliveryMessages.{pendingAt}
 use Rattle.model.proofs.SitesInvariant.{arrivalsAt}
 
+-- What holds of all sites and the coordinator, with so many sites informed of its threshold.
 pub record Together (settings : Settings) (network : Network) (informed flight : ℕ) : Type 0 where
   pub all-sites : length (network .sites) ≡ settings .sites
   pub sites-sound : (j : ℕ) → j < settings .sites → SoundSite settings (siteAt network j)
@@ -44,6 +43,7 @@ module _ {settings : Settings} {network : Network} {informed flight : ℕ}
     (together : Together settings network informed flight) where
   -- ---- Bounds
 
+  -- All arrivals are at most k × 10^9.
   pub arrivals-bounded : sumBelow (arrivalsAt (network .sites)) (settings .sites)
       ≤ settings .sites * siteLimit
   arrivals-bounded =
@@ -58,7 +58,8 @@ module _ {settings : Settings} {network : Network} {informed flight : ℕ}
   pub total-bounded : network .coordinator .total + flight ≤ settings .sites * siteLimit
   total-bounded = omega (arith, arrivals-bounded, together .all-counted)
 
-  -- A threshold that a base up to the total gives is at most a third of a site's limit: 333,333,333.
+  -- A threshold that a base up to the total gives is at most a third of a site's limit:
+  -- 333,333,333.
   pub threshold-of-total : Settled settings
       → (base : ℕ) → base ≤ network .coordinator .total + flight
       → 3 * thresholdOf settings base ≤ siteLimit
@@ -66,6 +67,7 @@ module _ {settings : Settings} {network : Network} {informed flight : ℕ}
       threshold-limit settings (fit .sites .at-least) siteLimit base (fit .epsilon .at-most)
       (omega arith) (omega (arith, total-bounded))
 
+  -- The coordinator's own threshold is such a one.
   pub threshold-bounded : Settled settings
       → 3 * network .coordinator .threshold ≤ siteLimit
   threshold-bounded fit =
@@ -123,6 +125,7 @@ module _ {settings : Settings} {network : Network} {informed flight : ℕ}
 
   -- ---- The coordinator changed
 
+  -- Its total gains what was on its way, and its threshold does not fall.
   pub together-coordinator : (c : Coordinator) (informed′ flight′ : ℕ)
       → SoundNumbers settings c
       → network .coordinator .threshold ≤ c .threshold

@@ -160,13 +160,14 @@ takesCountReport settings c m =
 abbrev pub middle : ℕ → ℕ → ℕ
 middle low high = (low + high) / 2
 
--- "base becomes the total; the new threshold .. If that is 2 or more, the desk halves the interval 0
--- to 1023"; otherwise it announces.
+-- "base becomes the total; the new threshold .. If that is 2 or more, the desk halves the interval
+-- 0 to 1023"; otherwise it announces.
 abbrev pub closed : Settings → Coordinator → ℕ → CoordinatorStep
 closed settings c total =
     let threshold = thresholdOf settings total in
     if leb 2 threshold
-    then step (withBase c total threshold (Probing 0 0 topValue 0)) (probe 0 (middle 0 topValue) ∷ [])
+    then step (withBase c total threshold (Probing 0 0 topValue 0))
+    (probe 0 (middle 0 topValue) ∷ [])
     else step (withBase c total threshold (Announcing 0)) []
 
 -- "the total gains the answers"; the next deck is polled, and after the last the round is closed.
@@ -245,8 +246,8 @@ announced settings c = announcedIn settings c (c .phase)
 
 -- ---- Refusals of a message, and of an announcement that is wanted
 
--- "kinds 1 and 2 are due while it is idle, kind 4 while it collects and kind 6 while it probes, each
--- of these two only from the deck that the phase names. While announcing .. no kind is due."
+-- "kinds 1 and 2 are due while it is idle, kind 4 while it collects and kind 6 while it probes,
+-- each of these two only from the deck that the phase names. While announcing .. no kind is due."
 abbrev pub dueIn : Phase → Message → Bool
 dueIn Idle m = isItemReport m || isCountReport m
 dueIn (Collecting site) m = isPollAnswer m && eqb (m .site) site

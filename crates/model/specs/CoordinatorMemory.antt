@@ -75,8 +75,8 @@ phaseConsistent settings signals (Announcing site) =
 
 -- "a desk threshold other than the one its base gives; base above total; the desk's class above
 -- 1023; the desk's class counts not summing to its total while its threshold is 1; .. a number of
--- the desk's memory or record .. above 100,000,000,000". The limit is tested where it says something:
--- base is at most the total, and the threshold less still.
+-- the desk's memory or record .. above 100,000,000,000". The limit is tested where it says
+-- something: base is at most the total, and the threshold less still.
 abbrev pub coordinatorConsistent : Settings → Coordinator → Bool
 coordinatorConsistent settings c =
     phaseConsistent settings (c .signals) (c .phase)

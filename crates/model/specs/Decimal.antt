@@ -1,6 +1,7 @@
--- Decimal numbers as bytes, read and written: "1 to 7 digits each, no leading zero except 0 itself".
+-- Decimal numbers as bytes, read and written: "1 to 7 digits each, no leading zero except 0
+-- itself".
 --
---   readNumber bytes    the number at the front and the bytes after it; `noNumber` where none stands
+--   readNumber bytes    the number at the front and the bytes after it; `noNumber` if none stands
 --   decimal n           the digits of n, most significant first; never empty
 use mathlib.Core.Bool.{Bool, true, false, _&&_, not}
 use mathlib.Core.List.{List, [], _∷_, _++_}

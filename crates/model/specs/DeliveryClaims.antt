@@ -6,11 +6,11 @@
 --   deliveryStep settings delivery          the next step; a delivery at rest stays as it is
 --   deliverySteps n settings delivery       n steps of it
 --   deliveryOf settings network arrival     the delivery that an arrival sets off, at its start
+--   deliveredWith fuel settings network arrival   `afterArrival` with other fuel
 --   messageRefusal settings network m       why it is refused by whom it is for, or accepted
 --   Resting delivery                        nothing waits, and the coordinator is idle
---   DeliveryClaims                          few messages, and a complete delivery, after each arrival
+--   DeliveryClaims                          few messages, and a complete delivery
 use mathlib.Core.Path.{_≡_}
-use mathlib.Core.Bool.{true, false}
 use mathlib.Core.List.{List, [], _∷_, _++_}
 use Prim.Native.Nat.{ℕ, zero, suc, _+_, _≤_}
 use lib.ListN.{length}
@@ -27,11 +27,13 @@ use Rattle.model.specs.Network.{Network, siteAt, withSite, Delivered, ha
 
 -- ---- A delivery that goes on
 
+-- The network now, the messages that wait, the oldest first, and all that went out so far.
 pub record Delivery : Type 0 where
   pub network : Network
   pub waiting : List Message
   pub log : List Message
 
+-- A delivery, in this order.
 abbrev pub delivery : Network → List Message → List Message → Delivery
 delivery network waiting log = record { network = network; waiting = waiting; log = log }
 
@@ -40,6 +42,7 @@ abbrev pub joining : Delivered → List Message → List Message → Delivery
 joining after waiting log =
     delivery (after .network) (waiting ++ after .messages) (log ++ after .messages)
 
+-- The head of the queue goes first; a kind 7 is asked for only while nothing waits.
 abbrev pub stepWith : Settings → Network → List Message → List Message → Delivery
 stepWith settings network [] log =
     if isAnnouncing (network .coordinator .phase)
@@ -47,9 +50,11 @@ stepWith settings network [] log =
     else delivery network [] log
 stepWith settings network (m ∷ waiting) log = joining (handOver settings network m) waiting log
 
+-- One step of the model's delivery.
 abbrev pub deliveryStep : Settings → Delivery → Delivery
 deliveryStep settings d = stepWith settings (d .network) (d .waiting) (d .log)
 
+-- So many steps of it.
 abbrev pub deliverySteps : ℕ → Settings → Delivery → Delivery
 deliverySteps zero settings d = d
 deliverySteps (suc more) settings d = deliverySteps more settings (deliveryStep settings d)
@@ -58,6 +63,7 @@ deliverySteps (suc more) settings d = deliverySteps more settings (deliveryStep 
 abbrev pub outcome : Delivery → Delivered
 outcome d = record { network = d .network; messages = d .log }
 
+-- The arrival is observed, and its own messages wait.
 abbrev pub deliveryOf : Settings → Network → Arrival → Delivery
 deliveryOf settings network arrival =
     let after = observed settings (siteAt network (arrival .site)) arrival in
@@ -72,6 +78,13 @@ messageRefusal settings network m =
 
 -- ---- The claims
 
+-- The model's delivery after an arrival, with other fuel.
+abbrev pub deliveredWith : ℕ → Settings → Network → Arrival → Delivered
+deliveredWith fuel settings network arrival =
+    let start = deliveryOf settings network arrival in
+    delivered fuel settings (start .network) (start .waiting) (start .log)
+
+-- Every message has been handed over, and no kind 7 is to come.
 pub record Resting (d : Delivery) : Type 0 where
   pub nothing-waits : d .waiting ≡ []
   pub idle : d .network .coordinator .phase ≡ Idle
@@ -83,7 +96,7 @@ pub record DeliveryClaims : Type 0 where
   pub few-messages : (settings : Settings) (network : Network) (arrival : Arrival)
       → network .coordinator .phase ≡ Idle
       → length (afterArrival settings network arrival .messages) ≤ mostMessages (settings .sites)
-  -- The model's delivery is so many steps: it drops nothing but what it names.
+  -- The model's delivery takes so many of these steps; `Resting` says what it leaves waiting.
   pub is-steps : (fuel : ℕ) (settings : Settings) (network : Network) (waiting log : List Message)
       → delivered fuel settings network waiting log
       ≡ outcome (deliverySteps fuel settings (delivery network waiting log))
@@ -95,6 +108,5 @@ pub record DeliveryClaims : Type 0 where
   -- More fuel changes nothing.
   pub more-fuel : (settings : Settings) (network : Network) (arrival : Arrival) (more : ℕ)
       → network .coordinator .phase ≡ Idle
-      → outcome
-      (deliverySteps (deliveryFuel settings + more) settings (deliveryOf settings network arrival))
+      → deliveredWith (deliveryFuel settings + more) settings network arrival
       ≡ afterArrival settings network arrival

@@ -1,4 +1,5 @@
--- Document 01 as definitions over numbers and lists, one file for each of its notions, in its order.
+-- Document 01 as definitions over numbers and lists, one file for each of its notions, in its
+-- order.
 pub mod Choice
 pub mod Refusals
 pub mod Limits

@@ -1,12 +1,13 @@
--- Document 01's limits and constants, each named once. A change request that moves one moves it here.
+-- Document 01's limits and constants, each named once. A change request that moves one moves it
+-- here.
 use Prim.Native.Nat.{ℕ, _+_, _*_}
 
 -- "Decks k 1 to 32": the records that a `Sites` value holds.
 abbrev pub mostSites : ℕ
 mostSites = 32
 
--- "Volume classes run from 0 to 1023": the greatest value. The histogram's length stays shut, so that
--- no proof unfolds a list of 1024 places; `valueCount` opens it where a number is wanted.
+-- "Volume classes run from 0 to 1023": the greatest value. The histogram's length stays shut, so
+-- that no proof unfolds a list of 1024 places; `valueCount` opens it where a number is wanted.
 abbrev pub topValue : ℕ
 topValue = 1023
 

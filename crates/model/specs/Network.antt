@@ -1,4 +1,5 @@
--- A network: document 01's bench. Its sites and its coordinator, and full delivery after an arrival.
+-- A network: document 01's bench. Its sites and its coordinator, and full delivery after an
+-- arrival.
 --
 --   delivered fuel settings network waiting log   FIFO hand-over until nothing waits and the
 --                                                 coordinator does not announce

@@ -23,16 +23,18 @@ use Rattle.model.specs.SoundNetwork.{estimateOf, countOfValue, Sound}
 
 -- ---- The numbers
 
+-- The unreported arrivals of the counters of one site.
 abbrev pub unreportedIn : List Counter → ℕ
 unreportedIn [] = 0
 unreportedIn (counter ∷ counters) = unreported counter + unreportedIn counters
 
+-- And of all sites.
 abbrev pub allUnreported : List Site → ℕ
 allUnreported [] = 0
 allUnreported (site ∷ sites) = unreportedIn (site .counters) + allUnreported sites
 
--- An estimate grows only by what was unreported, and an arrival adds one to that. The arrivals taken
--- in between are the difference of all arrivals; no difference is written.
+-- An estimate grows only by what was unreported, and an arrival adds one to that. The arrivals
+-- taken in between are the difference of all arrivals; no difference is written.
 pub record Grown (before after : Network) : Type 0 where
   pub estimate-grows : (item : ℕ)
       → estimateOf after item + allUnreported (after .sites) + allArrivals (before .sites)
@@ -68,6 +70,7 @@ pub record BatchNumbers (settings : Settings) (network : Network) (batch : Batch
       → (value : ℕ) → countOfValue (batch .network) value ≤ valueCountLimit
   pub total-small : batch .network .coordinator .total ≤ coordinatorLimit
 
+-- For settings that pass their test and every sound network.
 pub record NumberClaims : Type 0 where
   -- after one accepted arrival with full delivery
   pub arrival-grows : (settings : Settings) (network : Network) (arrival : Arrival)

@@ -97,8 +97,8 @@ countersConsistent settings site [] = true
 countersConsistent settings site (counter ∷ counters) =
     counterConsistent settings site counter && countersConsistent settings site counters
 
--- "slots in use above c; .. a deck above its limit; class counts not summing to draws; .. pending not
--- below the threshold; a deck's threshold 0 or above 1,000,000,000"
+-- "slots in use above c; .. a deck above its limit; class counts not summing to draws; .. pending
+-- not below the threshold; a deck's threshold 0 or above 1,000,000,000"
 abbrev pub siteConsistent : Settings → SiteRecord → List ℕ → Bool
 siteConsistent settings numbers memory =
     let site = siteIn settings numbers memory in

@@ -1,6 +1,6 @@
--- What is claimed of every sound network, arisen or not: it stays sound, and a delivery may be done
--- by any caller: each message is due and carries the right amount, and asking for kind 7 early comes
--- to the same. (Document 01, "Full delivery", "Refused" rows 5, 6, 7, 9, 10 and 11.)
+-- What is claimed of every sound network, arisen or not: it stays sound, and a delivery may be
+-- done by any caller: each message is due and carries the right amount, and asking for kind 7
+-- early comes to the same. (Document 01, "Full delivery", "Refused" rows 5, 6, 7, 9, 10 and 11.)
 --
 --   Reached settings start n d      a delivery after n steps: hand-overs of the head of the queue,
 --                                   and kinds 7 asked for at any time
@@ -9,7 +9,7 @@
 use mathlib.Core.Path.{_≡_}
 use mathlib.Core.Bool.{true, false}
 use mathlib.Core.List.{List, [], _∷_}
-use Prim.Native.Nat.{ℕ, zero, suc, _≤_, _<_}
+use Prim.Native.Nat.{ℕ, suc, _≤_, _<_}
 use Rattle.model.specs.declared.Settings.{Settings}
 use Rattle.model.specs.declared.Arrival.{Arrival}
 use Rattle.model.specs.declared.Message.{Message}
@@ -24,6 +24,7 @@ use Rattle.model.specs.DeliveryClaims.{Delivery, delivery, joining, deli
 
 -- ---- Deliveries that any caller may do
 
+-- The deliveries that come of any order of steps that a caller may take.
 pub data Reached (settings : Settings) (start : Delivery) : ℕ → Delivery → Type 0 where
   begun : Reached settings start 0 start
   -- the head of the queue is handed to whom it is for; the answer joins the queue
@@ -38,6 +39,7 @@ pub data Reached (settings : Settings) (start : Delivery) : ℕ → Delivery →
 
 -- ---- What holds of them
 
+-- Of a delivery d, n steps after an arrival at a sound network.
 pub record InMidDelivery (settings : Settings) (network : Network) (arrival : Arrival) (n : ℕ)
     (d : Delivery) : Type 0 where
   -- the head of the queue is accepted by whom it is for: never 5, 6, 7, 9 or 10
@@ -52,7 +54,8 @@ pub record InMidDelivery (settings : Settings) (network : Network) (arrival : Ar
   pub total-within : d .network .coordinator .total ≤ coordinatorLimit
   pub sum-within : sumOfPhase (d .network .coordinator .phase) ≤ coordinatorLimit
   pub estimates-below : (item : ℕ)
-      → estimateOf (d .network) item ≤ estimateOf (afterArrival settings network arrival .network) item
+      → estimateOf (d .network) item
+      ≤ estimateOf (afterArrival settings network arrival .network) item
   pub values-below : (value : ℕ)
       → countOfValue (d .network) value
       ≤ countOfValue (afterArrival settings network arrival .network) value
@@ -66,6 +69,7 @@ pub record InMidDelivery (settings : Settings) (network : Network) (arrival : Ar
       → isAnnouncing (d .network .coordinator .phase) ≡ false
       → outcome d ≡ afterArrival settings network arrival
 
+-- For settings that pass their test and every sound network.
 pub record SoundClaims : Type 0 where
   -- "Started fresh"
   pub fresh-sound : (settings : Settings)

@@ -1,5 +1,5 @@
--- A sound network: what document 01's list "Inconsistent" denies, as facts of the model's values. It
--- is the meaning of refusal 11 but for the limits 10^11 and 10^14, which only memory that never
+-- A sound network: what document 01's list "Inconsistent" denies, as facts of the model's values.
+-- It is the meaning of refusal 11 but for the limits 10^11 and 10^14, which only memory that never
 -- arose can pass (a number may pass them within a call).
 --
 --   SoundCounter universe arrivals threshold counter   a counter in use
@@ -35,8 +35,8 @@ pub record SoundCounter (universe arrivals threshold : ℕ) (counter : Counter) 
   pub count-within : counter .count ≤ arrivals
   pub unreported-below : unreported counter < threshold
 
--- "slots in use above c; .. a deck above its limit; class counts not summing to draws; .. pending not
--- below the threshold; a deck's threshold 0 or above 1,000,000,000"
+-- "slots in use above c; .. a deck above its limit; class counts not summing to draws; .. pending
+-- not below the threshold; a deck's threshold 0 or above 1,000,000,000"
 pub record SoundSite (settings : Settings) (site : Site) : Type 0 where
   pub few-counters : length (site .counters) ≤ settings .capacity
   pub counters-sound : (place : ℕ) → place < length (site .counters)
@@ -71,10 +71,12 @@ pub record Interval (low high : ℕ) : Type 0 where
   pub low-below : low < high
   pub high-within : high ≤ topValue
 
+-- A close that probes an interval.
 pub record HalvingAt (settings : Settings) (signals site low high : ℕ) : Type 0 where
   pub closing : ClosingAt settings signals site
   pub interval : Interval low high
 
+-- What each phase asks of the signals, its site and its interval.
 abbrev pub SoundPhase : Settings → ℕ → Phase → Type 0
 SoundPhase settings signals Idle = signals < settings .sites
 SoundPhase settings signals (Collecting site) = ClosingAt settings signals site
@@ -88,6 +90,7 @@ sumOfPhase (Collecting site) = 0
 sumOfPhase (Probing site low high sum) = sum
 sumOfPhase (Announcing site) = 0
 
+-- The coordinator by itself: its numbers and its phase.
 pub record SoundCoordinator (settings : Settings) (c : Coordinator) : Type 0 where
   pub numbers : SoundNumbers settings c
   pub phase-sound : SoundPhase settings (c .signals) (c .phase)
@@ -96,6 +99,7 @@ pub record SoundCoordinator (settings : Settings) (c : Coordinator) : Type 0 whe
 abbrev pub estimateOf : Network → ℕ → ℕ
 estimateOf network item = getD (network .coordinator .estimates) item 0
 
+-- The coordinator's count of a value; 0 past the end.
 abbrev pub countOfValue : Network → ℕ → ℕ
 countOfValue network value = getD (network .coordinator .histogram) value 0
 

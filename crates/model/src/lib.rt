@@ -1,8 +1,8 @@
-// The record types that the calls take and hand back. The model's definitions (specs/) speak of these
-// very types: to the logic a machine number is a natural number and a declared array a list, so no
-// translation stands between a contract and the model. This crate has no function. The numbers of
-// refusals and limits stand here once for all code, as specs/Refusals.antt and specs/Limits.antt have
-// them once for all definitions.
+// The record types that the calls take and hand back. The model's definitions (specs/) speak of
+// these very types: to the logic a machine number is a natural number and a declared array a list,
+// so no translation stands between a contract and the model. This crate has no function. The
+// numbers of refusals and limits stand here once for all code, as specs/Refusals.antt and
+// specs/Limits.antt have them once for all definitions.
 
 // Why a call is refused: document 01's table "Refused".
 pub const ACCEPTED: u32 = 0;
@@ -35,8 +35,8 @@ pub const MALFORMED_LINE: u32 = 13;
 
 pub const LOG_TOO_SHORT: u32 = 14;
 
-// Document 01's limits: the greatest value and how many values there are, the most sites, the draws a
-// site takes, the numbers the coordinator holds, and the messages a network counts.
+// Document 01's limits: the greatest value and how many values there are, the most sites, the draws
+// a site takes, the numbers the coordinator holds, and the messages a network counts.
 pub const TOP_VALUE: u32 = 1023;
 
 pub const VALUE_COUNT: usize = 1024;
@@ -89,8 +89,8 @@ pub struct Sites {
     pub messages: u64,
 }
 
-// What the coordinator is doing: document 01's phase. Collecting from a site; probing, with the site
-// that is asked, the interval's low and high end and the sum so far; announcing to a site.
+// What the coordinator is doing: document 01's phase. Collecting from a site; probing, with the
+// site that is asked, the interval's low and high end and the sum so far; announcing to a site.
 pub enum Phase {
     Idle,
     Collecting(u32),

@@ -41,59 +41,62 @@ module _ (bytes : List ℕ) (at last : ℕ) (first : NumberRead)
   pub three-missing-first : first .found ≡ false
       → ThreeSays bytes (readFieldsTo last 3 (drop at bytes)) noThree
   three-missing-first missing =
-      three-none bytes (fields-more-none last (drop at bytes) 1 (number-missing reads-first missing))
+      three-none bytes
+      (fields-more-none last (drop at bytes) 1 (number-missing reads-first missing))
 
   module _ (found-first : first .found ≡ true) (second : NumberRead)
-      (reads-second : NumberSays bytes (readField semicolon (drop (first .next) bytes)) second) where
-    -- The first field read, two to come.
-    after-first : readFieldsTo last 3 (drop at bytes)
-        ≡ withField (first .value) (readFieldsTo last 2 (drop (first .next) bytes))
-    after-first = fields-more last (drop at bytes) 1 _ _ (number-found reads-first found-first)
+      (reads-second : NumberSays bytes (readField semicolon (drop (first .next) bytes)) second)
+    where
+      -- The first field read, two to come.
+      after-first : readFieldsTo last 3 (drop at bytes)
+          ≡ withField (first .value) (readFieldsTo last 2 (drop (first .next) bytes))
+      after-first = fields-more last (drop at bytes) 1 _ _ (number-found reads-first found-first)
 
-    pub three-missing-second : second .found ≡ false
-        → ThreeSays bytes (readFieldsTo last 3 (drop at bytes)) noThree
-    three-missing-second missing =
-        three-none bytes
-        (after-first
-        ∙ ap (withField (first .value))
-        (fields-more-none last (drop (first .next) bytes) 0 (number-missing reads-second missing)))
-
-    module _ (found-second : second .found ≡ true) (third : NumberRead)
-        (reads-third : NumberSays bytes (readField last (drop (second .next) bytes)) third) where
-      -- Two fields read, one to come.
-      after-second : readFieldsTo last 3 (drop at bytes)
-          ≡ withField (first .value)
-          (withField (second .value) (readFieldsTo last 1 (drop (second .next) bytes)))
-      after-second =
-          after-first
-          ∙ ap (withField (first .value))
-          (fields-more last (drop (first .next) bytes) 0 _ _ (number-found reads-second found-second))
-
-      pub three-missing-third : third .found ≡ false
+      pub three-missing-second : second .found ≡ false
           → ThreeSays bytes (readFieldsTo last 3 (drop at bytes)) noThree
-      three-missing-third missing =
+      three-missing-second missing =
           three-none bytes
-          (after-second
-          ∙ ap (λ (others : Fields). withField (first .value) (withField (second .value) others))
-          (fields-last-none last (drop (second .next) bytes) (number-missing reads-third missing)))
+          (after-first
+          ∙ ap (withField (first .value))
+          (fields-more-none last (drop (first .next) bytes) 0 (number-missing reads-second missing)))
 
-      pub three-found : third .found ≡ true
-          → ThreeSays bytes (readFieldsTo last 3 (drop at bytes))
-          (record {
-            found = true;
-            first = first .value;
-            second = second .value;
-            third = third .value;
-            next = third .next;
-          })
-      three-found found = record {
-        is = sym
+      module _ (found-second : second .found ≡ true) (third : NumberRead)
+          (reads-third : NumberSays bytes (readField last (drop (second .next) bytes)) third) where
+        -- Two fields read, one to come.
+        after-second : readFieldsTo last 3 (drop at bytes)
+            ≡ withField (first .value)
+            (withField (second .value) (readFieldsTo last 1 (drop (second .next) bytes)))
+        after-second =
+            after-first
+            ∙ ap (withField (first .value))
+            (fields-more last (drop (first .next) bytes) 0 _ _
+            (number-found reads-second found-second))
+
+        pub three-missing-third : third .found ≡ false
+            → ThreeSays bytes (readFieldsTo last 3 (drop at bytes)) noThree
+        three-missing-third missing =
+            three-none bytes
             (after-second
             ∙ ap (λ (others : Fields). withField (first .value) (withField (second .value) others))
-            (fields-last last (drop (second .next) bytes) _ _ (number-found reads-third found)));
-        within = reads-third .within;
-        zeros = λ impossible. absurd (true≢false impossible);
-      }
+            (fields-last-none last (drop (second .next) bytes) (number-missing reads-third missing)))
+
+        pub three-found : third .found ≡ true
+            → ThreeSays bytes (readFieldsTo last 3 (drop at bytes))
+            (record {
+              found = true;
+              first = first .value;
+              second = second .value;
+              third = third .value;
+              next = third .next;
+            })
+        three-found found = record {
+          is = sym
+              (after-second
+              ∙ ap (λ (others : Fields). withField (first .value) (withField (second .value) others))
+              (fields-last last (drop (second .next) bytes) _ _ (number-found reads-third found)));
+          within = reads-third .within;
+          zeros = λ impossible. absurd (true≢false impossible);
+        }
 
 -- ---- The line test
 

@@ -49,7 +49,8 @@ written-snoc place byte written bytes inside =
     let longer : suc next ≡ place + length (written ++ (byte ∷ []))
     = omega (arith, length-append written (byte ∷ [])) in
     ap (λ (end : List ℕ). set (front ++ end) next byte) (drop-cons bytes next 0 inside)
-    ∙ set-at front (getD bytes next 0) rest byte next (length-front place written bytes (omega arith))
+    ∙ set-at front (getD bytes next 0) rest byte next
+    (length-front place written bytes (omega arith))
     ∙ sym (append-snoc front byte rest)
     ∙ ap (λ (end : List ℕ). end ++ rest) (append-assoc (take place bytes) written (byte ∷ []))
     ∙ ap (λ (n : ℕ). take place bytes ++ (written ++ (byte ∷ [])) ++ drop n bytes) longer
@@ -81,7 +82,8 @@ module _ (n place : ℕ) (before middle : List ℕ) (used : ℕ)
     count = used-is;
     bytes =
         ap (λ (bytes : List ℕ). set bytes (place + used) byte) (tenth .bytes)
-        ∙ ap (λ (k : ℕ). set (writtenAt place (decimal (n / 10)) before) (place + k) byte) (tenth .count)
+        ∙ ap (λ (k : ℕ). set (writtenAt place (decimal (n / 10)) before) (place + k) byte)
+        (tenth .count)
         ∙ written-snoc place byte (decimal (n / 10)) before (omega (arith, used-is, tenth .count))
         ∙ ap (λ (digits : List ℕ). writtenAt place digits before)
         (ap (λ (b : ℕ). decimal (n / 10) ++ (b ∷ [])) is ∙ sym (decimal-large n large));

@@ -10,8 +10,8 @@ use Rattle.worklist.specs.declared.ThreeRead.{ThreeRead}
 use Rattle.worklist.specs.declared.LineRead.{LineRead}
 use Rattle.model.specs.Choice.{if_then_else_}
 use Rattle.model.specs.Refusals.{when, malformedLine}
-use Rattle.model.specs.Decimal.{Number, noNumber, number, decimal}
-use Rattle.model.specs.Lines.{Fields, malformed, fields, beforeMark, readLine}
+use Rattle.model.specs.Decimal.{Number, noNumber, number, moreDigits, readNumber, decimal}
+use Rattle.model.specs.Lines.{Fields, malformed, fields, beforeMark, readField, readFieldsTo, readLine}
 
 -- ---- Reading
 
@@ -38,6 +38,21 @@ endedNumber mark bytes answer = beforeMark mark (number (answer .value) (drop (a
 abbrev pub noThree : ThreeRead
 noThree = record { found = false; first = 0; second = 0; third = 0; next = 0 }
 
+-- What each function reads: the digits after a first one, a number, a number that was read with the
+-- mark after it, and a field, at a place of the bytes.
+abbrev pub DigitsSay : List ℕ → ℕ → ℕ → NumberRead → Type 0
+DigitsSay bytes start first answer =
+    NumberSays bytes (moreDigits 6 first (drop start bytes)) answer
+
+abbrev pub NumberAt : List ℕ → ℕ → NumberRead → Type 0
+NumberAt bytes at answer = NumberSays bytes (readNumber (drop at bytes)) answer
+
+abbrev pub EndedSays : ℕ → List ℕ → NumberRead → NumberRead → Type 0
+EndedSays mark bytes begun answer = NumberSays bytes (endedNumber mark bytes begun) answer
+
+abbrev pub FieldAt : ℕ → List ℕ → ℕ → NumberRead → Type 0
+FieldAt mark bytes at answer = NumberSays bytes (readField mark (drop at bytes)) answer
+
 -- The fields that an answer of the reader stands for, with the bytes after them.
 abbrev pub threeIn : List ℕ → ThreeRead → Fields
 threeIn bytes answer =
@@ -50,6 +65,10 @@ pub record ThreeSays (bytes : List ℕ) (expected : Fields) (answer : ThreeRead)
   pub is : threeIn bytes answer ≡ expected
   pub within : answer .next ≤ length bytes
   pub zeros : answer .found ≡ false → answer ≡ noThree
+
+-- Three fields at a place of the bytes.
+abbrev pub ThreeAt : ℕ → List ℕ → ℕ → ThreeRead → Type 0
+ThreeAt last bytes at answer = ThreeSays bytes (readFieldsTo last 3 (drop at bytes)) answer
 
 -- The line test: 13 for a malformed first line; its arrival and the bytes it takes, all zeros if
 -- it is malformed.

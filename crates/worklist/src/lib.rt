@@ -4,9 +4,8 @@ ghost use mathlib.Core.Path.{_≡_};
 ghost use mathlib.Core.Bool.{true};
 ghost use Prim.Native.Nat.{ℕ, _+_, _-_, _≤_, _<_};
 ghost use lib.ListN.{length, drop};
-ghost use Rattle.model.specs.Decimal.{isDigit, digitValue, digitByte, decimal, leadingZero, moreDigits, readNumber};
-ghost use Rattle.model.specs.Lines.{readField, readFieldsTo};
-ghost use Rattle.worklist.specs.Contracts.{notRead, endedNumber, NumberSays, ThreeSays, LineSays, DigitsPut, DecimalSays};
+ghost use Rattle.model.specs.Decimal.{isDigit, digitValue, digitByte, decimal, leadingZero};
+ghost use Rattle.worklist.specs.Contracts.{notRead, DigitsSay, NumberAt, EndedSays, FieldAt, ThreeAt, LineSays, DigitsPut, DecimalSays};
 use model::ACCEPTED;
 use model::Arrival;
 use model::MALFORMED_LINE;
@@ -70,7 +69,7 @@ fn digit_value(byte: u8) -> u32
 // The digits after a number's first, at most six of them; a seventh makes it too long.
 fn more_digits(bytes: &[u8], start: usize, first: u32) -> NumberRead
     requires { ⌜ (start ≤ length (now bytes)) × (first < 10) ⌝ }
-    ensures { λ r. ⌜ NumberSays (now (bytes .entry)) (moreDigits 6 first (drop start (now (bytes .entry)))) r ⌝ }
+    ensures { λ r. ⌜ DigitsSay (now (bytes .entry)) start first r ⌝ }
 {
     let mut next = start;
     let mut value = first;
@@ -114,7 +113,7 @@ fn leading_zero(bytes: &[u8], first: u8, next: usize) -> bool
 
 // The number that stands at a place of the bytes.
 fn read_number(bytes: &[u8], at: usize) -> NumberRead
-    ensures { λ r. ⌜ NumberSays (now (bytes .entry)) (readNumber (drop at (now (bytes .entry)))) r ⌝ }
+    ensures { λ r. ⌜ NumberAt (now (bytes .entry)) at r ⌝ }
 {
     if bytes.len() <= at {
         return no_number();
@@ -133,7 +132,7 @@ fn read_number(bytes: &[u8], at: usize) -> NumberRead
 // A number that was read, if the mark stands right after it.
 fn ended_by(bytes: &[u8], number: NumberRead, mark: u8) -> NumberRead
     requires { ⌜ (number .next ≤ length (now bytes)) × (number .value < 10000000) ⌝ }
-    ensures { λ r. ⌜ NumberSays (now (bytes .entry)) (endedNumber mark (now (bytes .entry)) number) r ⌝ }
+    ensures { λ r. ⌜ EndedSays mark (now (bytes .entry)) number r ⌝ }
 {
     let next = number.next;
     let value = number.value;
@@ -152,7 +151,7 @@ fn ended_by(bytes: &[u8], number: NumberRead, mark: u8) -> NumberRead
 
 // The number at a place of the bytes, with the mark that must end it.
 fn read_field(bytes: &[u8], at: usize, mark: u8) -> NumberRead
-    ensures { λ r. ⌜ NumberSays (now (bytes .entry)) (readField mark (drop at (now (bytes .entry)))) r ⌝ }
+    ensures { λ r. ⌜ FieldAt mark (now (bytes .entry)) at r ⌝ }
 {
     let number = read_number(bytes, at);
     if number.found {
@@ -163,7 +162,7 @@ fn read_field(bytes: &[u8], at: usize, mark: u8) -> NumberRead
 
 // Three fields from a place on, the third ended by a mark that the caller names.
 fn read_three(bytes: &[u8], at: usize, last: u8) -> ThreeRead
-    ensures { λ r. ⌜ ThreeSays (now (bytes .entry)) (readFieldsTo last 3 (drop at (now (bytes .entry)))) r ⌝ }
+    ensures { λ r. ⌜ ThreeAt last (now (bytes .entry)) at r ⌝ }
 {
     let first = read_field(bytes, at, SEMICOLON);
     if first.found {

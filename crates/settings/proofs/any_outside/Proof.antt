@@ -1,4 +1,5 @@
--- Some setting is outside its range: the ranges before it hold, and its own fails.
+-- Some setting is outside its range: the ranges before it hold, and its own fails. Each place of the
+-- code where a range was passed is named by it.
 use borrow.Author.Needs.{needs}
 use Rattle.model.specs.Choice.{between}
 use Rattle.laws.proofs.Tests.{false-of-not, true-of-not}
@@ -19,10 +20,10 @@ outside-requires-2 c κs = search needs
 
 returns-2 : tie.Need-returns-2
 returns-2 c =
-    let s = c .before .before .before .before .args .settings in
+    let first = c .before .before in
+    let s = first .before .before .args .settings in
     rw (
-      true-of-not (between 1 (s .sites) 32)
-          (c .before .before .before .outside .ensures) (c .before .before .if1 .left),
+      true-of-not (between 1 (s .sites) 32) (first .before .outside .ensures) (first .if1 .left),
       false-of-not (between 2 (s .epsilon) 1000) (c .before .outside2 .ensures) (c .if2 .taken),
     )
 
@@ -31,12 +32,13 @@ outside-requires-3 c κs = search needs
 
 returns-3 : tie.Need-returns-3
 returns-3 c =
-    let s = c .before .before .before .before .before .before .args .settings in
+    let second = c .before .before in
+    let first = second .before .before in
+    let s = first .before .before .args .settings in
     rw (
-      true-of-not (between 1 (s .sites) 32)
-          (c .before .before .before .before .before .outside .ensures) (c .before .before .before .before .if1 .left),
+      true-of-not (between 1 (s .sites) 32) (first .before .outside .ensures) (first .if1 .left),
       true-of-not (between 2 (s .epsilon) 1000)
-          (c .before .before .before .outside2 .ensures) (c .before .before .if2 .left),
+          (second .before .outside2 .ensures) (second .if2 .left),
       false-of-not (between 1 (s .phi) 1000) (c .before .outside3 .ensures) (c .if3 .taken),
     )
 
@@ -45,14 +47,15 @@ outside-requires-4 c κs = search needs
 
 returns-4 : tie.Need-returns-4
 returns-4 c =
-    let s = c .before .before .before .before .before .before .before .before .args .settings in
+    let third = c .before .before in
+    let second = third .before .before in
+    let first = second .before .before in
+    let s = first .before .before .args .settings in
     rw (
-      true-of-not (between 1 (s .sites) 32)
-          (c .before .before .before .before .before .before .before .outside .ensures) (c .before .before .before .before .before .before .if1 .left),
+      true-of-not (between 1 (s .sites) 32) (first .before .outside .ensures) (first .if1 .left),
       true-of-not (between 2 (s .epsilon) 1000)
-          (c .before .before .before .before .before .outside2 .ensures) (c .before .before .before .before .if2 .left),
-      true-of-not (between 1 (s .phi) 1000)
-          (c .before .before .before .outside3 .ensures) (c .before .before .if3 .left),
+          (second .before .outside2 .ensures) (second .if2 .left),
+      true-of-not (between 1 (s .phi) 1000) (third .before .outside3 .ensures) (third .if3 .left),
       false-of-not (between 1 (s .rank) 1000) (c .before .outside4 .ensures) (c .if4 .taken),
     )
 
@@ -61,16 +64,18 @@ outside-requires-5 c κs = search needs
 
 returns-5 : tie.Need-returns-5
 returns-5 c =
-    let s = c .before .before .before .before .before .before .before .before .before .before .args .settings in
+    let fourth = c .before .before in
+    let third = fourth .before .before in
+    let second = third .before .before in
+    let first = second .before .before in
+    let s = first .before .before .args .settings in
     rw (
-      true-of-not (between 1 (s .sites) 32)
-          (c .before .before .before .before .before .before .before .before .before .outside .ensures) (c .before .before .before .before .before .before .before .before .if1 .left),
+      true-of-not (between 1 (s .sites) 32) (first .before .outside .ensures) (first .if1 .left),
       true-of-not (between 2 (s .epsilon) 1000)
-          (c .before .before .before .before .before .before .before .outside2 .ensures) (c .before .before .before .before .before .before .if2 .left),
-      true-of-not (between 1 (s .phi) 1000)
-          (c .before .before .before .before .before .outside3 .ensures) (c .before .before .before .before .if3 .left),
+          (second .before .outside2 .ensures) (second .if2 .left),
+      true-of-not (between 1 (s .phi) 1000) (third .before .outside3 .ensures) (third .if3 .left),
       true-of-not (between 1 (s .rank) 1000)
-          (c .before .before .before .outside4 .ensures) (c .before .before .if4 .left),
+          (fourth .before .outside4 .ensures) (fourth .if4 .left),
       false-of-not (between 1 (s .capacity) 3000) (c .before .outside5 .ensures) (c .if5 .taken),
     )
 
@@ -79,18 +84,21 @@ outside-requires-6 c κs = search needs
 
 returns-6 : tie.Need-returns-6
 returns-6 c =
-    let s = c .before .before .before .before .before .before .before .before .before .before .before .args .settings in
+    let fifth = c .before in
+    let fourth = fifth .before .before in
+    let third = fourth .before .before in
+    let second = third .before .before in
+    let first = second .before .before in
+    let s = first .before .before .args .settings in
     rw (
-      true-of-not (between 1 (s .sites) 32)
-          (c .before .before .before .before .before .before .before .before .before .before .outside .ensures) (c .before .before .before .before .before .before .before .before .before .if1 .left),
+      true-of-not (between 1 (s .sites) 32) (first .before .outside .ensures) (first .if1 .left),
       true-of-not (between 2 (s .epsilon) 1000)
-          (c .before .before .before .before .before .before .before .before .outside2 .ensures) (c .before .before .before .before .before .before .before .if2 .left),
-      true-of-not (between 1 (s .phi) 1000)
-          (c .before .before .before .before .before .before .outside3 .ensures) (c .before .before .before .before .before .if3 .left),
+          (second .before .outside2 .ensures) (second .if2 .left),
+      true-of-not (between 1 (s .phi) 1000) (third .before .outside3 .ensures) (third .if3 .left),
       true-of-not (between 1 (s .rank) 1000)
-          (c .before .before .before .before .outside4 .ensures) (c .before .before .before .if4 .left),
+          (fourth .before .outside4 .ensures) (fourth .if4 .left),
       true-of-not (between 1 (s .capacity) 3000)
-          (c .before .before .outside5 .ensures) (c .before .if5 .left),
+          (fifth .before .outside5 .ensures) (fifth .if5 .left),
     )
     (c .outside6 .ensures)
 

@@ -1,5 +1,5 @@
--- The allowance is the definition's quotient: settings that pass their test keep every product within
--- 64 bits, since sites are at most 32 and digits at most 64.
+-- The allowance is the definition's quotient: settings that pass their test keep every product
+-- within 64 bits, since sites are at most 32 and digits at most 64.
 use mathlib.Core.Path.{_≡_, sym, _∙_, ap}
 use Prim.Native.Nat.{ℕ, _+_, _*_, _/_, _^_, _≤_, _<_}
 use native.Mathlib.Nat.{mul-le-mul}

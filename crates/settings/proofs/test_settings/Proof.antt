@@ -1,4 +1,5 @@
--- Each return of the settings test is the row of `settingsRefusal` whose test was the first to hold.
+-- Each return of the settings test is the row of `settingsRefusal` whose test was the first to
+-- hold.
 use Prim.Native.Nat.{_≤_}
 use native.Mathlib.Omega.{arith}
 use native.Mathlib.Nat.{mul-le-mul}

@@ -64,7 +64,8 @@ put-digits-returns : (t : ℕ) → put-digits-lts.Need-returns (
 put-digits-returns t c =
     let start = c .before .before .before in
     let one = decimal-small (start .args .n) (c .before .if1 .taken) in
-    let inside : start .args .at < length (start .args .bytes .now) = put-digits-slice-write-bytes t c in
+    let inside : start .args .at < length (start .args .bytes .now)
+    = put-digits-slice-write-bytes t c in
     record {
       count = sym (ap length one);
       bytes =
@@ -148,7 +149,8 @@ put-digits-returns-2 t c =
     let start = c .before .before .before .before .before .before .before in
     digit-more (start .args .n) (start .args .at) (start .args .bytes .now) _ _
     (c .before .before .before .before .before .if1 .left) (start .pre .1)
-    (c .before .before .before .put-digits .ensures) (c .digit-byte2 .result) (c .digit-byte2 .ensures)
+    (c .before .before .before .put-digits .ensures)
+    (c .digit-byte2 .result) (c .digit-byte2 .ensures)
 
 pub +put-digits-spec : {M : Type 1} → statement M
 +put-digits-spec = close μ-put-digits λ t. put-digits-lts.spec (

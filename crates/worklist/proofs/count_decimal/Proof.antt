@@ -1,4 +1,5 @@
--- The digits counted and the digits left, but for one, are the digits of n; each turn takes a tenth.
+-- The digits counted and the digits left, but for one, are the digits of n; each turn takes a
+-- tenth.
 use Prim.Native.Nat.{_+_, _≤_}
 use mathlib.Core.Path.{_≡_, ap}
 use mathlib.Core.List.{[], _∷_}

@@ -19,7 +19,8 @@ returns-2 : tie.Need-returns-2
 returns-2 c =
     let here = c .before .before .before in
     c .is-digit .ensures
-    ∙ sym (leading-zero-at _ _ _ (here .if1 .left) ∙ rw (eq-eqb _ _ (c .before .before .if2 .taken)))
+    ∙ sym
+    (leading-zero-at _ _ _ (here .if1 .left) ∙ rw (eq-eqb _ _ (c .before .before .if2 .taken)))
 
 returns-3 : tie.Need-returns-3
 returns-3 c =

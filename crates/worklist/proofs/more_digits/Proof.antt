@@ -20,7 +20,8 @@ abbrev μ-loop : tie.MeasureT-loop
 loop-holds : tie.Need-loop-holds Inv-loop μ-loop
 loop-holds c =
     let args = c .before .args in
-    reading-begins (args .bytes .now) (args .start) (args .first) (c .before .pre .0) (c .before .pre .1)
+    let within = c .before .pre in
+    reading-begins (args .bytes .now) (args .start) (args .first) (within .0) (within .1)
 
 shared-slice-read-byte : tie.Need-shared-slice-read-byte Inv-loop μ-loop
 shared-slice-read-byte c = search needs
@@ -34,9 +35,11 @@ no-number-requires c κs = search needs
 returns : tie.Need-returns Inv-loop μ-loop
 returns c =
     let turn = c .before .before .before .before .before in
-    let digit = sym (c .before .before .before .is-digit .ensures) ∙ c .before .before .if1 .taken in
+    let found = c .before .before in
+    let digit = sym (found .before .is-digit .ensures) ∙ found .if1 .taken in
     rw (c .no-number .ensures)
-    (reading-long (turn .loop-test .taken) digit (rw (c .before .if2 .taken) at (turn .before .loop .inv)))
+    (reading-long (turn .loop-test .taken) digit
+    (rw (c .before .if2 .taken) at (turn .before .loop .inv)))
 
 -- A digit may still come, so the value is below a million and ten times it fits.
 value-small : (c : tie.Else2 Inv-loop μ-loop)
@@ -66,7 +69,8 @@ loop-less c = search needs
 loop-again : tie.Need-loop-again Inv-loop μ-loop
 loop-again c =
     let turn = c .before .before .before .before .before in
-    let digit = sym (c .before .before .before .is-digit .ensures) ∙ c .before .before .if1 .taken in
+    let found = c .before .before in
+    let digit = sym (found .before .is-digit .ensures) ∙ found .if1 .taken in
     rw (c .digit-value .ensures .0)
     (reading-on _ (omega (arith, c .before .if2 .left)) (turn .loop-test .taken) digit
     (turn .before .loop .inv))

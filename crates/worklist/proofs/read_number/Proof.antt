@@ -35,7 +35,8 @@ no-number-requires-2 c κs = search needs
 returns-2 : tie.Need-returns-2
 returns-2 c =
     let start = c .before .before .before .before .before .before in
-    let digit = sym (c .before .before .before .before .is-digit .ensures) ∙ c .before .before .before .if2 .taken in
+    let found = c .before .before .before in
+    let digit = sym (found .before .is-digit .ensures) ∙ found .if2 .taken in
     let zero-first = sym (c .before .before .leading-zero .ensures) ∙ c .before .if3 .taken in
     rw (c .no-number2 .ensures)
     (none-read _ (read-number-at _ _ (start .if1 .left) ∙ rw (digit, zero-first)))
@@ -49,15 +50,17 @@ more-digits-requires c κs = search needs
 
 returns-3 : tie.Need-returns-3
 returns-3 c =
-    let start = c .before .before .before .before .before .before .before in
+    let found = c .before .before .before .before in
+    let start = found .before .before .before in
     let bytes = start .before .before .args .bytes .now in
     let rest = drop (start .before .before .args .at + 1) bytes in
-    let digit = sym (c .before .before .before .before .before .is-digit .ensures)
-    ∙ c .before .before .before .before .if2 .taken in
-    let no-zero = sym (c .before .before .before .leading-zero .ensures) ∙ c .before .before .if3 .left in
+    let digit = sym (found .before .is-digit .ensures) ∙ found .if2 .taken in
+    let checked = c .before .before in
+    let no-zero = sym (checked .before .leading-zero .ensures) ∙ checked .if3 .left in
+    let first-value = sym (c .before .digit-value .ensures .0) in
     says-of
     (read-number-at _ _ (start .if1 .left)
-    ∙ rw (digit, no-zero) (ap (λ (v : ℕ). moreDigits 6 v rest) (sym (c .before .digit-value .ensures .0))))
+    ∙ rw (digit, no-zero) (ap (λ (v : ℕ). moreDigits 6 v rest) first-value))
     (c .more-digits .ensures)
 
 no-number-requires-3 : tie.Need-no-number-requires-3

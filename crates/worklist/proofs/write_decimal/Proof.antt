@@ -22,7 +22,8 @@ sub-if2 c = search needs
 returns-2 : tie.Need-returns-2
 returns-2 c =
     let args = c .before .before .before .before .args in
-    not-written (args .n) (args .at) (args .bytes .now) (omega (arith, c .before .before .count-decimal .ensures))
+    not-written (args .n) (args .at) (args .bytes .now)
+    (omega (arith, c .before .before .count-decimal .ensures))
 
 put-digits-requires : tie.Need-put-digits-requires
 put-digits-requires c κs = search needs

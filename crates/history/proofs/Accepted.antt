@@ -7,7 +7,7 @@
 use mathlib.Core.Path.{_≡_, refl, sym, ap, _∙_, subst}
 use mathlib.Core.Bool.{Bool, true, false}
 use mathlib.Core.List.{List, [], _∷_}
-use Prim.Native.Nat.{ℕ, _+_, _*_, _≤_, _<_}
+use Prim.Native.Nat.{ℕ, zero, suc, _+_, _*_, _≤_, _<_}
 use native.Mathlib.Omega.{arith}
 use lib.Dec.{ltb, leb}
 use lib.ListN.{length}
@@ -15,7 +15,7 @@ use borrow.Author.Tests.{le-ltb, lt-leb, eq-eqb}
 use Rattle.model.specs.declared.Settings.{Settings}
 use Rattle.model.specs.declared.Arrival.{Arrival}
 use Rattle.model.specs.declared.Message.{Message}
-use Rattle.model.specs.Refusals.{accepted}
+use Rattle.model.specs.Refusals.{accepted, _orElse_}
 use Rattle.model.specs.Limits.{messageLimit}
 use Rattle.model.specs.Settings.{settingsRefusal}
 use Rattle.model.specs.Site.{Site, arrivalRefusal, siteMessageRefusal}
@@ -109,6 +109,11 @@ module _ {settings : Settings} (passes : settingsRefusal settings ≡ accepted) 
 
   -- ---- The numbers that calls answer
 
+  -- A chain's last row may be left out.
+  or-accepted : (refusal : ℕ) → (refusal orElse accepted) ≡ refusal
+  or-accepted zero = refl
+  or-accepted (suc refusal) = refl
+
   site-here : (which words : ℕ) → which < settings .sites → siteWords settings ≤ words
       → siteIn settings (recordAt (state .held) which) (sitePart settings (state .held) which words)
       ≡ siteAt (networkOf settings (state .held)) which
@@ -152,5 +157,7 @@ module _ {settings : Settings} (passes : settingsRefusal settings ≡ accepted) 
     site-message = site-message-by-rules;
     coordinator-message = λ m. rw coordinator-accepted;
     next-announcement = rw coordinator-accepted;
+    list = λ places. rw coordinator-accepted (or-accepted _);
+    margin = λ item. rw coordinator-accepted (or-accepted _);
     batch = batch-by-rules;
   }

@@ -19,4 +19,5 @@ pub mod ToSite
 pub mod NextAnnouncement
 pub mod DeliveredState
 pub mod GoesOn
+pub mod Readings
 pub mod Theorem

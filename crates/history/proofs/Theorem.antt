@@ -23,6 +23,7 @@ use Rattle.history.specs.Histories.{Arrives, batch, single, Step, arrive
 use Rattle.history.specs.Demands.{First, AsRulesAtRest, Second, Third, Demands}
 use Rattle.history.proofs.Invariant.{StateOk, BeginsRun, run-of-standing}
 use Rattle.history.proofs.Accepted.{memory-accepted, refused-by-rules, resting-of}
+use Rattle.history.proofs.Readings.{reads-right}
 use Rattle.history.proofs.StartedState.{start-ok}
 use Rattle.history.proofs.BatchedState.{batch-ok}
 use Rattle.history.proofs.SingleState.{single-ok}
@@ -94,7 +95,11 @@ module _ (settings : Settings) (state : State) (passes : settingsRefusal setting
   second = record {
     at-rest = λ rest.
         let as-run = resting-of passes (there .ok) rest in
-        record { network-is = as-run .network-is; messages-are = as-run .messages-are };
+        record {
+          network-is = as-run .network-is;
+          messages-are = as-run .messages-are;
+          reads-right = reads-right passes (there .ok) as-run;
+        };
     messages-begin =
         sym (ap (take (length (state .messages))) (begins .messages-are)
         ∙ take-append-seam (state .messages) (begins .later));

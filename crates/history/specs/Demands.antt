@@ -12,12 +12,13 @@ use mathlib.Core.Path.{_≡_}
 use mathlib.Core.Bool.{true, false}
 use mathlib.Core.List.{List, [], _∷_}
 use Prim.Native.Nat.{ℕ, _+_, _*_, _≤_, _<_}
+use lib.Dec.{leb, ltb}
 use lib.ListN.{length, take}
 use Rattle.model.specs.declared.Settings.{Settings}
 use Rattle.model.specs.declared.Arrival.{Arrival}
 use Rattle.model.specs.declared.Message.{Message}
 use Rattle.model.specs.declared.Phase.the-variants.{Idle}
-use Rattle.model.specs.Refusals.{accepted}
+use Rattle.model.specs.Refusals.{when, accepted, unknownItem, listTooShort}
 use Rattle.model.specs.Limits.{messagesPerArrival, allowanceFactor}
 use Rattle.model.specs.Settings.{settingsRefusal, digits, allowance}
 use Rattle.model.specs.Messages.{toCoordinator}
@@ -27,13 +28,16 @@ use Rattle.model.specs.Coordinator.{isAnnouncing, coordinatorRefusal, announcem
 use Rattle.model.specs.CoordinatorMemory.{coordinatorMemoryRefusal}
 use Rattle.model.specs.Network.{siteAt, deliveryFuel}
 use Rattle.model.specs.NetworkMemory.{networkRefusal}
+use Rattle.model.specs.Reading.{heavyHitters}
 use Rattle.model.specs.Runs.{Run, runOf, batchOf}
 use Rattle.model.specs.Claims.{counted, Tracks, Estimates}
 use Rattle.site.specs.Calls as SiteCalls
 use Rattle.coordinator.specs.Calls as CoordinatorCalls
+use Rattle.reading.specs.Contracts.{listRefusal, marginRefusal}
 use Rattle.tracker.specs.declared.BatchAnswer.{BatchAnswer}
 use Rattle.tracker.specs.Batch.{BatchLent, BatchSays, logRoom}
 use Rattle.history.specs.State.{State, AtRest, networkOf, recordAt, sitePart}
+use Rattle.history.specs.Reading.{ReadsRight}
 use Rattle.history.specs.Histories.{batchCall, Refuses, Reachable, Deliveries}
 
 -- ---- First
@@ -84,6 +88,16 @@ pub record RefusedByRules (settings : Settings) (state : State) : Type 0 where
       CoordinatorCalls.announceRefusal settings (state .held .coordinator)
       (state .held .coordinatorMemory)
       ≡ announcementRefusal (networkOf settings (state .held) .coordinator)
+  -- 12, for a list of so many places
+  pub list : (places : ℕ)
+      → listRefusal settings (state .held .coordinator) (state .held .coordinatorMemory) places
+      ≡ when
+      (ltb places (length (heavyHitters settings (networkOf settings (state .held) .coordinator))))
+      listTooShort
+  -- 6; the quantile call is never refused
+  pub margin : (item : ℕ)
+      → marginRefusal settings (state .held .coordinator) item (state .held .coordinatorMemory)
+      ≡ when (leb (settings .universe) item) unknownItem
   -- 5, 6, 7, 8, 14
   pub batch : AtRest state
       → (arrivals : List Arrival) (log : List ℕ) (lent : BatchLent) (answer : BatchAnswer)
@@ -142,6 +156,8 @@ pub record AsRulesAtRest (settings : Settings) (state : State) : Type 0 where
   pub network-is : networkOf settings (state .held) ≡ rulesRun settings state .network
   -- the messages, one by one
   pub messages-are : state .messages ≡ rulesRun settings state .messages
+  -- list, margin and quantile as the calls answer them
+  pub reads-right : ReadsRight settings state
 
 pub record Second (settings : Settings) (state : State) : Type 0 where
   pub at-rest : AtRest state

@@ -1,4 +1,5 @@
 -- Histories of calls, and what is claimed of all of them.
 pub mod State
 pub mod Histories
+pub mod Reading
 pub mod Demands

@@ -21,3 +21,4 @@ pub mod DeliveredState
 pub mod GoesOn
 pub mod Readings
 pub mod Theorem
+pub mod Example

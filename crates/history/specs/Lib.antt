@@ -3,3 +3,4 @@ pub mod State
 pub mod Histories
 pub mod Reading
 pub mod Demands
+pub mod Example

@@ -4,18 +4,16 @@
 --   held-sound, resting-of    what the invariant is worth: sound parts; at rest, the model's run
 --   memory-accepted           neither 4 nor 11, nor 1, 2, 3
 --   refused-by-rules          the number that each call then answers
-use mathlib.Core.Path.{_≡_, refl, sym, ap, _∙_, subst}
-use mathlib.Core.Bool.{Bool, true, false}
-use mathlib.Core.List.{List, [], _∷_}
-use Prim.Native.Nat.{ℕ, zero, suc, _+_, _*_, _≤_, _<_}
+use mathlib.Core.Path.{_≡_, sym, ap, _∙_, subst}
+use mathlib.Core.List.{List}
+use Prim.Native.Nat.{ℕ, _≤_, _<_}
 use native.Mathlib.Omega.{arith}
-use lib.Dec.{ltb, leb}
 use lib.ListN.{length}
-use borrow.Author.Tests.{le-ltb, lt-leb, eq-eqb}
+use borrow.Author.Tests.{le-ltb, lt-leb}
 use Rattle.model.specs.declared.Settings.{Settings}
 use Rattle.model.specs.declared.Arrival.{Arrival}
 use Rattle.model.specs.declared.Message.{Message}
-use Rattle.model.specs.Refusals.{accepted, _orElse_}
+use Rattle.model.specs.Refusals.{accepted}
 use Rattle.model.specs.Limits.{messageLimit}
 use Rattle.model.specs.Settings.{settingsRefusal}
 use Rattle.model.specs.Site.{Site, arrivalRefusal, siteMessageRefusal}
@@ -24,7 +22,7 @@ use Rattle.model.specs.Coordinator.{isAnnouncing}
 use Rattle.model.specs.CoordinatorMemory.{coordinatorWords, coordinatorMemoryRefusal}
 use Rattle.model.specs.Network.{siteAt}
 use Rattle.model.specs.NetworkMemory.{sitesWords, networkRefusal}
-use Rattle.model.specs.Runs.{runOf, batchOf}
+use Rattle.model.specs.Runs.{batchOf}
 use Rattle.model.specs.SoundNetwork.{Sound}
 use Rattle.model.proofs.ConsistentCoordinator.{coordinator-consistent-of}
 use Rattle.model.proofs.ConsistentNetwork.{network-consistent-of}
@@ -34,6 +32,7 @@ use Rattle.tracker.specs.Batch.{BatchLent, BatchSays, logRoom}
 use Rattle.history.specs.State.{State, AtRest, networkOf, recordAt, sitePart}
 use Rattle.history.specs.Histories.{batchCall}
 use Rattle.history.specs.Demands.{MemoryAccepted, RefusedByRules}
+use Rattle.history.proofs.Answers.{or-accepted}
 use Rattle.history.proofs.RunSound.{sound-run, messages-within}
 use Rattle.history.proofs.Decoded.{site-part, site-memory-accepted}
 use Rattle.history.proofs.Invariant.{StateOk, Resting, SoundHeld, sound-of-standing, rest-of-standing}
@@ -108,11 +107,6 @@ module _ {settings : Settings} (passes : settingsRefusal settings ≡ accepted) 
   }
 
   -- ---- The numbers that calls answer
-
-  -- A chain's last row may be left out.
-  or-accepted : (refusal : ℕ) → (refusal orElse accepted) ≡ refusal
-  or-accepted zero = refl
-  or-accepted (suc refusal) = refl
 
   site-here : (which words : ℕ) → which < settings .sites → siteWords settings ≤ words
       → siteIn settings (recordAt (state .held) which) (sitePart settings (state .held) which words)

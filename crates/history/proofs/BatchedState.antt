@@ -3,42 +3,35 @@
 --
 --   batch-ok     the invariant of that state
 use mathlib.Core.Path.{_≡_, refl, sym, ap, _∙_, subst}
-use mathlib.Core.Bool.{Bool, true, false}
-use mathlib.Core.List.{List, [], _∷_, _++_}
-use Prim.Native.Nat.{ℕ, _+_, _*_, _≤_, _<_}
+use mathlib.Core.List.{List, _++_}
+use Prim.Native.Nat.{ℕ, _+_, _*_, _≤_}
 use native.Mathlib.Omega.{arith}
-use lib.ListN.{length, take, drop, length-append}
+use lib.ListN.{length, take, length-append}
 use borrow.Author.Tests.{eq-eqb}
-use Rattle.laws.proofs.FlatMemory.{length-overwritten}
 use Rattle.model.specs.declared.Settings.{Settings}
 use Rattle.model.specs.declared.Arrival.{Arrival}
 use Rattle.model.specs.declared.Message.{Message}
-use Rattle.model.specs.declared.Sites.{Sites}
-use Rattle.model.specs.declared.CoordinatorRecord.{CoordinatorRecord}
-use Rattle.model.specs.Choice.{if_then_else_, isZero}
 use Rattle.model.specs.Refusals.{accepted}
-use Rattle.model.specs.Limits.{valueCount}
 use Rattle.model.specs.Settings.{settingsRefusal}
-use Rattle.model.specs.Site.{Site}
 use Rattle.model.specs.SiteMemory.{siteWords}
-use Rattle.model.specs.Coordinator.{Coordinator}
-use Rattle.model.specs.CoordinatorMemory.{coordinatorWords, coordinatorIn, coordinatorRecord, coordinatorMemory}
+use Rattle.model.specs.CoordinatorMemory.{coordinatorIn, coordinatorRecord, coordinatorMemory}
 use Rattle.model.specs.Network.{Network}
-use Rattle.model.specs.NetworkMemory.{sitesWords, sitesIn, sitesMemory, siteRecords}
+use Rattle.model.specs.NetworkMemory.{sitesIn, sitesMemory, siteRecords}
 use Rattle.model.specs.Runs.{Run, runFrom, runOf, Batch, batchOf}
 use Rattle.model.specs.SoundNetwork.{Sound}
 use Rattle.model.proofs.SettingsLaws.{Settled, settled}
 use Rattle.model.proofs.RunLaws.{runFrom-append}
 use Rattle.coordinator_steps.proofs.MemoryLaws.{written-coordinator}
 use Rattle.tracker.specs.declared.BatchAnswer.{BatchAnswer}
-use Rattle.tracker.specs.Batch.{BatchCall, BatchLent, BatchSays, startRefusal, batchIn, unlessRefused, logRoom, messagesIn, sitesAfter}
+use Rattle.tracker.specs.Batch.{BatchCall, BatchLent, BatchSays, startRefusal, batchIn, unlessRefused, logRoom, messagesIn}
 use Rattle.history.specs.State.{Held, State, AtRest, networkOf}
 use Rattle.history.specs.Histories.{batchCall, afterBatch}
-use Rattle.history.proofs.SitesMemory.{AllStorable, length-siteRecords, length-sitesMemory, sitesIn-sitesMemory}
+use Rattle.history.proofs.SitesWritten.{AllStorable, length-siteRecords, length-sitesMemory, sitesIn-sitesMemory}
 use Rattle.history.proofs.RunSound.{sound-run}
 use Rattle.history.proofs.BatchRuns.{BatchRun, batch-run}
 use Rattle.history.proofs.HandedOut.{messagesIn-written}
 use Rattle.history.proofs.Decoded.{Lengths}
+use Rattle.history.proofs.DecodedCoordinator.{length-coordinatorMemory}
 use Rattle.history.proofs.Invariant.{StateOk, Resting, resting}
 use Rattle.history.proofs.Accepted.{resting-of, memory-accepted}
 
@@ -94,34 +87,26 @@ module _ {settings : Settings} (passes : settingsRefusal settings ≡ accepted) 
       λ i. record { sites = sites i; coordinator = coordinator i }
 
   pub lengths-written : Lengths settings (networkWritten settings held network messages)
-  lengths-written =
-      let c = network .coordinator in
-      let numbers = c .estimates ++ c .histogram in
-      let width : length numbers ≡ coordinatorWords settings =
-      length-append (c .estimates) (c .histogram)
-      ∙ omega (
-        arith,
-        sound .coordinator-sound .numbers .estimates-length,
-        sound .coordinator-sound .numbers .histogram-length,
-      ) in
-      record {
-        all-records =
-            length-siteRecords settings (network .sites) (held .sites .records)
-            ∙ lengths .all-records;
-        sites-long =
-            omega (
-              arith,
-              length-sitesMemory settings (network .sites) (held .siteMemory) storable long,
-              lengths .sites-long,
-            );
-        coordinator-long =
-            omega (
-              arith,
-              length-overwritten numbers (held .coordinatorMemory)
-                  (omega (arith, width, lengths .coordinator-long)),
-              lengths .coordinator-long,
-            );
-      }
+  lengths-written = record {
+    all-records =
+        length-siteRecords settings (network .sites) (held .sites .records)
+        ∙ lengths .all-records;
+    sites-long =
+        omega (
+          arith,
+          length-sitesMemory settings (network .sites) (held .siteMemory) storable long,
+          lengths .sites-long,
+        );
+    coordinator-long =
+        omega (
+          arith,
+          length-coordinatorMemory settings (network .coordinator) (held .coordinatorMemory)
+              (sound .coordinator-sound .numbers .estimates-length)
+              (sound .coordinator-sound .numbers .histogram-length)
+              (lengths .coordinator-long),
+          lengths .coordinator-long,
+        );
+  }
 
 -- ---- The state after the call
 

@@ -1,5 +1,5 @@
--- The network that records and memory hold, after a call on one site or on the coordinator was put
--- back: that site, or the coordinator, and nothing else, has changed. PROOF.md section 7.
+-- The network that records and memory hold, after a call on one site was put back: that site and
+-- nothing else has changed. PROOF.md section 7, "Frame".
 --
 --   Lengths settings held        32 records, and memories that are long enough
 --   SitesSound settings held     each of the k sites that are held is sound
@@ -7,38 +7,28 @@
 --   site-memory-accepted         neither 4 nor 11 for it
 --   network-site-written         a site's record and part put back
 --   network-site-told            a site's record alone put back
---   network-coordinator-written, network-announced   the coordinator's record, with and without memory
-use mathlib.Core.Path.{_≡_, refl, sym, ap, _∙_}
-use mathlib.Core.Bool.{Bool, true, false}
-use mathlib.Core.List.{List, [], _∷_, _++_}
-use Prim.Native.Nat.{ℕ, zero, suc, _+_, _*_, _≤_, _<_, min}
+use mathlib.Core.Path.{_≡_, sym, ap, _∙_}
+use mathlib.Core.List.{List}
+use Prim.Native.Nat.{ℕ, _+_, _≤_, _<_}
 use native.Mathlib.Nat.{mul-le-mul-right}
 use native.Mathlib.Omega.{arith}
-use lib.Dec.{ltb}
-use lib.ListN.{length, getD, set, take, drop, length-drop, length-take, length-set, length-append}
+use lib.ListN.{length, set, drop, length-drop, length-set}
 use borrow.Author.Tests.{le-ltb}
 use Rattle.model.specs.declared.Settings.{Settings}
 use Rattle.model.specs.declared.Message.{Message}
-use Rattle.model.specs.declared.SiteRecord.{SiteRecord}
-use Rattle.model.specs.declared.CoordinatorRecord.{CoordinatorRecord}
-use Rattle.model.specs.declared.Phase.{Phase}
-use Rattle.model.specs.declared.Phase.the-variants.{Idle, Collecting, Probing, Announcing}
-use Rattle.model.specs.Choice.{if_then_else_}
 use Rattle.model.specs.Refusals.{accepted}
 use Rattle.model.specs.Limits.{mostSites, valueCount}
 use Rattle.model.specs.Settings.{settingsRefusal}
 use Rattle.model.specs.Site.{Site, freshSite, siteReceives}
-use Rattle.model.specs.SiteMemory.{siteWords, siteIn, siteRecord, siteMemory, siteMemoryRefusal, countersIn}
-use Rattle.model.specs.Coordinator.{Coordinator, withPhase, atRest, announcedIn, announced}
-use Rattle.model.specs.CoordinatorMemory.{coordinatorWords, coordinatorIn, coordinatorRecord, coordinatorMemory}
-use Rattle.model.specs.Network.{Network, siteAt, withSite, withCoordinator}
-use Rattle.model.specs.NetworkMemory.{sitesWords, sitesIn, networkIn}
+use Rattle.model.specs.SiteMemory.{siteWords, siteIn, siteRecord, siteMemory, siteMemoryRefusal}
+use Rattle.model.specs.CoordinatorMemory.{coordinatorWords, coordinatorIn, coordinatorMemory}
+use Rattle.model.specs.Network.{siteAt, withSite}
+use Rattle.model.specs.NetworkMemory.{sitesWords, sitesIn}
 use Rattle.model.specs.SoundNetwork.{SoundSite}
 use Rattle.model.proofs.SettingsLaws.{Settled, settled}
 use Rattle.model.proofs.ConsistentSites.{length-countersIn, consistent-of-sound}
 use Rattle.site_memory.proofs.SiteMemoryLaws.{siteIn-siteMemory}
-use Rattle.coordinator_steps.proofs.MemoryLaws.{written-coordinator}
-use Rattle.history.specs.State.{Held, networkOf, recordAt, siteStart, sitePart, withPart, afterSiteCall, afterCoordinatorCall}
+use Rattle.history.specs.State.{Held, networkOf, recordAt, siteStart, sitePart, withPart, afterSiteCall}
 use Rattle.history.proofs.SiteParts.{siteIn-take, front-long, siteIn-received}
 use Rattle.history.proofs.SitesMemory.{offset, offset-is, getD-sitesIn, sitesIn-set, written, length-written, part-written, sitesIn-written}
 
@@ -219,53 +209,3 @@ module _ {settings : Settings} (passes : settingsRefusal settings ≡ accepted) 
       (held .siteMemory)
       ∙ ap (set (sitesIn (settings .sites) settings (held .sites .records) (held .siteMemory)) j)
       back)
-
--- ---- The coordinator
-
-module _ (settings : Settings) (held : Held) where
-  pub network-coordinator-written : (c : Coordinator)
-      → length (c .estimates) ≡ settings .universe
-      → length (c .histogram) ≡ valueCount
-      → networkOf settings
-      (afterCoordinatorCall held (coordinatorRecord c)
-      (coordinatorMemory c (held .coordinatorMemory)))
-      ≡ withCoordinator (networkOf settings held) c
-  network-coordinator-written c estimates values =
-      ap (withCoordinator (networkOf settings held))
-      (written-coordinator settings c (held .coordinatorMemory) estimates values)
-
-  -- An announcement changes phase and signals alone.
-  announced-in : (phase : Phase)
-      → coordinatorIn settings
-      (coordinatorRecord
-      (announcedIn settings (coordinatorIn settings (held .coordinator) (held .coordinatorMemory))
-      phase .coordinator))
-      (held .coordinatorMemory)
-      ≡ announcedIn settings (coordinatorIn settings (held .coordinator) (held .coordinatorMemory))
-      phase .coordinator
-  announced-in Idle = refl
-  announced-in (Collecting site) = refl
-  announced-in (Probing site low high sum) = refl
-  announced-in (Announcing site) = by-site (ltb (site + 1) (settings .sites))
-    where
-      c : Coordinator
-      c = coordinatorIn settings (held .coordinator) (held .coordinatorMemory)
-
-      by-site : (more : Bool)
-          → coordinatorIn settings
-          (coordinatorRecord (if more then withPhase c (Announcing (site + 1)) else atRest c))
-          (held .coordinatorMemory)
-          ≡ (if more then withPhase c (Announcing (site + 1)) else atRest c)
-      by-site true = refl
-      by-site false = refl
-
-  pub network-announced :
-      networkOf settings
-      (afterCoordinatorCall held
-      (coordinatorRecord
-      (announced settings (networkOf settings held .coordinator) .coordinator))
-      (held .coordinatorMemory))
-      ≡ withCoordinator (networkOf settings held)
-      (announced settings (networkOf settings held .coordinator) .coordinator)
-  network-announced =
-      ap (withCoordinator (networkOf settings held)) (announced-in (held .coordinator .phase))

@@ -6,27 +6,23 @@
 use mathlib.Core.Path.{_≡_, refl, sym, ap, _∙_}
 use mathlib.Core.Bool.{Bool, true, false, not}
 use mathlib.Core.List.{List, [], _∷_, _++_, append-nil}
-use Prim.Native.Nat.{ℕ, zero, suc, _+_, _-_, _*_, _≤_, _<_}
+use Prim.Native.Nat.{ℕ, _+_, _-_, _≤_, _<_}
 use native.Mathlib.Omega.{arith}
-use lib.Dec.{eqb, ltb}
-use lib.ListN.{length, getD, take, drop}
-use borrow.Author.Tests.{ne-eqb, eq-eqb, eqb-true, eqb-false, ltb-false, not-false}
-use Rattle.laws.proofs.Tests.{both-true, neither-of-or}
+use lib.Dec.{ltb}
+use lib.ListN.{length, drop}
+use borrow.Author.Tests.{eq-eqb, eqb-true, ltb-false, not-false}
+use Rattle.laws.proofs.Tests.{neither-of-or}
 use Rattle.model.specs.declared.Settings.{Settings}
 use Rattle.model.specs.declared.Arrival.{Arrival}
-use Rattle.model.specs.declared.Message.{Message}
-use Rattle.model.specs.declared.SiteRecord.{SiteRecord}
-use Rattle.model.specs.declared.Sites.{Sites}
-use Rattle.model.specs.declared.CoordinatorRecord.{CoordinatorRecord}
-use Rattle.model.specs.Choice.{if_then_else_, isZero}
+use Rattle.model.specs.Choice.{isZero}
 use Rattle.model.specs.Refusals.{accepted}
 use Rattle.model.specs.Settings.{settingsRefusal}
-use Rattle.model.specs.Site.{Site, freshSite}
+use Rattle.model.specs.Site.{freshSite}
 use Rattle.model.specs.SiteMemory.{siteWords, siteIn, siteRecord}
 use Rattle.model.specs.CoordinatorMemory.{coordinatorWords}
 use Rattle.model.specs.Network.{Network, siteAt, afterArrival}
-use Rattle.model.specs.NetworkMemory.{sitesWords, networkIn, networkRefusal, networkTooShort, networkConsistent}
-use Rattle.model.specs.Runs.{Run, Batch, batchRefusal, batchFrom, batchOf, freshBatch}
+use Rattle.model.specs.NetworkMemory.{sitesWords, networkRefusal, networkTooShort, networkConsistent}
+use Rattle.model.specs.Runs.{Batch, batchRefusal, batchFrom, batchOf}
 use Rattle.model.specs.SoundNetwork.{Sound}
 use Rattle.model.proofs.RefusalLaws.{both-accepted, passed}
 use Rattle.model.proofs.ConsistentSites.{length-countersIn}
@@ -36,8 +32,8 @@ use Rattle.tracker.specs.declared.BatchAnswer.{BatchAnswer}
 use Rattle.tracker.specs.Batch.{BatchCall, BatchLent, BatchSays, startRefusal, batchIn, unlessRefused}
 use Rattle.history.specs.State.{Held, State, networkOf, recordAt}
 use Rattle.history.specs.Histories.{batchCall, afterBatch}
-use Rattle.history.proofs.SitesMemory.{offset, getD-sitesIn, sitesMemory-sitesIn, siteRecords-sitesIn}
-use Rattle.history.proofs.BatchRuns.{GoesOn, batch-goes-on}
+use Rattle.history.proofs.SitesMemory.{offset, getD-sitesIn}
+use Rattle.history.proofs.SitesWritten.{sitesMemory-sitesIn, siteRecords-sitesIn}
 
 -- ---- A batch of the model that accepts nothing
 

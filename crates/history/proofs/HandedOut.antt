@@ -4,10 +4,10 @@
 --   one-out, two-out           a count and one place, or two: the list that they hold
 --   received-few, answered-few, observed-few, announced-few   how many messages a step hands out
 --   messagesIn-written         a log's messages are those that were written
-use mathlib.Core.Path.{_≡_, refl, sym, ap, _∙_}
+use mathlib.Core.Path.{_≡_, refl, ap}
 use mathlib.Core.Bool.{Bool, true, false}
 use mathlib.Core.List.{List, [], _∷_, _++_}
-use Prim.Native.Nat.{ℕ, zero, suc, _+_, _≤_}
+use Prim.Native.Nat.{ℕ, _+_, _≤_}
 use native.Mathlib.Omega.{arith}
 use lib.Dec.{eqb, ltb, leb}
 use lib.ListN.{length, getD, take}
@@ -20,7 +20,7 @@ use Rattle.model.specs.Choice.{if_then_else_}
 use Rattle.model.specs.Settings.{thresholdOf}
 use Rattle.model.specs.Messages.{isPoll, isProbe, isItemReport, itemReport, countReport}
 use Rattle.model.specs.Site.{Site, SiteStep, reportsItem, reportsCount, reportedValue, observed, siteReceives}
-use Rattle.model.specs.Coordinator.{Coordinator, CoordinatorStep, closesRound, closed, narrowed, halved, enough, middle, receivesIn, coordinatorReceives, announcedIn, announced}
+use Rattle.model.specs.Coordinator.{Coordinator, CoordinatorStep, closesRound, closed, narrowed, enough, middle, receivesIn, coordinatorReceives, announcedIn, announced}
 use Rattle.tracker.specs.Batch.{messageNumbers, messagesIn}
 
 -- ---- Places of an answer

@@ -8,13 +8,12 @@
 --   SoundParts, SoundHeld, sound-of-standing   sites and coordinator are sound, numbers within the limit
 --   head-of-standing                 the head of the queue is accepted
 --   run-of-standing                  the accepted arrivals, and the messages as the first of a run
-use mathlib.Core.Path.{_≡_, refl, sym, ap, _∙_, subst}
-use mathlib.Core.Bool.{Bool, true, false}
+use mathlib.Core.Path.{_≡_, sym, ap, _∙_, subst}
+use mathlib.Core.Bool.{false}
 use mathlib.Core.List.{List, [], _∷_, _++_, append-assoc, append-nil}
 use Prim.Native.Nat.{ℕ, suc, _+_, _≤_, _<_}
 use native.Mathlib.Omega.{arith}
-use lib.ListN.{length, take}
-use lib.Seq.{take-length, take-append-seam}
+use lib.ListN.{length}
 use borrow.Author.Tests.{eq-eqb}
 use Rattle.model.specs.declared.Settings.{Settings}
 use Rattle.model.specs.declared.Arrival.{Arrival}
@@ -23,14 +22,14 @@ use Rattle.model.specs.Refusals.{accepted}
 use Rattle.model.specs.Settings.{settingsRefusal}
 use Rattle.model.specs.Coordinator.{isAnnouncing}
 use Rattle.model.specs.Network.{Network, Delivered, siteAt, deliveryFuel, afterArrival}
-use Rattle.model.specs.Runs.{Run, refusalIn, withArrival, runOne, runOf}
+use Rattle.model.specs.Runs.{Run, refusalIn, withArrival, runOf}
 use Rattle.model.specs.SoundNetwork.{SoundSite, SoundCoordinator}
-use Rattle.model.specs.DeliveryClaims.{Delivery, delivery, deliverySteps, outcome, deliveryOf, messageRefusal}
+use Rattle.model.specs.DeliveryClaims.{Delivery, delivery, deliverySteps, deliveryOf, messageRefusal}
 use Rattle.model.specs.SoundClaims.{Reached, InMidDelivery}
 use Rattle.model.proofs.RunLaws.{runFrom-append}
 use Rattle.model.proofs.SoundTheorem.{sound-claims}
 use Rattle.model.proofs.ConsistentCoordinator.{CoordinatorWithin}
-use Rattle.history.specs.State.{State, AtRest, networkOf}
+use Rattle.history.specs.State.{State, networkOf}
 use Rattle.history.proofs.RunSound.{sound-run, within-of-run}
 use Rattle.history.proofs.DeliveryLogs.{LogGrows, steps-grow}
 use Rattle.history.proofs.Decoded.{Lengths}

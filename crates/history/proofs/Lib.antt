@@ -1,10 +1,13 @@
 -- The demands over every history of calls.
 pub mod SiteParts
 pub mod SitesMemory
+pub mod SitesWritten
+pub mod Answers
 pub mod RunSound
 pub mod BatchRuns
 pub mod HandedOut
 pub mod Decoded
+pub mod DecodedCoordinator
 pub mod DeliveryLogs
 pub mod Invariant
 pub mod EmptyBatch

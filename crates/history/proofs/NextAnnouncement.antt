@@ -24,9 +24,9 @@ use Rattle.history.specs.State.{Held, State, networkOf, afterCoordinator
 use Rattle.history.specs.Histories.{receivedOut}
 use Rattle.history.proofs.RunSound.{sound-run}
 use Rattle.history.proofs.HandedOut.{one-out, announced-few}
-use Rattle.history.proofs.Decoded.{network-announced}
+use Rattle.history.proofs.DecodedCoordinator.{network-announced}
 use Rattle.history.proofs.Invariant.{StateOk, Resting, Delivering}
-use Rattle.history.proofs.StartedState.{accepted-choice}
+use Rattle.history.proofs.Answers.{accepted-choice}
 use Rattle.history.proofs.DeliveredStep.{goes-on-ok}
 
 module _ {settings : Settings} (passes : settingsRefusal settings ≡ accepted) {n : ℕ} (before : State)

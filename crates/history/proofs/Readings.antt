@@ -2,26 +2,21 @@
 -- held is the run's, and the claims over runs hold of it.
 --
 --   reads-right     list, margin and quantile
-use mathlib.Core.Path.{_≡_, refl, sym, ap, _∙_, subst}
-use mathlib.Core.Bool.{Bool, true, false, _&&_}
-use mathlib.Core.List.{List, [], _∷_, _++_}
-use lib.IntN.{ℤ, pos}
+use mathlib.Core.Path.{_≡_, sym, ap, _∙_, subst}
+use mathlib.Core.Bool.{true, false}
+use mathlib.Core.List.{List}
 use Prim.Native.Nat.{ℕ, _+_, _-_, _*_, _≤_, _<_}
-use native.Mathlib.Omega.{arith}
-use lib.Dec.{leb, ltb}
+use lib.Dec.{ltb}
 use lib.ListN.{length, getD, take, drop}
 use lib.Seq.{take-append-seam}
 use borrow.Author.Tests.{lt-ltb, le-ltb, le-leb, lt-leb}
 use Rattle.laws.proofs.Tests.{and-false}
 use Rattle.model.specs.declared.Settings.{Settings}
 use Rattle.model.specs.declared.Arrival.{Arrival}
-use Rattle.model.specs.declared.Quantile.{Quantile}
-use Rattle.model.specs.declared.Quantile.the-variants.{Nothing, Value}
-use Rattle.model.specs.Choice.{if_then_else_, isZero}
-use Rattle.model.specs.Refusals.{when, accepted, unknownItem, listTooShort}
+use Rattle.model.specs.Refusals.{when, accepted, listTooShort}
 use Rattle.model.specs.Settings.{settingsRefusal}
 use Rattle.model.specs.Coordinator.{Coordinator}
-use Rattle.model.specs.CoordinatorMemory.{coordinatorMemoryRefusal, coordinatorIn}
+use Rattle.model.specs.CoordinatorMemory.{coordinatorMemoryRefusal}
 use Rattle.model.specs.Reading.{isListed, heavyHitters, margin, quantileOf}
 use Rattle.model.specs.Network.{Network}
 use Rattle.model.specs.Runs.{Run, runOf}
@@ -30,12 +25,12 @@ use Rattle.model.proofs.Theorem.{demands-over-runs}
 use Rattle.reading.specs.declared.Listed.{Listed}
 use Rattle.reading.specs.declared.Margin.{Margin}
 use Rattle.reading.specs.declared.QuantileRead.{QuantileRead}
-use Rattle.reading.specs.Contracts.{Lists, listRefusal, ReadsMargin, marginRefusal, ReadsQuantile}
+use Rattle.reading.specs.Contracts.{Lists, listRefusal, ReadsMargin, ReadsQuantile}
 use Rattle.history.specs.State.{State, networkOf}
 use Rattle.history.specs.Reading.{rulesCoordinator, listedIn, ListRight, MarginRight, QuantileRight, ReadsRight}
 use Rattle.history.proofs.Invariant.{StateOk, Resting}
 use Rattle.history.proofs.Accepted.{memory-accepted, refused-by-rules}
-use Rattle.history.proofs.StartedState.{accepted-choice}
+use Rattle.history.proofs.Answers.{accepted-choice}
 
 module _ {settings : Settings} (passes : settingsRefusal settings ≡ accepted) {n : ℕ} {state : State}
     (ok : StateOk settings n state) (rest : Resting settings state) where

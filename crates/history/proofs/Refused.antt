@@ -3,44 +3,21 @@
 --
 --   refused-same     the state after such a call
 use mathlib.Core.Path.{_≡_, refl, sym, ap, _∙_}
-use mathlib.Core.Bool.{Bool, true, false}
-use mathlib.Core.List.{List, [], _∷_, _++_, append-nil}
-use Prim.Native.Nat.{ℕ, zero, suc, _+_, _*_, _≤_, _<_}
-use native.Mathlib.Omega.{arith}
-use lib.Dec.{eqb, ltb}
-use lib.ListN.{length, getD, set, take, drop, take-append-drop}
+use mathlib.Core.List.{List, _++_}
+use Prim.Native.Nat.{ℕ, _+_}
+use lib.ListN.{set, take, drop, take-append-drop}
 use lib.Seq.{set-getD, drop-drop}
-use borrow.Author.Tests.{ne-eqb, eq-eqb, eqb-true, ltb-false, not-false}
-use Rattle.laws.proofs.Tests.{both-true, neither-of-or}
-use Rattle.model.specs.declared.Settings.{Settings}
-use Rattle.model.specs.declared.Arrival.{Arrival}
-use Rattle.model.specs.declared.Message.{Message}
 use Rattle.model.specs.declared.SiteRecord.{SiteRecord}
-use Rattle.model.specs.declared.Sites.{Sites}
 use Rattle.model.specs.declared.CoordinatorRecord.{CoordinatorRecord}
-use Rattle.model.specs.Choice.{if_then_else_, isZero}
 use Rattle.model.specs.Refusals.{accepted}
-use Rattle.model.specs.Settings.{settingsRefusal}
 use Rattle.model.specs.Site.{freshSite}
 use Rattle.model.specs.SiteMemory.{siteRecord}
-use Rattle.model.specs.NetworkMemory.{networkRefusal, networkTooShort, networkConsistent}
-use Rattle.model.specs.Runs.{Run, freshRun, runFrom}
-use Rattle.site_steps.specs.declared.Observed.{Observed}
-use Rattle.site_steps.specs.declared.Answered.{Answered}
 use Rattle.site.specs.Calls as SiteCalls
-use Rattle.coordinator.specs.declared.Received.{Received}
 use Rattle.coordinator.specs.Calls as CoordinatorCalls
-use Rattle.tracker.specs.declared.BatchAnswer.{BatchAnswer}
-use Rattle.tracker.specs.Batch.{BatchLent, BatchSays}
-use Rattle.history.specs.State.{Held, State, recordAt, partOf, withPart, withRecord, afterSiteCall, afterCoordinatorCall, holding}
+use Rattle.history.specs.State.{Held, State, recordAt, partOf, withPart, afterSiteCall, afterCoordinatorCall, holding}
 use Rattle.history.specs.Histories.{Refuses, arrival-refused, site-message-refused, coordinator-message-refused, announcement-refused, batch-accepts-nothing}
+use Rattle.history.proofs.Answers.{refused-choice}
 use Rattle.history.proofs.EmptyBatch.{batch-same}
-
--- What is chosen where a call refuses.
-pub refused-choice : {A : Type 0} (refusal : ℕ) (chosen other : A)
-    → (refusal ≡ accepted → ⊥)
-    → (if isZero refusal then chosen else other) ≡ other
-refused-choice refusal chosen other refused = rw (ne-eqb refusal 0 refused)
 
 -- A part of a memory put back as it was.
 part-same : (memory : List ℕ) (start words : ℕ)

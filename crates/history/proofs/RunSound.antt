@@ -6,27 +6,27 @@
 --   within-of-run                 the coordinator's numbers are within the limit
 --   messages-within               n and the messages of a run
 -- Letters: n arrivals, k sites.
-use mathlib.Core.Path.{_≡_, refl, sym, ap, _∙_}
+use mathlib.Core.Path.{_≡_, refl}
 use mathlib.Core.Bool.{Bool, true, false}
 use mathlib.Core.List.{List, [], _∷_}
-use Prim.Native.Nat.{ℕ, zero, suc, _+_, _*_, _≤_, _<_}
+use Prim.Native.Nat.{ℕ, zero, suc, _*_, _≤_}
 use native.Mathlib.Nat.{mul-le-mul-right}
 use native.Mathlib.Omega.{arith}
-use lib.ListN.{length, getD, replicate}
+use lib.ListN.{length, replicate}
 use borrow.Author.Tests.{eqb-true}
 use Rattle.laws.proofs.Lists.{getD-replicate-default}
 use Rattle.model.specs.declared.Settings.{Settings}
 use Rattle.model.specs.declared.Arrival.{Arrival}
 use Rattle.model.specs.Choice.{isZero}
 use Rattle.model.specs.Refusals.{accepted}
-use Rattle.model.specs.Limits.{valueCount, coordinatorLimit, messageLimit}
+use Rattle.model.specs.Limits.{valueCount, messageLimit}
 use Rattle.model.specs.Settings.{settingsRefusal}
-use Rattle.model.specs.Site.{Site, freshSite}
-use Rattle.model.specs.Network.{Network, freshNetwork, afterArrival}
+use Rattle.model.specs.Site.{freshSite}
+use Rattle.model.specs.Network.{Network, freshNetwork}
 use Rattle.model.specs.NetworkMemory.{allArrivals}
 use Rattle.model.specs.Runs.{refusalIn, Run, freshRun, runOne, runFrom, runOf}
 use Rattle.model.specs.Claims.{counted}
-use Rattle.model.specs.SoundNetwork.{estimateOf, countOfValue, Sound}
+use Rattle.model.specs.SoundNetwork.{Sound}
 use Rattle.model.specs.NumberClaims.{allUnreported, Grown}
 use Rattle.model.proofs.SettingsLaws.{Settled, settled}
 use Rattle.model.proofs.SoundTheorem.{sound-claims}

@@ -3,30 +3,26 @@
 --
 --   single-ok     the invariant of that state
 use mathlib.Core.Path.{_≡_, refl, sym, ap, _∙_, subst}
-use mathlib.Core.Bool.{Bool, true, false}
 use mathlib.Core.List.{List, [], _∷_, _++_}
-use Prim.Native.Nat.{ℕ, _+_, _*_, _≤_, _<_, min}
+use Prim.Native.Nat.{ℕ, _+_, _≤_, _<_}
 use native.Mathlib.Omega.{arith}
-use lib.Dec.{ltb}
-use lib.ListN.{length, getD, take, drop, length-append, length-take}
-use borrow.Author.Tests.{ltb-false}
+use lib.ListN.{length, getD, take, drop, length-append}
 use Rattle.model.specs.declared.Settings.{Settings}
 use Rattle.model.specs.declared.Arrival.{Arrival}
 use Rattle.model.specs.declared.Message.{Message}
 use Rattle.model.specs.declared.SiteRecord.{SiteRecord}
 use Rattle.model.specs.Refusals.{accepted}
-use Rattle.model.specs.Limits.{valueCount}
 use Rattle.model.specs.Settings.{settingsRefusal}
 use Rattle.model.specs.Messages.{noMessage}
 use Rattle.model.specs.Site.{Site, arrivalRefusal, observed}
-use Rattle.model.specs.SiteMemory.{siteWords, siteIn, siteRecord, siteMemory, siteMemoryRefusal, siteConsistent}
+use Rattle.model.specs.SiteMemory.{siteWords, siteIn, siteRecord, siteMemory, siteMemoryRefusal}
 use Rattle.model.specs.Network.{Network, siteAt, withSite}
 use Rattle.model.specs.Runs.{Run, refusalIn, runOf}
 use Rattle.model.specs.SoundNetwork.{SoundSite}
-use Rattle.model.specs.DeliveryClaims.{Delivery, delivery, deliveryOf}
+use Rattle.model.specs.DeliveryClaims.{delivery, deliveryOf}
 use Rattle.model.specs.SoundClaims.{Reached, begun}
-use Rattle.model.proofs.RefusalLaws.{BothAccepted, both-accepted, passed}
-use Rattle.model.proofs.SettingsLaws.{Settled, settled}
+use Rattle.model.proofs.RefusalLaws.{BothAccepted, both-accepted}
+use Rattle.model.proofs.SettingsLaws.{settled}
 use Rattle.model.proofs.SoundSites.{ArrivalTaken, taken-of-no-refusal, sound-observed}
 use Rattle.site_steps.specs.declared.Observed.{Observed}
 use Rattle.site.specs.Calls as SiteCalls
@@ -36,20 +32,7 @@ use Rattle.history.proofs.HandedOut.{two-out, observed-few}
 use Rattle.history.proofs.Decoded.{site-part, lengths-site-written, network-site-written}
 use Rattle.history.proofs.Invariant.{StateOk, Resting, Delivering, delivering}
 use Rattle.history.proofs.Accepted.{held-sound, resting-of}
-use Rattle.history.proofs.StartedState.{accepted-choice}
-
--- Memory that a call on a site accepts is long enough; so is a part of so many numbers.
-pub accepted-long : (settings : Settings) (numbers : SiteRecord) (memory : List ℕ)
-    → siteMemoryRefusal settings numbers memory ≡ accepted
-    → siteWords settings ≤ length memory
-accepted-long settings numbers memory none =
-    let rows = both-accepted (settingsRefusal settings) _ none in
-    ltb-false (length memory) (siteWords settings)
-    (passed (ltb (length memory) (siteWords settings)) 4 _ (omega arith) (rows .later-accepted)
-    .test-failed)
-
-pub words-enough : (words n : ℕ) (memory : List ℕ) → words ≤ length (take n memory) → words ≤ n
-words-enough words n memory long = omega (arith, length-take n memory)
+use Rattle.history.proofs.Answers.{accepted-choice, accepted-long, words-enough}
 
 module _ {settings : Settings} (passes : settingsRefusal settings ≡ accepted) {n : ℕ} (before : State)
     (ok : StateOk settings n before) (at-rest : AtRest before)

@@ -8,16 +8,15 @@
 use mathlib.Core.Path.{_≡_, refl, ap, sym, _∙_}
 use mathlib.Core.Bool.{Bool, true, false}
 use mathlib.Core.List.{List, [], _∷_, _++_, append-assoc}
-use Prim.Native.Nat.{ℕ, zero, suc, _+_, _*_, _≤_, _<_, min}
+use Prim.Native.Nat.{ℕ, zero, suc, _+_, _*_, _≤_}
 use native.Mathlib.Omega.{arith}
-use lib.ListN.{length, getD, take, drop, replicate, length-append, length-drop, length-take, length-replicate, take-append-drop, List·getD-append, replicate-append-replicate}
-use lib.Seq.{length-take-le, take-append-le, drop-append-le, take-at, drop-at}
+use lib.ListN.{length, take, drop, replicate, length-drop, length-take, length-replicate, take-append-drop, List·getD-append, replicate-append-replicate}
+use lib.Seq.{take-append-le, drop-append-le, take-at, drop-at}
 use Rattle.model.specs.declared.Settings.{Settings}
 use Rattle.model.specs.declared.SiteRecord.{SiteRecord}
 use Rattle.model.specs.declared.Message.{Message}
 use Rattle.model.specs.Limits.{valueCount}
 use Rattle.model.specs.Messages.{isPoll, isProbe}
-use Rattle.model.specs.Counters.{Counter}
 use Rattle.model.specs.Site.{Site, freshSite, siteReceives}
 use Rattle.model.specs.SiteMemory.{counterWords, siteWords, counterIn, countersIn, counterNumbers, siteIn, siteRecord, siteMemory, overwrite}
 use Rattle.counters.proofs.CounterMemory.{length-countersIn}

@@ -1,28 +1,24 @@
 -- The state that the two start calls leave: fresh records, and memory that holds a fresh network.
 --
 --   start-ok     the invariant of that state
-use mathlib.Core.Path.{_≡_, refl, sym, ap, _∙_, subst}
-use mathlib.Core.Bool.{Bool, true, false}
-use mathlib.Core.List.{List, [], _∷_, _++_}
-use Prim.Native.Nat.{ℕ, _+_, _*_, _≤_, _<_}
+use mathlib.Core.Path.{_≡_, refl, sym, _∙_, subst}
+use mathlib.Core.List.{List}
+use Prim.Native.Nat.{ℕ, _≤_}
 use native.Mathlib.Omega.{arith}
 use lib.Dec.{ltb}
-use lib.ListN.{length, drop, replicate, length-replicate, length-append}
-use borrow.Author.Tests.{ltb-false, eq-eqb}
+use lib.ListN.{length, drop, replicate, length-replicate}
+use borrow.Author.Tests.{ltb-false}
 use Rattle.laws.proofs.FlatMemory.{length-overwritten}
 use Rattle.model.specs.declared.Settings.{Settings}
-use Rattle.model.specs.declared.Sites.{Sites}
-use Rattle.model.specs.declared.CoordinatorRecord.{CoordinatorRecord}
-use Rattle.model.specs.Choice.{if_then_else_, isZero}
 use Rattle.model.specs.Refusals.{accepted}
 use Rattle.model.specs.Limits.{mostSites, valueCount}
 use Rattle.model.specs.Settings.{settingsRefusal}
-use Rattle.model.specs.Site.{Site, freshSite}
-use Rattle.model.specs.SiteMemory.{siteWords, siteRecord}
+use Rattle.model.specs.Site.{freshSite}
+use Rattle.model.specs.SiteMemory.{siteRecord}
 use Rattle.model.specs.Coordinator.{Coordinator, freshCoordinator}
 use Rattle.model.specs.CoordinatorMemory.{coordinatorWords, coordinatorIn, coordinatorRecord, coordinatorMemory}
-use Rattle.model.specs.Network.{Network, freshNetwork}
-use Rattle.model.specs.NetworkMemory.{sitesWords, sitesIn, freshSites, networkIn}
+use Rattle.model.specs.Network.{freshNetwork}
+use Rattle.model.specs.NetworkMemory.{sitesWords, sitesIn, freshSites}
 use Rattle.model.proofs.RefusalLaws.{both-accepted, passed}
 use Rattle.model.proofs.SettingsLaws.{Settled, settled}
 use Rattle.coordinator_steps.proofs.MemoryLaws.{written-coordinator}
@@ -32,15 +28,11 @@ use Rattle.coordinator.specs.declared.StartedCoordinator.{StartedCoordinator}
 use Rattle.coordinator.specs.Calls as CoordinatorCalls
 use Rattle.history.specs.State.{State, networkOf}
 use Rattle.history.specs.Histories.{startState}
-use Rattle.history.proofs.SitesMemory.{sitesIn-fresh}
+use Rattle.history.proofs.Answers.{accepted-choice}
+use Rattle.history.proofs.SitesWritten.{sitesIn-fresh}
 use Rattle.history.proofs.Decoded.{Lengths}
-use Rattle.history.proofs.Invariant.{Resting, StateOk, resting}
-
--- What is chosen where a call accepts.
-pub accepted-choice : {A : Type 0} (refusal : ℕ) (chosen other : A)
-    → refusal ≡ accepted
-    → (if isZero refusal then chosen else other) ≡ chosen
-accepted-choice refusal chosen other none = rw (eq-eqb refusal 0 none)
+use Rattle.history.proofs.DecodedCoordinator.{length-coordinatorMemory}
+use Rattle.history.proofs.Invariant.{StateOk, resting}
 
 -- ---- The two memories
 
@@ -82,12 +74,8 @@ module _ (settings : Settings) (passes : settingsRefusal settings ≡ accepted)
   lengths-fresh : Lengths settings (freshState .held)
   lengths-fresh =
       let zeros = replicate {A = ℕ} (sitesWords settings) 0 in
-      let numbers = fresh .estimates ++ fresh .histogram in
       let few : length zeros ≡ sitesWords settings =
       length-replicate {A = ℕ} (sitesWords settings) 0 in
-      let width : length numbers ≡ coordinatorWords settings =
-      length-append (fresh .estimates) (fresh .histogram)
-      ∙ omega (arith, estimates-long, values-long) in
       record {
         all-records = length-replicate mostSites (siteRecord freshSite);
         sites-long =
@@ -95,7 +83,8 @@ module _ (settings : Settings) (passes : settingsRefusal settings ≡ accepted)
         coordinator-long =
             omega (
               arith,
-              length-overwritten numbers coordinatorBefore (omega (arith, width)),
+              length-coordinatorMemory settings fresh coordinatorBefore estimates-long values-long
+                  coordinator-long,
               coordinator-long,
             );
       }

@@ -3,8 +3,8 @@
 --
 --   Arisen, arisen    the invariant of every reachable state
 --   demands           the theorem
-use mathlib.Core.Path.{_≡_, refl, sym, ap, _∙_, subst}
-use mathlib.Core.List.{List, [], _∷_, _++_}
+use mathlib.Core.Path.{_≡_, sym, ap, _∙_, subst}
+use mathlib.Core.List.{List}
 use Prim.Native.Nat.{ℕ, suc, _+_, _*_, _≤_}
 use native.Mathlib.Nat.{mul-le-mul-left}
 use native.Mathlib.Omega.{arith}
@@ -18,9 +18,9 @@ use Rattle.model.specs.Settings.{settingsRefusal, digits, allowance}
 use Rattle.model.specs.Runs.{Run, runOf}
 use Rattle.model.specs.Claims.{counted, FewMessages}
 use Rattle.model.proofs.Theorem.{demands-over-runs}
-use Rattle.history.specs.State.{State, AtRest}
-use Rattle.history.specs.Histories.{Arrives, batch, single, Step, arrives, delivers, refuses, Reachable, started, stepped}
-use Rattle.history.specs.Demands.{First, AsRulesAtRest, Second, Third, Demands}
+use Rattle.history.specs.State.{State}
+use Rattle.history.specs.Histories.{batch, single, Step, arrives, delivers, refuses, Reachable, started, stepped}
+use Rattle.history.specs.Demands.{First, Second, Third, Demands}
 use Rattle.history.proofs.Invariant.{StateOk, BeginsRun, run-of-standing}
 use Rattle.history.proofs.Accepted.{memory-accepted, refused-by-rules, resting-of}
 use Rattle.history.proofs.Readings.{reads-right}

@@ -3,18 +3,17 @@
 --   to-coordinator-ok     the invariant of that state
 use mathlib.Core.Path.{_≡_, refl, sym, _∙_, subst}
 use mathlib.Core.Bool.{true}
-use mathlib.Core.List.{List, [], _∷_, _++_}
-use Prim.Native.Nat.{ℕ, suc, _+_}
+use mathlib.Core.List.{List, [], _∷_}
+use Prim.Native.Nat.{ℕ, suc}
 use native.Mathlib.Omega.{arith}
-use lib.ListN.{length, take, length-append}
-use Rattle.laws.proofs.FlatMemory.{length-overwritten}
+use lib.ListN.{take}
 use Rattle.model.specs.declared.Settings.{Settings}
 use Rattle.model.specs.declared.Message.{Message}
 use Rattle.model.specs.Refusals.{accepted}
 use Rattle.model.specs.Settings.{settingsRefusal}
 use Rattle.model.specs.Messages.{noMessage, toCoordinator}
 use Rattle.model.specs.Coordinator.{CoordinatorStep, coordinatorReceives}
-use Rattle.model.specs.CoordinatorMemory.{coordinatorWords, coordinatorRecord, coordinatorMemory}
+use Rattle.model.specs.CoordinatorMemory.{coordinatorRecord, coordinatorMemory}
 use Rattle.model.specs.Network.{Network, Delivered, handToCoordinator, handOver}
 use Rattle.model.specs.Runs.{runOf}
 use Rattle.model.specs.SoundNetwork.{SoundCoordinator}
@@ -25,9 +24,10 @@ use Rattle.coordinator.specs.Calls as CoordinatorCalls
 use Rattle.history.specs.State.{Held, State, networkOf, afterCoordinatorCall, sending}
 use Rattle.history.specs.Histories.{receivedOut}
 use Rattle.history.proofs.HandedOut.{one-out, received-few}
-use Rattle.history.proofs.Decoded.{Lengths, network-coordinator-written}
+use Rattle.history.proofs.Decoded.{Lengths}
+use Rattle.history.proofs.DecodedCoordinator.{length-coordinatorMemory, network-coordinator-written}
 use Rattle.history.proofs.Invariant.{StateOk, Delivering}
-use Rattle.history.proofs.StartedState.{accepted-choice}
+use Rattle.history.proofs.Answers.{accepted-choice}
 use Rattle.history.proofs.DeliveredStep.{goes-on-ok, handed-on, coordinator-sound-then}
 
 module _ {settings : Settings} (passes : settingsRefusal settings ≡ accepted) {n : ℕ} (before : State)
@@ -90,27 +90,18 @@ module _ {settings : Settings} (passes : settingsRefusal settings ≡ accepted) 
     lengths-then : Lengths settings
         (afterCoordinatorCall held (coordinatorRecord (step .coordinator))
         (coordinatorMemory (step .coordinator) (held .coordinatorMemory)))
-    lengths-then =
-        let c = step .coordinator in
-        let numbers = c .estimates ++ c .histogram in
-        let width : length numbers ≡ coordinatorWords settings =
-        length-append (c .estimates) (c .histogram)
-        ∙ omega (
-          arith,
-          sound-then .numbers .estimates-length,
-          sound-then .numbers .histogram-length,
-        ) in
-        record {
-          all-records = ok .lengths .all-records;
-          sites-long = ok .lengths .sites-long;
-          coordinator-long =
-              omega (
-                arith,
-                length-overwritten numbers (held .coordinatorMemory)
-                    (omega (arith, width, ok .lengths .coordinator-long)),
-                ok .lengths .coordinator-long,
-              );
-        }
+    lengths-then = record {
+      all-records = ok .lengths .all-records;
+      sites-long = ok .lengths .sites-long;
+      coordinator-long =
+          omega (
+            arith,
+            length-coordinatorMemory settings (step .coordinator) (held .coordinatorMemory)
+                (sound-then .numbers .estimates-length) (sound-then .numbers .histogram-length)
+                (ok .lengths .coordinator-long),
+            ok .lengths .coordinator-long,
+          );
+    }
 
     pub to-coordinator-ok : After
         (sending before (afterCoordinatorCall held (answer .coordinator) memory) later

@@ -30,8 +30,7 @@ use Rattle.history.proofs.HandedOut.{one-out, answered-few}
 use Rattle.history.proofs.Decoded.{site-part, lengths-site-told, network-site-told}
 use Rattle.history.proofs.Invariant.{StateOk, Delivering}
 use Rattle.history.proofs.Accepted.{held-sound}
-use Rattle.history.proofs.StartedState.{accepted-choice}
-use Rattle.history.proofs.SingleState.{accepted-long, words-enough}
+use Rattle.history.proofs.Answers.{accepted-choice, accepted-long, words-enough}
 use Rattle.history.proofs.DeliveredStep.{goes-on-ok, handed-on}
 
 module _ {settings : Settings} (passes : settingsRefusal settings ≡ accepted) {n : ℕ} (before : State)

@@ -4,6 +4,7 @@ pub mod SettingsLaws
 pub mod Digits
 pub mod DecimalLaws
 pub mod LineLaws
+pub mod ReadBack
 pub mod Halving
 pub mod Threshold
 pub mod Growth
@@ -39,7 +40,7 @@ pub mod ListLaws
 pub mod RunLaws
 pub mod RunInvariant
 pub mod Theorem
-pub mod ReadBack
+pub mod Instances
 pub mod SoundCounters
 pub mod SoundSites
 pub mod CoordinatorSound
@@ -62,4 +63,3 @@ pub mod NumberTheorem
 pub mod ConsistentSites
 pub mod ConsistentCoordinator
 pub mod ConsistentNetwork
-pub mod Instances

@@ -16,7 +16,7 @@ coordinator-from-requires c κs =
     let at-if1 = c in
     let a = at-if1 .before .before .before .before .before .before .before .args in
     let lends = coordinator-is (a .settings .now) (a .numbers .now) (length (a .out .now)) 1
-        (sym (at-if1 .before .coordinator-lent .ensures) ∙ at-if1 .if1 .taken) in
+    (sym (at-if1 .before .coordinator-lent .ensures) ∙ at-if1 .if1 .taken) in
     (lends .numbers-long, lends .held)
 
 settings-from-requires : tie.Need-settings-from-requires
@@ -53,8 +53,8 @@ returns c =
     let at-if1 = at-coordinator-from .before in
     let a = at-if1 .before .before .before .before .before .before .before .args in
     let says =
-        rw (at-settings-from .settings-from .ensures, at-coordinator-from .coordinator-from .ensures)
-        at (at-list-heavy-hitters .list-heavy-hitters .ensures) in
+    rw (at-settings-from .settings-from .ensures, at-coordinator-from .coordinator-from .ensures)
+    at (at-list-heavy-hitters .list-heavy-hitters .ensures) in
     exported-handed _ _ _ (sym (at-if1 .before .coordinator-lent .ensures) ∙ at-if1 .if1 .taken)
     record {
       refusal = says .refusal;

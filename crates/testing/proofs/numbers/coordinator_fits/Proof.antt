@@ -70,7 +70,7 @@ returns-3 c =
     let interval = at-interval .larger2 in
     let phase = at-phase .larger3 in
     let phase-is =
-        phase .ensures ∙ ap (λ (n : ℕ). max (getD numbers 6 0) n) (interval .ensures) in
+    phase .ensures ∙ ap (λ (n : ℕ). max (getD numbers 6 0) n) (interval .ensures) in
     rw (
       le-leb 10 _ (at-if2 .before .before .if1 .left),
       le-leb _ 3 (at-if2 .if2 .left),

@@ -130,7 +130,7 @@ module _ {settings : Settings} (passes : settingsRefusal settings ≡ accepted) 
   done x y z is = is ∙ rw (eq-eqb (startRefusal call) 0 none)
 
   -- The state, by the model's batch.
-  abbrev after : State
+  abbrev pub after : State
   after = record {
     held = networkWritten settings (before .held) (batch .network)
         (before .held .sites .messages + length (batch .messages));
@@ -140,7 +140,7 @@ module _ {settings : Settings} (passes : settingsRefusal settings ≡ accepted) 
     logged = before .logged + length (batch .messages);
   }
 
-  after-is : afterBatch before arrivals lent answer ≡ after
+  pub after-is : afterBatch before arrivals lent answer ≡ after
   after-is =
       let sites = done (answer .sites) _ _ (says .sites) in
       let coordinator = done (answer .coordinator) _ _ (says .coordinator) in
@@ -180,7 +180,7 @@ module _ {settings : Settings} (passes : settingsRefusal settings ≡ accepted) 
   network-then : batch .network ≡ runOf settings (after .accepted) .network
   network-then = as-run .network-is ∙ ap (λ (run : Run). run .network) (sym run-on)
 
-  sound-then : Sound settings (batch .network)
+  pub sound-then : Sound settings (batch .network)
   sound-then =
       subst (Sound settings) (sym network-then)
       (sound-run settings passes (after .accepted) .sound)

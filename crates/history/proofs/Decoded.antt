@@ -59,7 +59,7 @@ module _ {settings : Settings} (passes : settingsRefusal settings ≡ accepted) 
   in-records = omega (arith, lengths .all-records, fit .sites .at-most)
 
   -- The part of site j lies within the memory: (j + 1) * words ≤ k * words.
-  in-memory : siteStart settings j + words ≤ length (held .siteMemory)
+  pub in-memory : siteStart settings j + words ≤ length (held .siteMemory)
   in-memory =
       let next : j + 1 ≤ settings .sites = omega arith in
       omega (arith, mul-le-mul-right words next, lengths .sites-long)
@@ -129,7 +129,7 @@ module _ {settings : Settings} (passes : settingsRefusal settings ≡ accepted) 
         (siteMemory settings site (sitePart settings held j n)))
 
     -- The site written where its part starts.
-    memory-then : (n : ℕ) → words ≤ length (sitePart settings held j n)
+    pub memory-then : (n : ℕ) → words ≤ length (sitePart settings held j n)
         → putBack n .siteMemory ≡ written settings (siteStart settings j) site (held .siteMemory)
     memory-then n long =
         part-written settings site few values (siteStart settings j) n (held .siteMemory) long

@@ -32,7 +32,7 @@ module _ {settings : Settings} (passes : settingsRefusal settings ≡ accepted) 
   After after = StateOk settings (suc n) after
 
   -- At rest nothing waits.
-  no-head : (m : Message) (later : List Message)
+  pub no-head : (m : Message) (later : List Message)
       → before .waiting ≡ m ∷ later
       → Resting settings before
       → ⊥

@@ -2,6 +2,7 @@
 pub mod SiteParts
 pub mod SitesMemory
 pub mod SitesWritten
+pub mod FrameLaws
 pub mod Answers
 pub mod RunSound
 pub mod BatchRuns
@@ -22,6 +23,7 @@ pub mod ToSite
 pub mod NextAnnouncement
 pub mod DeliveredState
 pub mod GoesOn
+pub mod Kept
 pub mod Readings
 pub mod Theorem
 pub mod Example

@@ -65,10 +65,10 @@ module _ {settings : Settings} (passes : settingsRefusal settings ≡ accepted) 
       (arrivalRefusal settings (siteIn settings numbers given) arrival)
   parts = both-accepted (siteMemoryRefusal settings numbers given) _ none
 
-  long : siteWords settings ≤ length given
+  pub long : siteWords settings ≤ length given
   long = accepted-long settings numbers given (parts .first-accepted)
 
-  known : j < settings .sites
+  pub known : j < settings .sites
   known =
       taken-of-no-refusal settings (siteIn settings numbers given) arrival (parts .later-accepted)
       .known .site-known
@@ -79,7 +79,7 @@ module _ {settings : Settings} (passes : settingsRefusal settings ≡ accepted) 
       site-part passes held (ok .lengths) (held-sound passes ok .sites-sound) j known words
       (words-enough (siteWords settings) words (drop (siteStart settings j) (held .siteMemory)) long)
 
-  abbrev site : Site
+  abbrev pub site : Site
   site = observed settings (siteAt (networkOf settings held) j) arrival .site
 
   taken-here : ArrivalTaken settings (siteAt (networkOf settings held) j) arrival
@@ -88,12 +88,12 @@ module _ {settings : Settings} (passes : settingsRefusal settings ≡ accepted) 
       (subst (λ (s : Site). arrivalRefusal settings s arrival ≡ accepted) site-here
       (parts .later-accepted))
 
-  site-sound : SoundSite settings site
+  pub site-sound : SoundSite settings site
   site-sound =
       sound-observed (settled settings passes .capacity .at-least) taken-here
       (held-sound passes ok .sites-sound j known)
 
-  abbrev after : State
+  abbrev pub after : State
   after = record {
     held = afterSiteCall held j (siteRecord site)
         (withPart (held .siteMemory) (siteStart settings j) words
@@ -119,7 +119,7 @@ module _ {settings : Settings} (passes : settingsRefusal settings ≡ accepted) 
       ∙ two-out messages noMessage (observed-few settings (siteIn settings numbers given) arrival)
       ∙ ap (λ (s : Site). observed settings s arrival .messages) site-here
 
-  after-is : afterSingle settings before arrival words part answer ≡ after
+  pub after-is : afterSingle settings before arrival words part answer ≡ after
   after-is =
       let record-is : answer .site ≡ siteRecord site =
       says .site ∙ accepted-choice _ _ _ none

@@ -111,7 +111,7 @@ module _ (settings : Settings) where
         ∙ ap (siteMemory settings site) (take-append-drop n rest))
 
     -- What lies past a site's own numbers is as it was.
-    drop-siteMemory : (memory : List ℕ)
+    pub drop-siteMemory : (memory : List ℕ)
         → words ≤ length memory
         → drop words (siteMemory settings site memory) ≡ drop words memory
     drop-siteMemory memory long =

@@ -30,6 +30,7 @@ use Rattle.history.proofs.SingleState.{single-ok}
 use Rattle.history.proofs.DeliveredState.{delivered-ok}
 use Rattle.history.proofs.Refused.{refused-same}
 use Rattle.history.proofs.GoesOn.{delivery-goes-on}
+use Rattle.history.proofs.Kept.{tails-kept, others-kept}
 
 -- ---- The invariant of every reachable state
 
@@ -108,6 +109,9 @@ module _ (settings : Settings) (state : State) (passes : settingsRefusal setting
         demands-over-runs .tracks settings (take n (state .accepted)) passes;
     estimates-after-each = λ n.
         demands-over-runs .estimates-near settings (take n (state .accepted)) passes;
+    tails-kept = tails-kept passes state (there .ok);
+    others-kept = λ arrival words part answer rest says accepts.
+        others-kept passes state (there .ok) arrival words part answer rest says accepts;
   }
 
   -- The messages so far are no more than those of the run.

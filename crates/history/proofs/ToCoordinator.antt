@@ -67,12 +67,12 @@ module _ {settings : Settings} (passes : settingsRefusal settings ≡ accepted) 
         (suc n) (joining after later (mid .log)))
         over (handed-on before mid m later waits)
 
-    sound-then : SoundCoordinator settings (step .coordinator)
+    pub sound-then : SoundCoordinator settings (step .coordinator)
     sound-then =
         coordinator-sound-then passes before mid
         (joining (handToCoordinator settings network m) later (mid .log)) on
 
-    held-is : afterCoordinatorCall held (answer .coordinator) memory
+    pub held-is : afterCoordinatorCall held (answer .coordinator) memory
         ≡ afterCoordinatorCall held (coordinatorRecord (step .coordinator))
         (coordinatorMemory (step .coordinator) (held .coordinatorMemory))
     held-is =

@@ -65,7 +65,7 @@ module _ {settings : Settings} (passes : settingsRefusal settings ≡ accepted) 
         orElse siteMessageRefusal settings (siteIn settings (recordAt held j) given) j m)
     rows = both-accepted (siteMemoryRefusal settings (recordAt held j) given) _ none
 
-    known : j < settings .sites
+    pub known : j < settings .sites
     known =
         leb-false (settings .sites) j
         (passed (leb (settings .sites) j) unknownSite _ (omega arith) (rows .later-accepted)

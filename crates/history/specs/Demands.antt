@@ -31,6 +31,8 @@ use Rattle.model.specs.NetworkMemory.{networkRefusal}
 use Rattle.model.specs.Reading.{heavyHitters}
 use Rattle.model.specs.Runs.{Run, runOf, batchOf}
 use Rattle.model.specs.Claims.{counted, Tracks, Estimates}
+use Rattle.site_steps.specs.declared.Observed.{Observed}
+use Rattle.site.specs.Calls.{ObserveSays}
 use Rattle.site.specs.Calls as SiteCalls
 use Rattle.coordinator.specs.Calls as CoordinatorCalls
 use Rattle.reading.specs.Contracts.{listRefusal, marginRefusal}
@@ -38,7 +40,8 @@ use Rattle.tracker.specs.declared.BatchAnswer.{BatchAnswer}
 use Rattle.tracker.specs.Batch.{BatchLent, BatchSays, logRoom}
 use Rattle.history.specs.State.{State, AtRest, networkOf, recordAt, sitePart}
 use Rattle.history.specs.Reading.{ReadsRight}
-use Rattle.history.specs.Histories.{batchCall, Refuses, Reachable, Deliveries}
+use Rattle.history.specs.Frame.{TailsKept, OthersKept}
+use Rattle.history.specs.Histories.{batchCall, afterSingle, Refuses, Step, Reachable, Deliveries}
 
 -- ---- First
 
@@ -173,6 +176,18 @@ pub record Second (settings : Settings) (state : State) : Type 0 where
   -- and how far the coordinator's numbers lag behind
   pub estimates-after-each : (n : ℕ)
       → Estimates settings (runOf settings (take n (state .accepted)))
+  -- every step leaves what lies past the network as it was
+  pub tails-kept : (after : State)
+      → Step settings state after
+      → TailsKept settings (state .held) (after .held)
+  -- a single arrival leaves the coordinator and all other sites as they were
+  pub others-kept : (arrival : Arrival) (words : ℕ) (part : List ℕ) (answer : Observed)
+      → AtRest state
+      → ObserveSays settings (recordAt (state .held) (arrival .site)) arrival
+      (sitePart settings (state .held) (arrival .site) words) part answer
+      → answer .refusal ≡ accepted
+      → OthersKept settings (arrival .site) (state .held)
+      (afterSingle settings state arrival words part answer .held)
 
 -- ---- Third
 

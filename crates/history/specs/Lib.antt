@@ -1,6 +1,7 @@
 -- Histories of calls, and what is claimed of all of them.
 pub mod State
 pub mod Histories
+pub mod Frame
 pub mod Reading
 pub mod Demands
 pub mod Example

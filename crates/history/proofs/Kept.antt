@@ -1,0 +1,235 @@
+-- What each step of a history leaves as it was: what lies past the network, and, of a single arrival,
+-- all other sites. PROOF.md section 7, "Frame".
+--
+--   others-kept     a single arrival
+--   tails-kept      every step
+use mathlib.Core.Path.{_≡_, refl, ap, sym, _∙_, subst}
+use mathlib.Core.List.{List}
+use Prim.Native.Nat.{ℕ, _+_, _*_, _≤_, _<_}
+use native.Mathlib.Nat.{mul-le-mul-right}
+use native.Mathlib.Omega.{arith}
+use lib.ListN.{length, take, drop}
+use lib.Seq.{drop-set-lt, getD-set-other}
+use Rattle.model.specs.declared.Settings.{Settings}
+use Rattle.model.specs.declared.Arrival.{Arrival}
+use Rattle.model.specs.Refusals.{accepted}
+use Rattle.model.specs.Settings.{settingsRefusal}
+use Rattle.model.specs.Site.{Site, freshSite}
+use Rattle.model.specs.SiteMemory.{siteWords, siteRecord}
+use Rattle.model.specs.Coordinator.{coordinatorReceives}
+use Rattle.model.specs.Network.{Network}
+use Rattle.model.specs.NetworkMemory.{sitesWords, siteRecords, sitesMemory}
+use Rattle.model.specs.SoundNetwork.{Sound}
+use Rattle.site_steps.specs.declared.Observed.{Observed}
+use Rattle.site.specs.Calls.{ObserveSays}
+use Rattle.tracker.specs.declared.BatchAnswer.{BatchAnswer}
+use Rattle.tracker.specs.Batch.{BatchLent, BatchSays, batchIn}
+use Rattle.history.specs.State.{Held, State, AtRest, networkOf, recordAt, siteStart, sitePart, afterSiteCall, afterCoordinatorCall}
+use Rattle.history.specs.Histories.{batchCall, afterBatch, afterSingle, batch, single, Delivers, to-coordinator, to-site, next-announcement, Step, arrives, delivers, refuses}
+use Rattle.history.specs.Frame.{TailsKept, OthersKept}
+use Rattle.history.proofs.SitesMemory.{offset, offset-is, written}
+use Rattle.history.proofs.FrameLaws.{drop-later, take-written, drop-written, drop-siteRecords, drop-sitesMemory, drop-coordinatorMemory}
+use Rattle.history.proofs.Decoded.{in-memory, memory-then}
+use Rattle.history.proofs.Invariant.{StateOk, Standing, resting, delivering}
+use Rattle.history.proofs.Accepted.{held-sound}
+use Rattle.history.proofs.SitesWritten.{AllStorable}
+use Rattle.history.proofs.BatchedState.{networkWritten}
+use Rattle.history.proofs.BatchedState as Batched
+use Rattle.history.proofs.SingleState as Single
+use Rattle.history.proofs.ToCoordinator as ToCoordinator
+use Rattle.history.proofs.ToSite as ToSite
+use Rattle.history.proofs.DeliveredState.{no-head}
+use Rattle.history.proofs.Refused.{refused-same}
+
+kept-self : (settings : Settings) (held : Held) → TailsKept settings held held
+kept-self settings held = record { records = refl; site-memory = refl; coordinator-memory = refl }
+
+-- A whole network written over what is held.
+network-kept : (settings : Settings) (held : Held) (network : Network)
+    → Sound settings network
+    → sitesWords settings ≤ length (held .siteMemory)
+    → (messages : ℕ)
+    → TailsKept settings held (networkWritten settings held network messages)
+network-kept settings held network sound long messages =
+    let all = sound .all-sites in
+    let fit : AllStorable settings (network .sites) = λ j inside.
+    let own = sound .sites-sound j (omega (arith, all)) in
+    record { few = own .few-counters; values = own .histogram-length } in
+    let start : offset (siteWords settings) (length (network .sites)) ≡ sitesWords settings =
+    offset-is (siteWords settings) (length (network .sites))
+    ∙ ap (λ (k : ℕ). k * siteWords settings) all in
+    record {
+      records =
+          subst (λ (k : ℕ).
+          drop k (siteRecords (network .sites) (held .sites .records))
+          ≡ drop k (held .sites .records))
+          all (drop-siteRecords settings (network .sites) (held .sites .records));
+      site-memory =
+          subst (λ (from : ℕ).
+          drop from (sitesMemory settings (network .sites) (held .siteMemory))
+          ≡ drop from (held .siteMemory))
+          start
+          (drop-sitesMemory settings (network .sites) (held .siteMemory) fit
+          (rw all long));
+      coordinator-memory =
+          drop-coordinatorMemory settings (network .coordinator) (held .coordinatorMemory)
+          (sound .coordinator-sound .numbers .estimates-length)
+          (sound .coordinator-sound .numbers .histogram-length);
+    }
+
+module _ {settings : Settings} (passes : settingsRefusal settings ≡ accepted) {n : ℕ} (state : State)
+    (ok : StateOk settings n state) where
+  -- ---- A single arrival
+
+  module _ (arrival : Arrival) (words : ℕ) (part : List ℕ) (answer : Observed)
+      (at-rest : AtRest state)
+      (says : ObserveSays settings (recordAt (state .held) (arrival .site)) arrival
+      (sitePart settings (state .held) (arrival .site) words) part answer)
+      (accepts : answer .refusal ≡ accepted) where
+    abbrev j : ℕ
+    j = arrival .site
+
+    abbrev stateThen : State
+    stateThen = Single.after passes state ok at-rest arrival words part answer says accepts
+
+    abbrev site : Site
+    site = Single.site passes state ok at-rest arrival words part answer says accepts
+
+    known : j < settings .sites
+    known = Single.known passes state ok at-rest arrival words part answer says accepts
+
+    within : siteStart settings j + siteWords settings ≤ length (state .held .siteMemory)
+    within =
+        in-memory passes (state .held) (ok .lengths) (held-sound passes ok .sites-sound) j known
+
+    memory-is : stateThen .held .siteMemory
+        ≡ written settings (siteStart settings j) site (state .held .siteMemory)
+    memory-is =
+        let sound = Single.site-sound passes state ok at-rest arrival words part answer says
+        accepts in
+        memory-then passes (state .held) (ok .lengths) (held-sound passes ok .sites-sound) j known
+        site (sound .few-counters) (sound .histogram-length) words
+        (Single.long passes state ok at-rest arrival words part answer says accepts)
+
+    behind : drop (siteStart settings j + siteWords settings) (stateThen .held .siteMemory)
+        ≡ drop (siteStart settings j + siteWords settings) (state .held .siteMemory)
+    behind =
+        let sound = Single.site-sound passes state ok at-rest arrival words part answer says
+        accepts in
+        ap (drop (siteStart settings j + siteWords settings)) memory-is
+        ∙ drop-written settings site (sound .few-counters) (sound .histogram-length)
+        (siteStart settings j) (state .held .siteMemory) within
+
+    others-then : OthersKept settings j (state .held) (stateThen .held)
+    others-then =
+        let sound = Single.site-sound passes state ok at-rest arrival words part answer says
+        accepts in
+        record {
+          earlier-parts =
+              ap (take (siteStart settings j)) memory-is
+              ∙ take-written settings site (sound .few-counters) (sound .histogram-length)
+              (siteStart settings j) (state .held .siteMemory) within;
+          later-parts = behind;
+          other-records = λ other elsewhere.
+              getD-set-other (state .held .sites .records) j other (siteRecord site)
+              (siteRecord freshSite) elsewhere;
+          coordinator = refl;
+          coordinator-memory = refl;
+        }
+
+    tails-then : TailsKept settings (state .held) (stateThen .held)
+    tails-then = record {
+      records = drop-set-lt (settings .sites) (state .held .sites .records) j _ known;
+      site-memory =
+          let next : j + 1 ≤ settings .sites = omega (arith, known) in
+          drop-later (siteStart settings j + siteWords settings) (sitesWords settings) _ _
+          (omega (arith, mul-le-mul-right (siteWords settings) next)) behind;
+      coordinator-memory = refl;
+    }
+
+    same : afterSingle settings state arrival words part answer ≡ stateThen
+    same = Single.after-is passes state ok at-rest arrival words part answer says accepts
+
+    pub others-kept : OthersKept settings j (state .held)
+        (afterSingle settings state arrival words part answer .held)
+    others-kept =
+        subst (λ (then : State). OthersKept settings j (state .held) (then .held)) (sym same)
+        others-then
+
+    single-kept : TailsKept settings (state .held)
+        (afterSingle settings state arrival words part answer .held)
+    single-kept =
+        subst (λ (then : State). TailsKept settings (state .held) (then .held)) (sym same)
+        tails-then
+
+  -- ---- A batch
+
+  batch-kept : (arrivals : List Arrival) (log : List ℕ) (lent : BatchLent) (answer : BatchAnswer)
+      → AtRest state
+      → BatchSays (batchCall settings (state .held) arrivals log) lent answer
+      → TailsKept settings (state .held) (afterBatch state arrivals lent answer .held)
+  batch-kept arrivals log lent answer at-rest says =
+      let after = Batched.after passes state ok at-rest arrivals log lent answer says in
+      let sound = Batched.sound-then passes state ok at-rest arrivals log lent answer says in
+      let network = batchIn (batchCall settings (state .held) arrivals log) .network in
+      subst (λ (then : State). TailsKept settings (state .held) (then .held))
+      (sym (Batched.after-is passes state ok at-rest arrivals log lent answer says))
+      (network-kept settings (state .held) network sound (ok .lengths .sites-long)
+      (after .held .sites .messages))
+
+  -- ---- Delivery
+
+  delivery-kept : (after : State) → Delivers settings state after
+      → TailsKept settings (state .held) (after .held)
+  delivery-kept after (to-coordinator m later memory answer waits way says accepts) =
+      by-standing (ok .standing)
+    where
+      by-standing : Standing settings n state
+          → TailsKept settings (state .held)
+          (afterCoordinatorCall (state .held) (answer .coordinator) memory)
+      by-standing (resting _ rest) = absurd (no-head passes state ok m later waits rest)
+      by-standing (delivering mid) =
+          let sound = ToCoordinator.sound-then passes state ok mid m later memory answer waits way
+          says accepts in
+          subst (TailsKept settings (state .held))
+          (sym (ToCoordinator.held-is passes state ok mid m later memory answer waits way says
+          accepts))
+          (record {
+            records = refl;
+            site-memory = refl;
+            coordinator-memory =
+                drop-coordinatorMemory settings
+                (coordinatorReceives settings (networkOf settings (state .held) .coordinator) m
+                .coordinator)
+                (state .held .coordinatorMemory)
+                (sound .numbers .estimates-length) (sound .numbers .histogram-length);
+          })
+  delivery-kept after (to-site m later words answer waits way says accepts) =
+      by-standing (ok .standing)
+    where
+      by-standing : Standing settings n state
+          → TailsKept settings (state .held)
+          (afterSiteCall (state .held) (m .site) (answer .site) (state .held .siteMemory))
+      by-standing (resting _ rest) = absurd (no-head passes state ok m later waits rest)
+      by-standing (delivering mid) = record {
+        records =
+            drop-set-lt (settings .sites) (state .held .sites .records) (m .site) (answer .site)
+            (ToSite.known passes state ok mid m later words answer waits way says accepts);
+        site-memory = refl;
+        coordinator-memory = refl;
+      }
+  delivery-kept after (next-announcement answer says accepts) =
+      record { records = refl; site-memory = refl; coordinator-memory = refl }
+
+  -- ---- Every step
+
+  pub tails-kept : (after : State) → Step settings state after
+      → TailsKept settings (state .held) (after .held)
+  tails-kept after (arrives (batch arrivals log lent answer rest says)) =
+      batch-kept arrivals log lent answer rest says
+  tails-kept after (arrives (single arrival words part answer rest says accepts)) =
+      single-kept arrival words part answer rest says accepts
+  tails-kept after (delivers step) = delivery-kept after step
+  tails-kept after (refuses step) =
+      subst (λ (then : State). TailsKept settings (state .held) (then .held))
+      (sym (refused-same state after step)) (kept-self settings (state .held))

@@ -161,8 +161,9 @@ fn read_field(bytes: &[u8], at: usize, mark: u8) -> NumberRead
     no_number()
 }
 
-// Three fields from a place on, the third ended by a mark that the caller names.
-fn read_three(bytes: &[u8], at: usize, last: u8) -> ThreeRead
+// Three fields from a place on, the third ended by a mark that the caller names. Internal: for the
+// crates that read whole lines of such fields.
+pub fn read_three(bytes: &[u8], at: usize, last: u8) -> ThreeRead
     ensures { λ r. ⌜ ThreeSays (now (bytes .entry)) (readFieldsTo last 3 (drop at (now (bytes .entry)))) r ⌝ }
 {
     let first = read_field(bytes, at, SEMICOLON);

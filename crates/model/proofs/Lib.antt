@@ -5,4 +5,7 @@ pub mod Digits
 pub mod DecimalLaws
 pub mod LineLaws
 pub mod ReadBack
+pub mod TakenLaws
+pub mod WorklistLaws
+pub mod TranscriptLaws
 pub mod Instances

@@ -15,6 +15,7 @@ use borrow.Author.Tests.{le-leb, eq-eqb, eqb-true, ltb-true, not-true}
 use Rattle.laws.proofs.Tests.{both-true}
 use Rattle.model.specs.Decimal.{isDigit, digitValue, digitByte, noNumber, number, moreDigits, leadingZero, readNumber, decimal}
 use Rattle.model.specs.Lines.{fields, semicolon, lineFeed, beforeMark, readField, withField, readFields, writeFields}
+use Rattle.model.specs.WorklistClaims.{allSmall}
 use Rattle.model.proofs.LineLaws.{fields-last, fields-more}
 use Rattle.model.proofs.DecimalLaws.{more-digits-on, more-digits-stop, decimal-small, decimal-large, length-decimal-large}
 
@@ -192,10 +193,6 @@ read-back n rest small end =
     ∙ ap (λ (v : ℕ). number v rest) (d .value))
 
 -- ---- Reading back a line
-
-abbrev pub allSmall : List ℕ → Bool
-allSmall [] = true
-allSmall (n ∷ ns) = ltb n 10000000 && allSmall ns
 
 -- A field and its mark, which is no digit.
 read-back-field : (mark n : ℕ) (rest : List ℕ)

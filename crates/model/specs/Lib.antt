@@ -16,4 +16,6 @@ pub mod Network
 pub mod NetworkMemory
 pub mod Runs
 pub mod Transcript
+pub mod WorklistClaims
+pub mod TranscriptClaims
 pub mod Instances

@@ -1,0 +1,2 @@
+-- Laws of reading that the functions' proofs share.
+pub mod SettingsLaws

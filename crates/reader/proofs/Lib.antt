@@ -1,2 +1,4 @@
 -- Laws of reading that the functions' proofs share.
+pub mod ThreeLaws
 pub mod SettingsLaws
+pub mod StepLaws

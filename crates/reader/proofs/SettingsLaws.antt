@@ -13,6 +13,7 @@ use Rattle.model.specs.Lines.{Fields, malformed, fields, semicolon, lineFeed, r
 use Rattle.model.proofs.LineLaws.{withFields, followedBy, fields-add}
 use Rattle.worklist.specs.declared.ThreeRead.{ThreeRead}
 use Rattle.worklist.specs.Contracts.{ThreeSays}
+use Rattle.reader.proofs.ThreeLaws.{three-values, three-found, three-missing}
 use Rattle.reader.specs.declared.SettingsRead.{SettingsRead}
 use Rattle.reader.specs.Contracts.{lineRefusal, settingsIn, bytesAfter, SettingsSays}
 
@@ -54,17 +55,6 @@ settings-read bytes numbers next within here = record {
 
 -- ---- Answers by the two runs
 
-abbrev valuesIn : ThreeRead → List ℕ
-valuesIn three = three .first ∷ three .second ∷ three .third ∷ []
-
-module _ {bytes : List ℕ} {expected : Fields} {three : ThreeRead}
-    (says : ThreeSays bytes expected three) where
-  run-found : three .found ≡ true → expected ≡ fields (valuesIn three) (drop (three .next) bytes)
-  run-found found = sym (rw found at (says .is))
-
-  run-missing : three .found ≡ false → expected ≡ malformed
-  run-missing missing = sym (rw missing at (says .is))
-
 module _ (bytes : List ℕ) (first : ThreeRead)
     (reads-first : ThreeSays bytes (readFieldsTo semicolon 3 bytes) first) where
   -- The line by what its first run gives.
@@ -77,19 +67,19 @@ module _ (bytes : List ℕ) (first : ThreeRead)
 
   pub settings-missing-first : first .found ≡ false → SettingsSays bytes noSettings
   settings-missing-first missing =
-      settings-malformed bytes (by-first malformed (run-missing reads-first missing))
+      settings-malformed bytes (by-first malformed (three-missing reads-first missing))
 
   module _ (found-first : first .found ≡ true) (second : ThreeRead)
       (reads-second : ThreeSays bytes (readFields 3 (drop (first .next) bytes)) second) where
     by-second : (found : Fields)
         → readFields 3 (drop (first .next) bytes) ≡ found
-        → readFields 6 bytes ≡ withFields (valuesIn first) found
+        → readFields 6 bytes ≡ withFields (three-values first) found
     by-second found here =
-        by-first _ (run-found reads-first found-first) ∙ ap (withFields (valuesIn first)) here
+        by-first _ (three-found reads-first found-first) ∙ ap (withFields (three-values first)) here
 
     pub settings-missing-second : second .found ≡ false → SettingsSays bytes noSettings
     settings-missing-second missing =
-        settings-malformed bytes (by-second malformed (run-missing reads-second missing))
+        settings-malformed bytes (by-second malformed (three-missing reads-second missing))
 
     pub settings-found : second .found ≡ true
         → SettingsSays bytes
@@ -107,4 +97,4 @@ module _ (bytes : List ℕ) (first : ThreeRead)
         })
     settings-found found =
         settings-read bytes _ (second .next) (reads-second .within)
-        (by-second _ (run-found reads-second found))
+        (by-second _ (three-found reads-second found))

@@ -1,2 +1,3 @@
--- What the calls of this crate promise.
+-- What the calls of this crate promise, and what holds of a walk.
 pub mod Contracts
+pub mod Walk

@@ -1,7 +1,10 @@
 // Reading the program's input: the settings line, and then a worklist line by line.
 
+ghost use mathlib.Core.Path.{_≡_};
 ghost use Rattle.reader.specs.Contracts.{SettingsSays};
+ghost use Rattle.reader.specs.Walk.{lineAfter, standing, stepAt};
 use model::ACCEPTED;
+use model::Arrival;
 use model::MALFORMED_LINE;
 use model::Settings;
 use worklist::read_three;
@@ -13,9 +16,23 @@ pub struct SettingsRead {
     pub used: usize,
 }
 
+// One step of a walk through a worklist: 0 or refusal 13, whether an arrival was read, the arrival,
+// and where the walk stands after the step: a place in the bytes, and the number of the line there,
+// counted from 0. A walk stays before a malformed line, so `line` is that line's number.
+pub struct Step {
+    pub refusal: u32,
+    pub found: bool,
+    pub arrival: Arrival,
+    pub at: usize,
+    pub line: usize,
+}
+
 const SEMICOLON: u8 = 59;
 
 const LINE_FEED: u8 = 10;
+
+// The last line number that there is. A file has fewer lines, for each takes six bytes or more.
+const LAST_LINE: usize = 18446744073709551615;
 
 // The settings line at the front of some bytes, or refusal 13: its first three fields, the third
 // ended by a semicolon, and then its last three.
@@ -52,4 +69,56 @@ pub fn read_settings(bytes: &[u8]) -> SettingsRead
         },
         used: 0,
     }
+}
+
+// The number of the next line; the last number is its own next.
+fn next_line(line: usize) -> usize
+    ensures { λ r. ⌜ r ≡ lineAfter line ⌝ }
+{
+    if line < LAST_LINE {
+        return line + 1;
+    }
+    line
+}
+
+// A step that reads no arrival and stays where it is.
+fn stand(refusal: u32, at: usize, line: usize) -> Step
+    ensures { λ r. ⌜ r ≡ standing refusal at line ⌝ }
+{
+    Step {
+        refusal: refusal,
+        found: false,
+        arrival: Arrival {
+            site: 0,
+            item: 0,
+            value: 0,
+        },
+        at: at,
+        line: line,
+    }
+}
+
+// The line that stands at a place of the bytes, as the step of a walk: an arrival, the end of the
+// bytes, or refusal 13. `line` is the number of that line.
+pub fn read_at(bytes: &[u8], at: usize, line: usize) -> Step
+    ensures { λ r. ⌜ r ≡ stepAt (now (bytes .entry)) at line ⌝ }
+{
+    if bytes.len() <= at {
+        return stand(ACCEPTED, at, line);
+    }
+    let read = read_three(bytes, at, LINE_FEED);
+    if read.found {
+        return Step {
+            refusal: ACCEPTED,
+            found: true,
+            arrival: Arrival {
+                site: read.first,
+                item: read.second,
+                value: read.third,
+            },
+            at: read.next,
+            line: next_line(line),
+        };
+    }
+    stand(MALFORMED_LINE, at, line)
 }

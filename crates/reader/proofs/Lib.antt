@@ -2,3 +2,4 @@
 pub mod ThreeLaws
 pub mod SettingsLaws
 pub mod StepLaws
+pub mod WalkLaws

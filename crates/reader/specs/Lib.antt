@@ -1,3 +1,4 @@
 -- What the calls of this crate promise, and what holds of a walk.
 pub mod Contracts
 pub mod Walk
+pub mod WalkClaims

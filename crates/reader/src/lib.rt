@@ -2,6 +2,7 @@
 
 ghost use mathlib.Core.Path.{_≡_};
 ghost use Rattle.reader.specs.Contracts.{SettingsSays};
+ghost use Rattle.reader.specs.Reading.{Opened, Stepped};
 ghost use Rattle.reader.specs.Walk.{lineAfter, standing, stepAt};
 use model::ACCEPTED;
 use model::Arrival;
@@ -23,6 +24,14 @@ pub struct Step {
     pub refusal: u32,
     pub found: bool,
     pub arrival: Arrival,
+    pub at: usize,
+    pub line: usize,
+}
+
+// A reader of a worklist: its bytes, the place where it stands, and the number of the line there.
+// Its functions are thin over `read_at`, which is what code with parameters of its own calls.
+pub struct Reader<'a> {
+    pub bytes: &'a [u8],
     pub at: usize,
     pub line: usize,
 }
@@ -121,4 +130,28 @@ pub fn read_at(bytes: &[u8], at: usize, line: usize) -> Step
         };
     }
     stand(MALFORMED_LINE, at, line)
+}
+
+// A reader before the first line of a worklist.
+pub fn open<'a>(bytes: &'a [u8]) -> Reader<'a>
+    ensures { λ r. ⌜ Opened (bytes .entry) r ⌝ }
+{
+    Reader {
+        bytes: bytes,
+        at: 0,
+        line: 0,
+    }
+}
+
+impl<'a> Reader<'a> {
+    // The next line: an arrival, behind which the reader then stands; or the end, or refusal 13 with
+    // the line's number, where the reader stays.
+    pub fn next(&mut self) -> Step
+        ensures { λ r. ⌜ Stepped (now (self .entry)) (now (self .exit)) r ⌝ }
+    {
+        let step = read_at(self.bytes, self.at, self.line);
+        self.at = step.at;
+        self.line = step.line;
+        step
+    }
 }

@@ -1,5 +1,6 @@
 -- Reading back what was written gives the number: of decimal numbers and of lines.
 --
+--   length-decimal-le  how many digits a number has at most
 --   read-back          a number below ten million, before anything but another digit
 --   read-back-fields   a line of such numbers, before anything
 use mathlib.Core.Path.{_≡_, refl, sym, ap, _∙_, subst}
@@ -141,7 +142,7 @@ pub digits-of : (n : ℕ) → Digits n
 digits-of n = digits-within (suc n) n (omega arith)
 
 -- A number below 10 ^ (m + 1) has at most m + 1 digits.
-length-decimal-le : (m n : ℕ) → n < 10 ^ suc m → length (decimal n) ≤ suc m
+pub length-decimal-le : (m n : ℕ) → n < 10 ^ suc m → length (decimal n) ≤ suc m
 length-decimal-le zero n small = omega (arith, ap length (decimal-small n (omega arith)))
 length-decimal-le (suc m) n small =
     by-size (decLt n 10) (λ large. length-decimal-le m (n / 10) (tenth-small large))

@@ -215,8 +215,8 @@ pub fn test_line(bytes: &[u8]) -> LineRead
     }
 }
 
-// How many digits a number has.
-fn count_decimal(n: u64) -> usize
+// How many digits a number has. Internal: for the crates that write lines of such numbers.
+pub fn count_decimal(n: u64) -> usize
     ensures { λ r. ⌜ r ≡ length (decimal n) ⌝ }
 {
     let mut rest = n;

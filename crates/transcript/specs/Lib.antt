@@ -1,0 +1,2 @@
+-- What the calls of this crate promise, and what holds of the lines they write.
+pub mod Contracts

@@ -2,3 +2,4 @@
 pub mod PutLaws
 pub mod RoomLaws
 pub mod LinesLaws
+pub mod SpacedLaws

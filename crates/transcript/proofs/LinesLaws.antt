@@ -2,6 +2,7 @@
 --
 --   counted-joined, length-counted   a line of a word and a number
 --   message-joined, length-message   the line of a message
+--   listed-joined, length-listed     the line of listed items
 use mathlib.Core.Path.{_≡_, refl, sym, ap, _∙_}
 use mathlib.Core.List.{List, [], _∷_, _++_, append-assoc, append-nil}
 use Prim.Native.Nat.{ℕ, _+_}
@@ -10,8 +11,8 @@ use lib.ListN.{length, length-append}
 use Rattle.model.specs.declared.Message.{Message}
 use Rattle.model.specs.Decimal.{decimal}
 use Rattle.model.specs.Lines.{lineFeed}
-use Rattle.model.specs.Transcript.{space, messageLine}
-use Rattle.transcript.specs.Contracts.{countedLine}
+use Rattle.model.specs.Transcript.{space, spaced, messageLine, listedWord}
+use Rattle.transcript.specs.Contracts.{countedLine, listedLine}
 use Rattle.transcript.proofs.PutLaws.{joined}
 
 -- A number with a space before it.
@@ -66,3 +67,18 @@ pub length-message : (m : Message)
     + length (spacedNumber (m .a))
     + length (spacedNumber (m .b))
 length-message m = ap length (sym (message-joined m)) ∙ simp length-append (omega arith)
+
+-- ---- Listed items
+
+abbrev pub listedPieces : List ℕ → List (List ℕ)
+listedPieces items = listedWord ∷ spaced items ∷ feed ∷ []
+
+two-pieces : (first second end : List ℕ)
+    → first ++ (second ++ (end ++ [])) ≡ (first ++ second) ++ end
+two-pieces first second end = simp (append-assoc, append-nil)
+
+pub listed-joined : (items : List ℕ) → joined (listedPieces items) ≡ listedLine items
+listed-joined items = two-pieces listedWord (spaced items) feed
+
+pub length-listed : (items : List ℕ) → length (listedLine items) ≡ length (spaced items) + 7
+length-listed items = ap length (sym (listed-joined items)) ∙ simp length-append (omega arith)

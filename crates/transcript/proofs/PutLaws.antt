@@ -35,6 +35,10 @@ written-nothing : (place : ℕ) (out : List ℕ) → writtenAt place [] out ≡ 
 written-nothing place out =
     rw (append-nil (take place out), add-zero place) (take-append-drop place out)
 
+-- Nothing written: the buffer as it was.
+pub put-nothing : (place : ℕ) (out : List ℕ) → Put [] place out out place
+put-nothing place out = record { place-after = omega arith; out = sym (written-nothing place out) }
+
 -- The front with the first bytes is the longer front, and what comes after both is the same.
 written-append : (place : ℕ) (first second out : List ℕ)
     → place + length first + length second ≤ length out
@@ -127,7 +131,7 @@ pub stage-begins : (line : List ℕ) (place : ℕ) (before : List ℕ) (pieces :
 stage-begins line place before pieces is fits = record {
   done = [];
   is = is;
-  put = record { place-after = omega arith; out = sym (written-nothing place before) };
+  put = put-nothing place before;
   fits = fits;
 }
 

@@ -3,6 +3,7 @@
 --
 --   fit bytes place out     whether the bytes fit into a buffer from a place on
 --   countedLine word n      a line of a word and a number
+--   listedLine items        the line of listed items; `listed` alone where there are none
 use mathlib.Core.Path.{_≡_}
 use mathlib.Core.Bool.{Bool}
 use mathlib.Core.List.{List, [], _∷_, _++_}
@@ -11,7 +12,7 @@ use lib.Dec.{leb}
 use lib.ListN.{length}
 use Rattle.model.specs.Choice.{if_then_else_}
 use Rattle.model.specs.Decimal.{decimal}
-use Rattle.model.specs.Transcript.{space, spaced, endLine}
+use Rattle.model.specs.Transcript.{space, spaced, endLine, listedWord}
 use Rattle.worklist.specs.Contracts.{writtenAt}
 
 abbrev pub fit : List ℕ → ℕ → List ℕ → Bool
@@ -20,6 +21,10 @@ fit bytes place out = leb (place + length bytes) (length out)
 -- A line of a word and a number.
 abbrev pub countedLine : List ℕ → ℕ → List ℕ
 countedLine word n = endLine (word ++ spaced (n ∷ []))
+
+-- The line of listed items.
+abbrev pub listedLine : List ℕ → List ℕ
+listedLine items = endLine (listedWord ++ spaced items)
 
 -- Bytes written from a place on, where they fit; the answer is the place after them.
 pub record Put (bytes : List ℕ) (place : ℕ) (before after : List ℕ) (answer : ℕ) : Type 0 where

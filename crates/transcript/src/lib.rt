@@ -3,13 +3,13 @@
 // place that was given.
 
 ghost use mathlib.Core.Path.{_≡_};
-ghost use mathlib.Core.List.{[], _∷_, _++_};
-ghost use Prim.Native.Nat.{_+_, _≤_};
+ghost use mathlib.Core.List.{_∷_, _++_};
+ghost use Prim.Native.Nat.{_+_, _≤_, min};
 ghost use lib.Dec.{leb};
 ghost use lib.ListN.{length, take};
 ghost use Rattle.model.specs.Decimal.{decimal};
-ghost use Rattle.model.specs.Transcript.{space, endLine, messageLine, refusedLine, listedWord, classWord, messagesWord, quantileWord};
-ghost use Rattle.transcript.specs.Contracts.{countedLine, Put, LineWritten, SpacedLength};
+ghost use Rattle.model.specs.Transcript.{space, spaced, endLine, messageLine, refusedLine, classWord, messagesWord, quantileWord};
+ghost use Rattle.transcript.specs.Contracts.{countedLine, listedLine, Put, LineWritten, SpacedLength};
 use model::Message;
 use model::Quantile;
 use worklist::count_decimal;
@@ -114,6 +114,77 @@ pub fn write_refused(refusal: u32, out: &mut [u8], at: usize) -> usize
     ensures { λ r. ⌜ LineWritten (refusedLine refusal) at (now (out .entry)) (now (out .exit)) r ⌝ }
 {
     write_counted(b"refused", refusal as u64, out, at)
+}
+
+// Whether numbers, each with a space before it, fit into so many places.
+fn numbers_fit(items: &[u32], room: usize) -> bool
+    ensures { λ r. ⌜ r ≡ leb (length (spaced (now (items .entry)))) room ⌝ }
+{
+    let mut left = room;
+    let mut done: usize = 0;
+    while done < items.len() {
+        let need = spaced_length(items[done] as u64);
+        if left < need {
+            return false;
+        }
+        left -= need;
+        done += 1;
+    }
+    true
+}
+
+// Writes numbers, each with a space before it, where they fit.
+fn put_numbers(items: &[u32], out: &mut [u8], at: usize) -> usize
+    requires { ⌜ at + length (spaced (now items)) ≤ length (now out) ⌝ }
+    ensures { λ r. ⌜ Put (spaced (now (items .entry))) at (now (out .entry)) (now (out .exit)) r ⌝ }
+{
+    let mut place = at;
+    let mut done: usize = 0;
+    while done < items.len() {
+        place = put_spaced(items[done] as u64, out, place);
+        done += 1;
+    }
+    place
+}
+
+// Writes the line of listed items, where it fits.
+fn put_listed(items: &[u32], out: &mut [u8], at: usize) -> usize
+    requires { ⌜ at + length (listedLine (now items)) ≤ length (now out) ⌝ }
+    ensures { λ r. ⌜ Put (listedLine (now (items .entry))) at (now (out .entry)) (now (out .exit)) r ⌝ }
+{
+    let after_word = put_text(b"listed", out, at);
+    let after_items = put_numbers(items, out, after_word);
+    put_text(b"\n", out, after_items)
+}
+
+// Writes the line of listed items: seven bytes beside the items.
+fn write_items(items: &[u32], out: &mut [u8], at: usize) -> usize
+    ensures { λ r. ⌜ LineWritten (listedLine (now (items .entry))) at (now (out .entry)) (now (out .exit)) r ⌝ }
+{
+    if has_room(out.len(), at, 7) {
+        if numbers_fit(items, out.len() - at - 7) {
+            return put_listed(items, out, at);
+        }
+    }
+    at
+}
+
+// The lesser of two numbers.
+fn lesser(a: usize, b: usize) -> usize
+    ensures { λ r. ⌜ r ≡ min a b ⌝ }
+{
+    if a < b {
+        return a;
+    }
+    b
+}
+
+// "listed" and the first so many items, or all if there are fewer.
+pub fn write_listed(items: &[u32], count: usize, out: &mut [u8], at: usize) -> usize
+    ensures { λ r. ⌜ LineWritten (listedLine (take count (now (items .entry)))) at (now (out .entry)) (now (out .exit)) r ⌝ }
+{
+    let listed = lesser(count, items.len());
+    write_items(&items[..listed], out, at)
 }
 
 // "class" and the value, or `none`.

@@ -1,13 +1,15 @@
 -- Laws of numbers with a space before each, number after number.
 --
---   length-spaced-at                    the numbers before a place, the one there, and those after
+--   length-spaced-next, -take           one number more; the first numbers
+--   take-lesser                         as many of the first numbers as there are
 --   fitting-begins, -on, -short, -ends  whether they fit, number after number
 --   putting-begins, -room, -on, -ends   numbers written one after the other
 use mathlib.Core.Path.{_≡_, refl, sym, ap, _∙_, subst}
 use mathlib.Core.Bool.{true, false}
 use mathlib.Core.List.{List, [], _∷_, _++_, append-assoc, append-nil}
-use Prim.Native.Nat.{ℕ, suc, _+_, _-_, _≤_, _<_}
+use Prim.Native.Nat.{ℕ, suc, _+_, _-_, _≤_, _<_, min}
 use native.Mathlib.Omega.{arith}
+use native.Mathlib.Decide.{decLe}
 use native.Mathlib.Numerals.{add-one}
 use lib.Dec.{leb}
 use lib.ListN.{length, getD, take, drop, length-append, take-append-drop}
@@ -57,6 +59,19 @@ length-spaced-take items n =
       ap length whole,
       length-append (spaced (take n items)) (spaced (drop n items)),
     )
+
+-- As many of the first numbers as there are.
+pub take-lesser : (items : List ℕ) (count lesser : ℕ)
+    → lesser ≡ min count (length items)
+    → take lesser items ≡ take count items
+take-lesser items count lesser is = by-order (decLe count (length items))
+  where
+    by-order : Dec (count ≤ length items) → take lesser items ≡ take count items
+    by-order (yes fewer) =
+        let same : lesser ≡ count = omega arith in
+        ap (λ (n : ℕ). take n items) same
+    by-order (no all) =
+        take-all lesser items (omega arith) ∙ sym (take-all count items (omega arith))
 
 -- ---- Whether they fit
 

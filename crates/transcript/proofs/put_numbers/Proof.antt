@@ -1,54 +1,59 @@
+-- The numbers are written one after the other.
+use Prim.Native.Nat.{_-_}
+use native.Mathlib.Omega.{arith}
+use lib.ListN.{length}
+use borrow.Author.Needs.{needs}
+use Rattle.transcript.proofs.SpacedLaws.{Putting, putting-begins, putting-room, putting-on, putting-ends}
 use Rattle.transcript.proofs.put_numbers.Statement.{statement}
 use Rattle.transcript.proofs.put_numbers.Tie as tie
-use Rattle.transcript.proofs.put_numbers.Reads as reads
-use Rattle.transcript.proofs.put_numbers.Lts as lts
-use Rattle.transcript.proofs.put_spaced.Reads as put-spaced-reads
 
 abbrev Inv-loop : tie.InvT-loop
-Inv-loop items out₀ at place₀ done₀ out place done = ?
+Inv-loop items out₀ at place₀ done₀ out place done = Putting items at out₀ out place done
 
 abbrev μ-loop : tie.MeasureT-loop
-μ-loop items out₀ at place₀ done₀ out place done = ?
+μ-loop items out₀ at place₀ done₀ out place done = length items - done
 
--- src/lib.rt:143:5
 loop-holds : tie.Need-loop-holds Inv-loop μ-loop
-loop-holds c = ?
+loop-holds c =
+    let args = c .before .before .args in
+    putting-begins (args .items .now) (args .at) (args .out .now)
 
--- src/lib.rt:144:28
 mul-put-spaced : tie.Need-mul-put-spaced Inv-loop μ-loop
-mul-put-spaced c = ?
+mul-put-spaced c = search needs
 
--- src/lib.rt:144:28
 shared-slice-read-put-spaced : tie.Need-shared-slice-read-put-spaced Inv-loop μ-loop
-shared-slice-read-put-spaced c = ?
+shared-slice-read-put-spaced c = search needs
 
--- src/lib.rt:144:28
 cast-put-spaced : tie.Need-cast-put-spaced Inv-loop μ-loop
-cast-put-spaced c = ?
+cast-put-spaced c =
+    omega (arith, c .shared-slice-known2 .given (c .before .before .loop .done))
 
--- src/lib.rt:144:9
 put-spaced-requires : tie.Need-put-spaced-requires Inv-loop μ-loop
-put-spaced-requires c κs = ?
+put-spaced-requires c κs =
+    let start = c .before .before .before .before .before .before in
+    let loop = c .before .before .before .loop in
+    putting-room (loop .done) (start .pre) (loop .inv) (c .before .before .loop-test .taken)
 
--- src/lib.rt:145:9
 add-done : tie.Need-add-done Inv-loop μ-loop
-add-done c = ?
+add-done c = search needs
 
--- src/lib.rt:143:5
 loop-less : tie.Need-loop-less Inv-loop μ-loop
-loop-less c = ?
+loop-less c = search needs
 
--- src/lib.rt:143:5
 loop-again : tie.Need-loop-again Inv-loop μ-loop
-loop-again c = ?
+loop-again c =
+    let start = c .before .before .before .before .before .before .before .before .before in
+    let loop = c .before .before .before .before .before .before .loop in
+    putting-on (loop .done) (start .pre) (loop .inv) (c .before .before .before .before .before .loop-test .taken)
+    _ _ (c .before .before .put-spaced .ensures)
 
--- src/lib.rt:137:1
 same-length : tie.Need-same-length Inv-loop μ-loop
-same-length c = ?
+same-length c = search needs
 
--- src/lib.rt:137:1
 returns : tie.Need-returns Inv-loop μ-loop
-returns c = ?
+returns c =
+    putting-ends (c .before .loop .done) (c .before .before .before .before .pre) (c .before .loop .inv)
+    (c .loop-test .left)
 
 pub put-numbers-spec : {M : Type 1} → statement M
 put-numbers-spec =

@@ -6,6 +6,7 @@ pub mod DecimalLaws
 pub mod LineLaws
 pub mod ReadBack
 pub mod TakenLaws
+pub mod LineTaken
 pub mod WorklistLaws
 pub mod TranscriptLaws
 pub mod Instances

@@ -22,7 +22,7 @@ use Rattle.model.specs.Lines.{Fields, malformed, fields, lineFeed, readF
 use Rattle.model.specs.Runs.{freshRun}
 use Rattle.model.specs.Transcript.{transcript, transcriptOf, transcriptWith, transcriptFrom, beyondProgram, programRefusal, refusedLine}
 use Rattle.model.specs.TranscriptClaims.{TranscriptClaims}
-use Rattle.model.proofs.TakenLaws.{FieldsTaken, fields-taken}
+use Rattle.model.proofs.LineTaken.{FieldsTaken, fields-taken}
 
 -- ---- By the settings line
 
@@ -161,5 +161,5 @@ settings-length-of input numbers worklist here =
 pub transcript-claims : TranscriptClaims
 transcript-claims = record {
   settings-length = settings-length-of;
-  input-enough = input-enough-of;
+  input-enough = λ most input enough. input-enough-of most input (omega arith);
 }

@@ -16,7 +16,7 @@ use Rattle.model.specs.declared.Arrival.{Arrival}
 use Rattle.model.specs.Lines.{Fields, malformed, fields, lineFeed, readFields, writeFields, arrivalOf, fieldsOf, Worklist, ended, malformedAt, next, readFrom, readWorklist, writeWorklist}
 use Rattle.model.specs.WorklistClaims.{allSmall, allWritable, worklistOf, LineLength, WorklistClaims}
 use Rattle.model.proofs.ReadBack.{read-back-fields}
-use Rattle.model.proofs.TakenLaws.{fields-taken}
+use Rattle.model.proofs.LineTaken.{fields-taken}
 
 -- ---- One line
 

@@ -15,7 +15,7 @@ use lib.ListN.{length, take, drop, length-append, length-drop, take-append-drop,
 use lib.Seq.{drop-at}
 use Rattle.model.specs.Refusals.{accepted, malformedLine}
 use Rattle.model.specs.Lines.{Fields, malformed, fields, lineFeed, readFields, arrivalOf, Worklist, ended, malformedAt, next, readFrom, readWorklist}
-use Rattle.model.proofs.TakenLaws.{FieldsTaken, fields-taken}
+use Rattle.model.proofs.LineTaken.{FieldsTaken, fields-taken}
 use Rattle.model.proofs.WorklistLaws.{read-from-malformed, read-all-line}
 use Rattle.reader.specs.declared.Step.{Step}
 use Rattle.reader.specs.Walk.{lastLine, lineAfter, standing, stepOf, stepAt, thenRead, walkFrom}

@@ -41,7 +41,8 @@ module _ (last : ℕ) (bytes : List ℕ) where
             ∙ ap (λ (read : List ℕ). fields read follows) same;
       }
 
-      by-field : (found : Number) → readField last bytes ≡ found → FieldsTaken last 1 bytes values rest
+      by-field : (found : Number) → readField last bytes ≡ found
+          → FieldsTaken last 1 bytes values rest
       by-field noNumber here = malformed-is-none _ _ (sym (fields-last-none last bytes here) ∙ is)
       by-field (number value after) here =
           let same : fields (value ∷ []) after ≡ fields values rest
@@ -61,7 +62,8 @@ module _ (last : ℕ) (bytes : List ℕ) where
     at-least = simp length-append (omega (arith, first .at-least, others .at-least));
     at-most = simp length-append (omega (arith, first .at-most, others .at-most));
     reads = λ follows.
-        ap (readFieldsTo last (suc (suc more))) (append-assoc (first .front) (others .front) follows)
+        ap (readFieldsTo last (suc (suc more)))
+        (append-assoc (first .front) (others .front) follows)
         ∙ fields-more last (first .front ++ (others .front ++ follows)) more value
         (others .front ++ follows) (first .reads (others .front ++ follows))
         ∙ ap (withField value) (others .reads follows);

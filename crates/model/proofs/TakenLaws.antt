@@ -22,7 +22,8 @@ no-number-is-none value rest is = let never : _≡_ {A = ℕ} 0 1 = cc in absurd
 
 -- ---- The digits of a number
 
--- Digits read up to a byte: the same digits before that byte give the same number, whatever follows.
+-- Digits read up to a byte: the same digits before that byte give the same number, whatever comes
+-- after it.
 record DigitsTaken (more value : ℕ) (bytes : List ℕ) (read byte : ℕ) (rest : List ℕ) : Type 0 where
   front : List ℕ
   splits : bytes ≡ front ++ (byte ∷ rest)
@@ -55,7 +56,8 @@ digits-on more value first others read byte rest digit taken = record {
   splits = ap (λ (bytes : List ℕ). first ∷ bytes) (taken .splits);
   few = omega (arith, taken .few);
   reads = λ follows.
-      more-digits-on more value first (taken .front ++ (byte ∷ follows)) digit ∙ taken .reads follows;
+      more-digits-on more value first (taken .front ++ (byte ∷ follows)) digit
+      ∙ taken .reads follows;
 }
 
 digits-taken : (more value : ℕ) (bytes : List ℕ) (read byte : ℕ) (rest : List ℕ)
@@ -136,7 +138,8 @@ number-taken (first ∷ others) read byte rest is = by-start (starts first other
           ∙ taken .reads follows;
     }
 
-    by-start : (test : Bool) → starts first others ≡ test → NumberTaken (first ∷ others) read byte rest
+    by-start : (test : Bool) → starts first others ≡ test
+        → NumberTaken (first ∷ others) read byte rest
     by-start true may =
         with-digits may
         (digits-taken 6 (digitValue first) others read byte rest

@@ -1,7 +1,7 @@
 -- Laws of whole walks, and the theorem on every walk.
 --
---   step-cases     what holds at the end, before a malformed line and behind a well-formed one holds
---                  of every step
+--   step-cases     what holds at the end, before a malformed line and behind a well-formed one,
+--                  holds of every step
 --   walk-reads     a walk from a place on reads the worklist that begins there
 --   walk-claims    the theorem (specs/WalkClaims.antt)
 use mathlib.Core.Path.{_≡_, refl, sym, ap, _∙_, subst}

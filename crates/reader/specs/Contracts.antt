@@ -27,8 +27,8 @@ abbrev pub bytesAfter : List ℕ → Fields → List ℕ
 bytesAfter bytes malformed = bytes
 bytesAfter bytes (fields numbers rest) = rest
 
--- The settings line at the front of some bytes: 13 if it is malformed; its settings and the bytes it
--- takes, zeros if it is malformed.
+-- The settings line at the front of some bytes: 13 if it is malformed; its settings and the bytes
+-- it takes, zeros if it is malformed.
 pub record SettingsSays (bytes : List ℕ) (answer : SettingsRead) : Type 0 where
   pub refusal : answer .refusal ≡ lineRefusal (readFields 6 bytes)
   pub settings : answer .settings ≡ settingsIn (readFields 6 bytes)

@@ -1,4 +1,4 @@
--- The contracts of the reader, a struct that holds a worklist's bytes and the place where it stands.
+-- The contracts of the reader, a struct that holds a worklist's bytes and where it stands in them.
 use mathlib.Core.Path.{_≡_}
 use mathlib.Core.List.{List}
 use Prim.Native.Nat.{ℕ}

@@ -144,8 +144,8 @@ pub fn open<'a>(bytes: &'a [u8]) -> Reader<'a>
 }
 
 impl<'a> Reader<'a> {
-    // The next line: an arrival, behind which the reader then stands; or the end, or refusal 13 with
-    // the line's number, where the reader stays.
+    // The next line: an arrival, behind which the reader then stands; or the end, or refusal 13
+    // with the line's number, where the reader stays.
     pub fn next(&mut self) -> Step
         ensures { λ r. ⌜ Stepped (now (self .entry)) (now (self .exit)) r ⌝ }
     {

@@ -59,7 +59,8 @@ written-append place first second out fits =
     ∙ ap (λ (n : ℕ). drop n out)
     (add-assoc place (length first) (length second)
     ∙ ap (λ (n : ℕ). place + n) (sym (length-append first second))) in
-    rw (take-at front end middle front-length, rest-same, append-assoc (take place out) first second)
+    let longer = append-assoc (take place out) first second in
+    rw (take-at front end middle front-length, rest-same, longer)
 
 module _ (first second : List ℕ) (place : ℕ) (before middle : List ℕ) (next : ℕ) where
   -- There is room for what comes next.
@@ -136,7 +137,8 @@ stage-begins line place before pieces is fits = record {
 }
 
 module _ {line : List ℕ} {place : ℕ} {before piece : List ℕ} {pieces : List (List ℕ)}
-    {middle : List ℕ} {next : ℕ} (stage : Stage line place before (piece ∷ pieces) middle next) where
+    {middle : List ℕ} {next : ℕ}
+    (stage : Stage line place before (piece ∷ pieces) middle next) where
   -- What is written and the next piece fit.
   piece-fits : place + length (stage .done) + length piece ≤ length before
   piece-fits =

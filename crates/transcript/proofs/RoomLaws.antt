@@ -22,8 +22,12 @@ pub room-from : (at need whole : ℕ)
 room-from at need whole within = by-test (leb need (whole - at)) refl
   where
     by-test : (test : Bool) → leb need (whole - at) ≡ test → test ≡ leb (at + need) whole
-    by-test true room = sym (le-leb (at + need) whole (omega (arith, leb-true need (whole - at) room)))
-    by-test false none = sym (lt-leb (at + need) whole (omega (arith, leb-false need (whole - at) none)))
+    by-test true room =
+        let enough = leb-true need (whole - at) room in
+        sym (le-leb (at + need) whole (omega arith))
+    by-test false none =
+        let short = leb-false need (whole - at) none in
+        sym (lt-leb (at + need) whole (omega arith))
 
 -- What the test for room says, by its answer.
 module _ (at need whole : ℕ) {answer : Bool} (is : answer ≡ leb (at + need) whole) where

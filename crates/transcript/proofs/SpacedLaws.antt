@@ -153,8 +153,10 @@ module _ {items : List ℕ} {at : ℕ} {before out : List ℕ} {place : ℕ} (do
           put-length (spacedNumber (getD items done 0)) place out after end putting-room put-number
           ∙ putting .same-length;
       put =
-          subst (λ (bytes : List ℕ). Put bytes at before after end) (sym (spaced-next items done more))
-          (put-then (spaced (take done items)) (spacedNumber (getD items done 0)) at before out place
+          subst (λ (bytes : List ℕ). Put bytes at before after end)
+          (sym (spaced-next items done more))
+          (put-then (spaced (take done items)) (spacedNumber (getD items done 0)) at before out
+          place
           after end next-fits (putting .put) put-number);
     }
 

@@ -11,7 +11,8 @@ stand-requires c κs = search needs
 returns : tie.Need-returns
 returns c =
     let args = c .before .before .before .args in
-    c .stand .ensures ∙ sym (step-past (args .bytes .now) (args .at) (args .line) (c .before .if1 .taken))
+    c .stand .ensures ∙ sym (step-past (args .bytes .now) (args .at) (args .line)
+    (c .before .if1 .taken))
 
 read-three-requires : tie.Need-read-three-requires
 read-three-requires c κs = search needs

@@ -33,7 +33,8 @@ returns : tie.Need-returns Inv-loop μ-loop
 returns c =
     let loop = c .before .before .before .before .loop in
     fitting-short (loop .done) (loop .inv) (c .before .spaced-length .result)
-    (c .before .before .before .loop-test .taken) (c .before .spaced-length .ensures .is) (c .if1 .taken)
+    (c .before .before .before .loop-test .taken) (c .before .spaced-length .ensures .is)
+    (c .if1 .taken)
 
 add-done : tie.Need-add-done Inv-loop μ-loop
 add-done c = search needs
@@ -45,7 +46,8 @@ loop-again : tie.Need-loop-again Inv-loop μ-loop
 loop-again c =
     let loop = c .before .before .before .before .loop in
     fitting-on (loop .done) (loop .inv) (c .before .spaced-length .result)
-    (c .before .before .before .loop-test .taken) (c .before .spaced-length .ensures .is) (c .if1 .left)
+    (c .before .before .before .loop-test .taken) (c .before .spaced-length .ensures .is)
+    (c .if1 .left)
 
 returns-2 : tie.Need-returns-2 Inv-loop μ-loop
 returns-2 c =

@@ -27,7 +27,8 @@ behind-number : (c : tie.After-put-spaced)
     → let args = c .before .before .before .before .before .before .before .before .args in
     Stage (countedLine (args .word .now) (args .n)) (args .at) (args .out .now) (feed ∷ [])
     (c .put-spaced .last .1 .0) (c .put-spaced .result)
-behind-number c = stage-on (behind-word (c .before .before .before .before)) (c .put-spaced .ensures)
+behind-number c = stage-on (behind-word (c .before .before .before .before))
+    (c .put-spaced .ensures)
 
 put-text-requires : tie.Need-put-text-requires
 put-text-requires c κs = stage-room (begun (c .before .before .before))

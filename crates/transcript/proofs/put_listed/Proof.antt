@@ -21,7 +21,8 @@ begun : (c : tie.Start)
     (c .args .out .now) (c .args .at)
 begun c =
     let items = c .args .items .now in
-    stage-begins (listedLine items) (c .args .at) (c .args .out .now) _ (listed-joined items) (c .pre)
+    stage-begins (listedLine items) (c .args .at) (c .args .out .now) _ (listed-joined items)
+    (c .pre)
 
 behind-word : (c : tie.After-put-text)
     → let args = c .before .before .before .before .before .args in
@@ -33,7 +34,8 @@ behind-items : (c : tie.After-put-numbers)
     → let args = c .before .before .before .before .before .before .before .before .before .args in
     Stage (listedLine (args .items .now)) (args .at) (args .out .now) (feed ∷ [])
     (c .put-numbers .last .1 .0) (c .put-numbers .result)
-behind-items c = stage-on (behind-word (c .before .before .before .before)) (c .put-numbers .ensures)
+behind-items c = stage-on (behind-word (c .before .before .before .before))
+    (c .put-numbers .ensures)
 
 put-numbers-requires : tie.Need-put-numbers-requires
 put-numbers-requires c κs = stage-room (behind-word (c .before .before .before))

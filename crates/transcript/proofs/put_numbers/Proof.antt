@@ -44,7 +44,8 @@ loop-again : tie.Need-loop-again Inv-loop μ-loop
 loop-again c =
     let start = c .before .before .before .before .before .before .before .before .before in
     let loop = c .before .before .before .before .before .before .loop in
-    putting-on (loop .done) (start .pre) (loop .inv) (c .before .before .before .before .before .loop-test .taken)
+    putting-on (loop .done) (start .pre) (loop .inv)
+    (c .before .before .before .before .before .loop-test .taken)
     _ _ (c .before .before .put-spaced .ensures)
 
 same-length : tie.Need-same-length Inv-loop μ-loop
@@ -52,7 +53,8 @@ same-length c = search needs
 
 returns : tie.Need-returns Inv-loop μ-loop
 returns c =
-    putting-ends (c .before .loop .done) (c .before .before .before .before .pre) (c .before .loop .inv)
+    putting-ends (c .before .loop .done) (c .before .before .before .before .pre)
+    (c .before .loop .inv)
     (c .loop-test .left)
 
 pub put-numbers-spec : {M : Type 1} → statement M

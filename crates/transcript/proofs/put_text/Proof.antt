@@ -35,7 +35,8 @@ loop-less c = search needs
 loop-again : tie.Need-loop-again Inv-loop μ-loop
 loop-again c =
     let start = c .before .before .before in
-    copying-on (c .before .before .loop .done) (start .pre) (c .before .before .loop .inv) (c .before .loop-test .taken)
+    copying-on (c .before .before .loop .done) (start .pre) (c .before .before .loop .inv)
+    (c .before .loop-test .taken)
 
 add-result : tie.Need-add-result Inv-loop μ-loop
 add-result c = search needs
@@ -45,7 +46,8 @@ same-length c = search needs
 
 returns : tie.Need-returns Inv-loop μ-loop
 returns c =
-    copying-ends (c .before .loop .done) (c .before .before .pre) (c .before .loop .inv) (c .loop-test .left)
+    copying-ends (c .before .loop .done) (c .before .before .pre) (c .before .loop .inv)
+    (c .loop-test .left)
 
 pub put-text-spec : {M : Type 1} → statement M
 put-text-spec =

@@ -11,11 +11,13 @@ count-decimal-requires c κs = search needs
 add-result : tie.Need-add-result
 add-result c =
     let args = c .before .args in
-    record { fits = omega (arith, c .count-decimal .ensures, length-decimal-64 (args .n) (search needs)) }
+    let few = length-decimal-64 (args .n) (search needs) in
+    record { fits = omega (arith, c .count-decimal .ensures) }
 
 returns : tie.Need-returns
 returns c =
-    spaced-length-is (c .before .args .n) (c .count-decimal .result) (search needs) (c .count-decimal .ensures)
+    spaced-length-is (c .before .args .n) (c .count-decimal .result) (search needs)
+    (c .count-decimal .ensures)
 
 pub spaced-length-spec : {M : Type 1} → statement M
 spaced-length-spec = tie.close (tie.spec count-decimal-requires add-result returns)

@@ -35,7 +35,9 @@ same-length c = search needs
 returns : tie.Need-returns
 returns c =
     let args = c .before .before .before .before .before .before .before .before .args in
-    subst (λ (q : Quantile). LineWritten (endLine (classWord ++ quantileWord q)) (args .at) (args .out .now) (c .before .before .write-text .last .1 .0) (c .before .before .write-text .result))
+    subst (λ (q : Quantile). LineWritten (endLine (classWord ++ quantileWord q)) (args .at)
+    (args .out .now) (c .before .before .write-text .last .1 .0)
+    (c .before .before .write-text .result))
     (sym (c .before .before .before .before .before .enum-told .given .1))
     (c .before .before .write-text .ensures)
 
@@ -45,7 +47,9 @@ same-length-2 c = search needs
 returns-2 : tie.Need-returns-2
 returns-2 c =
     let args = c .before .before .before .before .before .before .before .before .before .args in
-    subst (λ (q : Quantile). LineWritten (endLine (classWord ++ quantileWord q)) (args .at) (args .out .now) (c .before .before .write-counted .last .1 .1 .0) (c .before .before .write-counted .result))
+    subst (λ (q : Quantile). LineWritten (endLine (classWord ++ quantileWord q)) (args .at)
+    (args .out .now) (c .before .before .write-counted .last .1 .1 .0)
+    (c .before .before .write-counted .result))
     (sym (c .before .before .before .before .before .before .quantile .given .1))
     (c .before .before .write-counted .ensures)
 

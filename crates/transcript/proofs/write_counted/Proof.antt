@@ -62,7 +62,8 @@ returns c =
     let tested = c .before .before .before .before .before in
     let args = tested .before .before .before .before .args in
     line-put (countedLine (args .word .now) (args .n)) (args .at) (args .out .now) _ _
-    (fits tested (c .before .before .before .before .if1 .taken)) (c .before .before .put-counted .ensures)
+    (fits tested (c .before .before .before .before .if1 .taken))
+    (c .before .before .put-counted .ensures)
 
 returns-2 : tie.Need-returns-2
 returns-2 c =

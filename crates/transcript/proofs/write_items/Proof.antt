@@ -73,7 +73,8 @@ returns-2 c =
 returns-3 : tie.Need-returns-3
 returns-3 c =
     let args = c .before .before .before .before .args in
-    let word-lacks = room-short (args .at) 7 (length (args .out .now)) (c .before .has-room .ensures) (c .if1 .left) in
+    let word-lacks = room-short (args .at) 7 (length (args .out .now))
+    (c .before .has-room .ensures) (c .if1 .left) in
     line-refused (listedLine (args .items .now)) (args .at) (args .out .now)
     (omega (arith, word-lacks, length-listed (args .items .now)))
 

@@ -30,8 +30,10 @@ returns c =
     let args = c .before .before .before .before .before .before .before .before .args in
     let places = c .before .before .before .before .before .lesser in
     let written = c .before .before .write-items in
-    subst (λ (items : List ℕ). LineWritten (listedLine items) (args .at) (args .out .now) (written .last .1 .0) (written .result))
-    (take-lesser (args .items .now) (args .count) (places .result) (places .ensures)) (written .ensures)
+    subst (λ (items : List ℕ). LineWritten (listedLine items) (args .at) (args .out .now)
+    (written .last .1 .0) (written .result))
+    (take-lesser (args .items .now) (args .count) (places .result) (places .ensures))
+    (written .ensures)
 
 pub write-listed-spec : {M : Type 1} → statement M
 write-listed-spec =

@@ -45,7 +45,8 @@ has-room-requires c κs = search needs
 -- What was counted is the length of the line.
 counted : (c : tie.After-spaced-length4)
     → let m = c .before .before .before .before .before .before .before .args .m in
-    c .before .before .before .before .spaced-length .result + c .before .before .spaced-length2 .result
+    c .before .before .before .before .spaced-length .result
+    + c .before .before .spaced-length2 .result
     + c .before .spaced-length3 .result
     + c .spaced-length4 .result
     ≡ length (messageLine m)
@@ -95,12 +96,14 @@ returns c =
     let tested = c .before .before .before .before .before in
     let args = tested .before .before .before .before .before .before .before .before .args in
     line-put (messageLine (args .m)) (args .at) (args .out .now) _ _
-    (fits tested (c .before .before .before .before .if1 .taken)) (c .before .before .put-message .ensures)
+    (fits tested (c .before .before .before .before .if1 .taken))
+    (c .before .before .put-message .ensures)
 
 returns-2 : tie.Need-returns-2
 returns-2 c =
     let args = c .before .before .before .before .before .before .before .before .before .args in
-    line-refused (messageLine (args .m)) (args .at) (args .out .now) (short (c .before) (c .if1 .left))
+    line-refused (messageLine (args .m)) (args .at) (args .out .now)
+    (short (c .before) (c .if1 .left))
 
 pub write-message-spec : {M : Type 1} → statement M
 write-message-spec =

@@ -40,6 +40,10 @@ pub mod ListLaws
 pub mod RunLaws
 pub mod RunInvariant
 pub mod Theorem
+pub mod TakenLaws
+pub mod LineTaken
+pub mod WorklistLaws
+pub mod TranscriptLaws
 pub mod Instances
 pub mod SoundCounters
 pub mod SoundSites

@@ -4,9 +4,9 @@
 --   all-set, all-snoc, all-cons                 a property of all places, after a change
 --   at-set                                      a property of one place, after a change
 --   getD-replicate-default                      a list of the default, read at any place
-use mathlib.Core.Path.{_≡_, refl, ap, _∙_}
+use mathlib.Core.Path.{_≡_, refl}
 use mathlib.Core.List.{List, [], _∷_, _++_}
-use Prim.Native.Nat.{ℕ, zero, suc, _+_, _≤_, _<_}
+use Prim.Native.Nat.{ℕ, zero, suc, _+_, _<_}
 use native.Mathlib.Omega.{arith}
 use native.Mathlib.Decide.{ℕ-discrete, decLt}
 use lib.ListN.{length, getD, set, replicate, length-append, length-set, List·getD-append}

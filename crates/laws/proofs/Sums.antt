@@ -6,7 +6,7 @@
 --   sumOf f xs              f of each element, summed; 0 of no element
 --   sumOf-set, sumOf-snoc   one element changed or added
 --   sumOf-least             as many times the least as there are elements
-use mathlib.Core.Path.{_≡_, refl, ap, sym, _∙_}
+use mathlib.Core.Path.{_≡_, refl, ap}
 use mathlib.Core.List.{List, [], _∷_, _++_}
 use Prim.Native.Nat.{ℕ, zero, suc, _+_, _*_, _≤_, _<_}
 use native.Mathlib.Omega.{arith}
@@ -94,6 +94,10 @@ module _ {A : Type 0} where
   pub sumOf-nil : (f : A → ℕ) → sumOf f [] ≡ 0
   unfolding sumOf
   sumOf-nil f = refl
+
+  pub sumOf-cons : (f : A → ℕ) (x : A) (xs : List A) → sumOf f (x ∷ xs) ≡ f x + sumOf f xs
+  unfolding sumOf
+  sumOf-cons f x xs = refl
 
   pub sumOf-set : (f : A → ℕ) (default : A) (xs : List A) (i : ℕ) (x : A)
       → i < length xs

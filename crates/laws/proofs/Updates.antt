@@ -7,6 +7,7 @@
 --   getD-changeFirst-before           a place below n, within the list, is changed
 --   changeFirst-all                   all places changed is `map`
 --   changeFirst-keeps                 a part of every element that no change touches
+--   sumBelow-length                   a sum by place is the sum along the list
 use mathlib.Core.Path.{_≡_, refl, sym, ap, _∙_}
 use mathlib.Core.List.{List, [], _∷_, _++_, map}
 use Prim.Native.Nat.{ℕ, zero, suc, _+_, _*_, _≤_, _<_}
@@ -14,6 +15,7 @@ use native.Mathlib.Omega.{arith}
 use native.Mathlib.Decide.{ℕ-discrete}
 use lib.ListN.{length, getD, set, length-set, length-map}
 use lib.Seq.{getD-set-same, getD-set-other, ext-getD}
+use Rattle.laws.proofs.Sums.{sumBelow}
 
 -- ---- Places changed in order
 
@@ -101,3 +103,24 @@ module _ {A : Type 0} (default : A) (change : A → A) where
           getD-map-within f [] j d absent = absurd (omega arith)
           getD-map-within f (y ∷ ys) zero d absent = refl
           getD-map-within f (y ∷ ys) (suc j) d absent = getD-map-within f ys j d (omega arith)
+
+-- ---- Sums by place and along the list
+
+sumBelow-front : (f : ℕ → ℕ) (n : ℕ) → sumBelow f (suc n) ≡ f 0 + sumBelow (λ i. f (suc i)) n
+sumBelow-front f zero = omega arith
+sumBelow-front f (suc n) = omega (arith, sumBelow-front f n)
+
+-- A sum that is defined along the list is the sum by place over all its places.
+pub sumBelow-length : {A : Type 0} (f : A → ℕ) (default : A) (total : List A → ℕ)
+    → total [] ≡ 0
+    → ((x : A) (xs : List A) → total (x ∷ xs) ≡ f x + total xs)
+    → (xs : List A)
+    → sumBelow (λ i. f (getD xs i default)) (length xs) ≡ total xs
+sumBelow-length f default total none more [] = sym none
+sumBelow-length f default total none more (x ∷ xs) =
+    omega (
+      arith,
+      more x xs,
+      sumBelow-front (λ i. f (getD (x ∷ xs) i default)) (length xs),
+      sumBelow-length f default total none more xs,
+    )

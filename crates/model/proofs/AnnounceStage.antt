@@ -67,7 +67,7 @@ module _ {settings : Settings} {network : Network} {left : ℕ} {waiting : List 
           together = together-site (a .together) i (told (c .threshold) (siteAt network i)) known
               (suc i) 0 (sound-told site-sound (c .threshold) rises within)
               (λ i′ i′< other. a .together .informed-same i′ (omega arith)) (λ _. refl)
-              (omega arith) refl refl;
+              (omega arith) refl;
           steps-left = omega (arith, a .steps-left, a .within, a .reached);
         }));
       }

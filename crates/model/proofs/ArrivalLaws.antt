@@ -4,14 +4,14 @@
 --   below-above     at or below a value, and above it: all arrivals
 --   below-mono      more are below a larger value
 --   upTo-oneMore    a histogram with one more arrival
-use mathlib.Core.Path.{_≡_, refl, sym, ap, _∙_}
+use mathlib.Core.Path.{_≡_, refl, sym, _∙_}
 use mathlib.Core.Bool.{Bool, true, false}
 use mathlib.Core.List.{List, [], _∷_, _++_}
 use Prim.Native.Nat.{ℕ, zero, suc, _+_, _≤_, _<_}
 use native.Mathlib.Omega.{arith}
 use native.Mathlib.Decide.{ℕ-discrete, decLt}
-use lib.Dec.{eqb, ltb, leb, leb·zero, leb·suc-zero, leb·suc-suc}
-use lib.ListN.{length, getD, set, replicate}
+use lib.Dec.{eqb, ltb, leb·suc-suc}
+use lib.ListN.{length, replicate}
 use borrow.Author.Tests.{lt-ltb, le-ltb, eq-eqb, ne-eqb}
 use Rattle.laws.proofs.Lists.{length-snoc}
 use Rattle.model.specs.declared.Arrival.{Arrival}

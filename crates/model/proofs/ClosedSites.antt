@@ -4,17 +4,18 @@
 --   closedSite t site       a site after a close
 --   getD-sitesClosed        place by place
 --   sitesClosed-map         the list as a whole, where it has at most k sites
+--   sumBelow-allPending, sumBelow-allArrivals   sums by place are the sums along the list
 --   baseOf-allPending       the new base, where it has k sites: the total with all pendings
 use mathlib.Core.Path.{_≡_, refl, sym, ap, _∙_}
-use mathlib.Core.List.{List, [], _∷_, _++_, map, map-map}
+use mathlib.Core.List.{List, [], _∷_, _++_, map}
 use Prim.Native.Nat.{ℕ, zero, suc, _+_, _≤_, _<_}
 use native.Mathlib.Omega.{arith}
 use lib.ListN.{length, getD, length-map}
 use Rattle.laws.proofs.Sums.{sumBelow}
-use Rattle.laws.proofs.Updates.{changeFirst, length-changeFirst, getD-changeFirst-before, changeFirst-keeps, changeFirst-all}
+use Rattle.laws.proofs.Updates.{changeFirst, length-changeFirst, getD-changeFirst-before, changeFirst-all, sumBelow-length}
 use Rattle.model.specs.declared.Settings.{Settings}
 use Rattle.model.specs.Site.{Site, freshSite}
-use Rattle.model.specs.NetworkMemory.{allPending}
+use Rattle.model.specs.NetworkMemory.{allPending, allArrivals}
 use Rattle.model.proofs.DeliveryMessages.{pendingAt}
 use Rattle.model.proofs.DeliveryLoops.{polled, told}
 use Rattle.model.proofs.DeliveryClose.{baseOf, sitesPolled, sitesClosed}
@@ -51,19 +52,25 @@ sitesClosed-map settings sites t few =
     twice [] = refl
     twice (x ∷ xs) = ap {B = List Site} (λ ys. closedSite t x ∷ ys) (twice xs)
 
--- A sum by place over all places is the sum over the list.
-pub sumBelow-allPending : (sites : List Site)
-    → sumBelow (pendingAt sites) (length sites) ≡ allPending sites
-sumBelow-allPending [] = refl
-sumBelow-allPending (site ∷ sites) =
-    omega (arith, front (pendingAt (site ∷ sites)) (length sites), sumBelow-allPending sites)
-  where
-    front : (f : ℕ → ℕ) (n : ℕ) → sumBelow f (suc n) ≡ f 0 + sumBelow (λ i. f (suc i)) n
-    front f zero = omega arith
-    front f (suc n) = omega (arith, front f n)
+-- The sums by place over all sites are the sums that the batch call's test takes.
+pub sumBelow-allPending : (settings : Settings) (sites : List Site)
+    → length sites ≡ settings .sites
+    → sumBelow (pendingAt sites) (settings .sites) ≡ allPending sites
+sumBelow-allPending settings sites all =
+    ap (sumBelow (pendingAt sites)) (sym all)
+    ∙ sumBelow-length (λ (site : Site). site .pending) freshSite allPending refl
+    (λ site others. refl) sites
+
+pub sumBelow-allArrivals : (settings : Settings) (sites : List Site)
+    → length sites ≡ settings .sites
+    → sumBelow (λ j. getD sites j freshSite .arrivals) (settings .sites) ≡ allArrivals sites
+sumBelow-allArrivals settings sites all =
+    ap (sumBelow (λ j. getD sites j freshSite .arrivals)) (sym all)
+    ∙ sumBelow-length (λ (site : Site). site .arrivals) freshSite allArrivals refl
+    (λ site others. refl) sites
 
 pub baseOf-allPending : (settings : Settings) (sites : List Site) (total : ℕ)
     → length sites ≡ settings .sites
     → baseOf settings sites total ≡ total + allPending sites
 baseOf-allPending settings sites total all =
-    ap (λ (x : ℕ). total + x) (ap (sumBelow (pendingAt sites)) (sym all) ∙ sumBelow-allPending sites)
+    ap (λ (x : ℕ). total + x) (sumBelow-allPending settings sites all)

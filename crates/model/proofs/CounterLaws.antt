@@ -3,7 +3,7 @@
 --   Found, find-is          the lowest place of the item; the number of counters if it has none
 --   LeastAt, leastPlace-is  a place whose count no other undercuts
 use mathlib.Core.Path.{_≡_, refl}
-use mathlib.Core.Bool.{Bool, true, false, _&&_, _||_}
+use mathlib.Core.Bool.{Bool, true, false, _||_}
 use mathlib.Core.List.{List, [], _∷_}
 use Prim.Native.Nat.{ℕ, zero, suc, _+_, _≤_, _<_}
 use native.Mathlib.Omega.{arith}
@@ -133,7 +133,8 @@ leastFrom-is place best least (counter ∷ counters) =
         → Best (place + 1) best least counters r
         → Best place best least (counter ∷ counters) r
     passed-over r no-better (kept r-is each) =
-        kept r-is (all-cons (λ x. least .count ≤ x .count) noCounter counter counters no-better each)
+        kept r-is
+        (all-cons (λ x. least .count ≤ x .count) noCounter counter counters no-better each)
     passed-over r no-better (moved q r-is least-at no-larger) =
         moved (suc q) (omega arith) (least-cons counter counters q least-at (omega arith)) no-larger
 

@@ -1,27 +1,22 @@
--- An arrival of an item counted by whichever counter takes it, its item report, and what the reports
--- are worth (PROOF.md S3, S4, S6, S7).
+-- An arrival of an item counted by whichever counter takes it (PROOF.md S1 to S4, S7).
 --
 --   Placed, placementFor-is      the three placements, with what each tells of the counters
 --   Counted                      one arrival counted: where, and the sum of unreported (S7)
 --   saved-placed, counted-placed of the placement that the item gets
---   saved-report, unreported-report, sum-report   "kind 1 goes out and sent grows by it"
---   reported-le, arrived-near    an item's reports: no more than arrived, and little less (S6)
-use mathlib.Core.Path.{_≡_, refl, sym, ap, _∙_}
+use mathlib.Core.Path.{_≡_, refl, ap}
 use mathlib.Core.Bool.{Bool, true, false}
 use mathlib.Core.List.{List, [], _∷_, _++_}
-use Prim.Native.Nat.{ℕ, zero, suc, _+_, _-_, _*_, _≤_, _<_}
-use native.Mathlib.Nat.{mul-le-mul-left, mul-le-mul-right}
+use Prim.Native.Nat.{ℕ, _+_, _≤_, _<_}
 use native.Mathlib.Omega.{arith}
-use native.Mathlib.Decide.{decLt}
 use lib.Dec.{ltb}
 use lib.ListN.{length, set, length-set}
 use lib.Seq.{getD-set-same, getD-set-other}
 use borrow.Author.Tests.{ltb-true, ltb-false}
-use Rattle.laws.proofs.Lists.{length-snoc, getD-snoc-old, getD-snoc-new, all-set}
-use Rattle.laws.proofs.Sums.{sumOf, sumOf-set, sumOf-snoc, sumOf-least}
-use Rattle.model.specs.Counters.{Counter, noCounter, counterAt, unreported, find, leastPlace, Placement, own, unused, replaced, placementFor, placeOf, oneMoreOf, firstOf, replacing, countersAfter, lostBy, afterReport}
+use Rattle.laws.proofs.Lists.{length-snoc, getD-snoc-old, getD-snoc-new}
+use Rattle.laws.proofs.Sums.{sumOf, sumOf-set, sumOf-snoc}
+use Rattle.model.specs.Counters.{Counter, noCounter, counterAt, unreported, find, leastPlace, Placement, own, unused, replaced, placementFor, placeOf, oneMoreOf, firstOf, replacing, countersAfter, lostBy}
 use Rattle.model.proofs.CounterLaws.{Found, find-is, LeastAt, leastPlace-is}
-use Rattle.model.proofs.DistinctItems.{Absent, apart-set, absent-of-set, absent-before-set}
+use Rattle.model.proofs.DistinctItems.{Absent}
 use Rattle.model.proofs.SpaceSaving.{Saved, GrowsAt, saved-own, saved-unused}
 use Rattle.model.proofs.Replacement.{saved-replaced}
 
@@ -93,11 +88,13 @@ module _ {arrived reported : ℕ → ℕ} {capacity n item : ℕ} {counters : Li
     others-below = λ j j< other.
         rw (getD-set-other counters place j x noCounter other)
         (below j (omega (arith, length-set counters place x)));
-    here-le = rw (getD-set-same counters place x noCounter inside) (omega (arith, below place inside));
+    here-le =
+        rw (getD-set-same counters place x noCounter inside) (omega (arith, below place inside));
     unreported-moves = omega (arith, sumOf-set unreported noCounter counters place x inside);
   }
 
-  counted-snoc : Counted threshold item (length counters) 0 counters (counters ++ (firstOf item ∷ []))
+  counted-snoc : Counted threshold item (length counters) 0
+      counters (counters ++ (firstOf item ∷ []))
   counted-snoc = record {
     inside = omega (arith, length-snoc counters (firstOf item));
     holds = ap (λ (x : Counter). x .item) (getD-snoc-new noCounter counters (firstOf item));
@@ -127,7 +124,8 @@ pub saved-placed : {arrived arrived′ reported : ℕ → ℕ} {capacity n item 
     → Saved arrived reported capacity n counters
     → Placed capacity counters item placement
     → Saved arrived′ reported capacity (n + 1) (countersAfter placement counters item)
-saved-placed one-more saved (in-own place inside holds) = saved-own one-more saved place inside holds
+saved-placed one-more saved (in-own place inside holds) =
+    saved-own one-more saved place inside holds
 saved-placed one-more saved (in-unused absent room) = saved-unused one-more saved absent room
 saved-placed one-more saved (in-replaced place least-at absent full) =
     saved-replaced one-more saved place least-at absent full

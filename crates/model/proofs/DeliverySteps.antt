@@ -29,7 +29,7 @@ steps-at-rest (suc fuel) settings network log silent =
     rw silent (steps-at-rest fuel settings network log silent)
 
 -- A coordinator that announces is asked for its next kind 7.
-steps-asked : (fuel : ℕ) (settings : Settings) (network : Network) (log : List Message)
+pub steps-asked : (fuel : ℕ) (settings : Settings) (network : Network) (log : List Message)
     → isAnnouncing (network .coordinator .phase) ≡ true
     → deliverySteps (suc fuel) settings (delivery network [] log)
     ≡ deliverySteps fuel settings (joining (askAnnouncement settings network) [] log)

@@ -1,17 +1,17 @@
--- Counters that hold no item twice, and items that no counter holds, after one counter is changed or
--- added (PROOF.md S1).
+-- Counters that hold no item twice, and items that no counter holds, after one counter is changed
+-- or added (PROOF.md S1).
 --
 --   Absent item counters         no counter holds the item
 --   Apart counters               no two counters hold the same item
 --   apart-set, apart-snoc        it stays so if the new counter's item is nowhere else
 --   AbsentSet, absent-of-set     an item absent after a change: where it was absent before
 --   absent-before-set, AbsentSnoc, absent-of-snoc
-use mathlib.Core.Path.{_≡_, refl, sym, ap, _∙_}
+use mathlib.Core.Path.{_≡_}
 use mathlib.Core.List.{List, [], _∷_, _++_}
-use Prim.Native.Nat.{ℕ, zero, suc, _+_, _≤_, _<_}
+use Prim.Native.Nat.{ℕ, _+_, _<_}
 use native.Mathlib.Omega.{arith}
 use native.Mathlib.Decide.{ℕ-discrete, decLt}
-use lib.ListN.{length, getD, set, length-set}
+use lib.ListN.{length, set, length-set}
 use lib.Seq.{getD-set-same, getD-set-other}
 use Rattle.laws.proofs.Lists.{length-snoc, getD-snoc-old, getD-snoc-new}
 use Rattle.model.specs.Counters.{Counter, noCounter, counterAt}

@@ -4,25 +4,20 @@
 --
 --   RunOk                what holds of a network between arrivals, of a run's
 --   estimates-of-ok      L1 and L2, and that a listed item has (6p - 5e) / 6000 of all arrivals
-use mathlib.Core.Path.{_≡_, refl, sym, ap, _∙_}
-use mathlib.Core.Bool.{Bool, true, false, _&&_}
-use mathlib.Core.List.{List}
-use Prim.Native.Nat.{ℕ, zero, suc, _+_, _-_, _*_, _≤_, _<_}
-use native.Mathlib.Nat.{mul-le-mul-left, mul-le-mul-right, mul-le-mul}
+use mathlib.Core.Path.{_≡_, ap}
+use mathlib.Core.Bool.{true}
+use Prim.Native.Nat.{ℕ, _+_, _-_, _*_, _≤_, _<_}
+use native.Mathlib.Nat.{mul-le-mul-left, mul-le-mul-right}
 use native.Mathlib.Omega.{arith}
 use native.Mathlib.Decide.{decLt}
 use lib.Dec.{leb}
-use lib.ListN.{length, getD}
+use lib.ListN.{getD}
 use borrow.Author.Tests.{leb-true}
 use Rattle.laws.proofs.Tests.{both-true}
 use Rattle.laws.proofs.Arithmetic.{bound-rescaled}
 use Rattle.laws.proofs.Sums.{sumBelow, sumBelow-le, sumBelow-const, sumBelow-add, sumBelow-mul}
 use Rattle.model.specs.declared.Settings.{Settings}
-use Rattle.model.specs.declared.Arrival.{Arrival}
-use Rattle.model.specs.declared.Message.{Message}
-use Rattle.model.specs.Site.{freshSite}
-use Rattle.model.specs.Network.{Network}
-use Rattle.model.specs.Reading.{isListed}
+use Rattle.model.specs.Reading.{isListed, heldSide, neededSide}
 use Rattle.model.specs.Runs.{Run}
 use Rattle.model.specs.Claims.{counted, countOf, Estimates}
 use Rattle.model.proofs.SettingsLaws.{Settled}
@@ -178,15 +173,20 @@ module _ {settings : Settings} {run : Run} (fit : Settled settings) (ok : RunOk 
     listed-firm : isListed settings (run .network .coordinator) item ≡ true
         → (6 * settings .phi - 5 * e) * n ≤ 6000 * countOf item (run .accepted)
     listed-firm listed =
-        let held : (2 * settings .phi - e) * total ≤ 2000 * estimate =
-        leb-true _ _ (both-true (leb 1 total) _ listed .second-true) in
+        let passes : neededSide settings (run .network .coordinator)
+        ≤ heldSide (run .network .coordinator) item =
+        leb-true (neededSide settings (run .network .coordinator))
+        (heldSide (run .network .coordinator) item)
+        (both-true (leb 1 total) _ listed .second-true) in
+        let needed : (2 * settings .phi - e) + e ≡ 2 * settings .phi =
+        omega (arith, fit .phi-epsilon) in
         let small : 2 * settings .phi - e ≤ 2000 = omega (arith, fit .phi .at-most) in
         let split : 6 * settings .phi - 5 * e + 2 * e ≡ 3 * (2 * settings .phi - e) =
         omega (arith, fit .phi-epsilon) in
         omega (
           arith,
-          held,
           estimate-le,
+          ap (λ (z : ℕ). z * total) needed,
           ap (λ (z : ℕ). z * n) split,
           mul-le-mul-left (2 * settings .phi - e) lagging,
           mul-le-mul-right (e * n) small,

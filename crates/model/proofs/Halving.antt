@@ -1,5 +1,5 @@
--- Halving an interval of values, for a free number of halvings (PROOF.md section 5; document 01: "the
--- desk halves the interval 0 to 1023 until low = high").
+-- Halving an interval of values, for a free number of halvings (PROOF.md section 5; document 01:
+-- "the desk halves the interval 0 to 1023 until low = high").
 --
 --   halve test h low high       the value that is left, after at most h halvings
 --   halvings test h low high    how many halvings it took
@@ -8,7 +8,7 @@
 --   halvings-exact              of an interval of exactly 2 ^ h values, exactly h
 use mathlib.Core.Path.{_≡_, refl, sym, ap, _∙_}
 use mathlib.Core.Bool.{Bool, true, false}
-use Prim.Native.Nat.{ℕ, zero, suc, _+_, _-_, _*_, _/_, _^_, _≤_, _<_}
+use Prim.Native.Nat.{ℕ, zero, suc, _+_, _^_, _≤_, _<_}
 use native.Mathlib.Omega.{arith}
 use lib.Dec.{eqb}
 use lib.Pow.{pow-pos}

@@ -9,7 +9,7 @@ pub mod Halving
 pub mod Threshold
 pub mod Rounds
 pub mod RoundBounds
-pub mod ListBounds
+pub mod HeavyHitters
 pub mod CounterLaws
 pub mod DistinctItems
 pub mod SpaceSaving
@@ -50,3 +50,6 @@ pub mod ReportStage
 pub mod PollStage
 pub mod ProbeStage
 pub mod AnnounceStage
+pub mod MidDelivery
+pub mod SoundStages
+pub mod SoundTheorem

@@ -1,14 +1,14 @@
 -- The list of heavy hitters, of every coordinator: which items it holds, and in which order.
 --
---   list-law     an item is in it exactly if it is one and passes the rule; it rises strictly; it is
---                empty at total 0
+--   list-law     an item is in it exactly if it is one and passes the rule; it rises strictly; it
+--                is empty at total 0
 use mathlib.Core.Path.{_≡_, refl, sym, ap, _∙_}
 use mathlib.Core.Bool.{Bool, true, false, _&&_, _||_}
 use mathlib.Core.List.{List, [], _∷_, _++_}
 use Prim.Native.Nat.{ℕ, zero, suc, _+_, _≤_, _<_}
 use native.Mathlib.Omega.{arith}
 use native.Mathlib.Decide.{ℕ-discrete, decLt}
-use lib.Dec.{eqb, ltb, leb}
+use lib.Dec.{eqb, ltb}
 use lib.ListN.{length, getD}
 use borrow.Author.Tests.{eq-eqb, ne-eqb, lt-ltb, le-ltb, lt-leb}
 use Rattle.model.specs.declared.Settings.{Settings}
@@ -47,9 +47,11 @@ module _ (settings : Settings) (c : Coordinator) where
       → contains item (among more first) ≡ false
   contains-outside zero first item outside = refl
   contains-outside (suc more) first item outside =
-      let differs : eqb item first ≡ false = ne-eqb item first (λ same. omega (arith, at-first same)) in
+      let differs : eqb item first ≡ false =
+      ne-eqb item first (λ same. omega (arith, at-first same)) in
       contains-cons (isListed settings c first) item first (among more (first + 1))
-      ∙ rw differs (contains-outside more (first + 1) item (λ after. omega (arith, outside (omega arith))))
+      ∙ rw differs
+      (contains-outside more (first + 1) item (λ after. omega (arith, outside (omega arith))))
     where
       at-first : item ≡ first → first + suc more ≤ item
       at-first same = outside (omega arith)
@@ -71,7 +73,8 @@ module _ (settings : Settings) (c : Coordinator) where
       by-item : Dec (item ≡ first)
           → (first + 1 ≤ item → item < first + 1 + more
           → contains item (among more (first + 1)) ≡ isListed settings c item)
-          → (if eqb item first then isListed settings c first || contains item (among more (first + 1))
+          → (if eqb item first
+          then isListed settings c first || contains item (among more (first + 1))
           else contains item (among more (first + 1)))
           ≡ isListed settings c item
       by-item (yes same) later =

@@ -1,14 +1,14 @@
--- An accepted arrival keeps what holds of a network between arrivals (PROOF.md sections 3 and 6), as far
--- as the arrival's own messages go; NetworkClose has the close.
+-- An accepted arrival keeps what holds of a network between arrivals (PROOF.md sections 3 and 6),
+-- as far as the arrival's own messages go; NetworkClose has the close.
 --
 --   sites-then           the sites when the arrival is observed
 --   estimates-then       N3 after the item report, if one is due
 --   account-then         the account with no count report, or with one
 --   kept-silent, kept-signal         the whole, where the round is not closed
-use mathlib.Core.Path.{_≡_, refl, sym, ap, _∙_}
+use mathlib.Core.Path.{_≡_, refl, ap, _∙_}
 use mathlib.Core.Bool.{Bool, true, false}
 use mathlib.Core.List.{List, [], _∷_, _++_}
-use Prim.Native.Nat.{ℕ, zero, suc, _+_, _*_, _≤_, _<_}
+use Prim.Native.Nat.{ℕ, _+_, _*_, _<_}
 use native.Mathlib.Omega.{arith}
 use lib.Dec.{eqb}
 use lib.ListN.{length, getD, length-append}
@@ -22,7 +22,7 @@ use Rattle.model.specs.Choice.{if_then_else_}
 use Rattle.model.specs.Refusals.{when}
 use Rattle.model.specs.Limits.{valueCount}
 use Rattle.model.specs.Counters.{lostBy}
-use Rattle.model.specs.Site.{Site, freshSite, placementIn, reportsItem, reportsCount, observed}
+use Rattle.model.specs.Site.{Site, placementIn, reportsItem, reportsCount, observed}
 use Rattle.model.specs.Network.{Network, siteAt}
 use Rattle.model.specs.Claims.{counted}
 use Rattle.model.proofs.SettingsLaws.{Settled}
@@ -34,8 +34,8 @@ use Rattle.model.proofs.DeliveryMessages.{pendingAt}
 use Rattle.model.proofs.ArrivalParts.{observedSites, firstMessages, afterItemReport, afterCountReport, length-firstMessages}
 use Rattle.model.proofs.SitesInvariant.{growAt, sum-growAt, SitesOk, unreportedAt, sites-arrival, unreported-arrival, pending-arrival}
 use Rattle.model.proofs.QuantileLaws.{EarlyValues, early-arrival, late-arrival}
-use Rattle.model.proofs.Rounds.{Figures, Account, ArrivalIn, account-arrival}
-use Rattle.model.proofs.NetworkInvariant.{probingMessages, figuresOf, NetworkOk, ArrivalKnown}
+use Rattle.model.proofs.Rounds.{Figures, Account, account-arrival}
+use Rattle.model.proofs.NetworkInvariant.{probingMessages, NetworkOk, ArrivalKnown}
 
 -- ---- The arrival observed
 
@@ -95,7 +95,8 @@ module _ {settings : Settings} {network : Network}
   estimates-then item =
       let inside : arrival .item < length (network .coordinator .estimates) =
       omega (arith, ok .estimates-long, known .item-known) in
-      let amount : (if eqb item (arrival .item) then (if itemDue then site .threshold else 0) else 0)
+      let amount : (if eqb item (arrival .item)
+      then (if itemDue then site .threshold else 0) else 0)
       ≡ (if eqb item (arrival .item) then (if itemDue then threshold else 0) else 0) =
       ap (λ (t : ℕ). if eqb item (arrival .item) then (if itemDue then t else 0) else 0)
       same-threshold in
@@ -151,7 +152,8 @@ module _ {settings : Settings} {network : Network}
             omega (
               arith,
               when-times itemDue threshold,
-              unreported-arrival (ok .sites-ok) (known .site-known) (known .value-known) observed-here,
+              unreported-arrival (ok .sites-ok) (known .site-known) (known .value-known)
+                  observed-here,
             );
         pending-moves =
             omega (
@@ -193,7 +195,11 @@ module _ {settings : Settings} {network : Network}
     estimates-long = estimates-long-then;
     estimates-are = estimates-then;
     early-values = λ one.
-        absurd (omega (arith, same-threshold, leb-false (site .threshold) (site .pending + 1) silent));
+        absurd (omega (
+          arith,
+          same-threshold,
+          leb-false (site .threshold) (site .pending + 1) silent,
+        ));
     late-quantile = λ two. late-arrival arrival (ok .late-quantile two);
     account = rw no-more at (account-then false silent);
   }

@@ -6,11 +6,11 @@
 --   ArrivalKnown              an accepted arrival: site, item and value are known
 --   known-of-no-refusal       an arrival that is not refused is one
 use mathlib.Core.Path.{_≡_, refl, sym, ap, _∙_}
-use mathlib.Core.List.{List, [], _∷_}
-use Prim.Native.Nat.{ℕ, zero, suc, _+_, _*_, _≤_, _<_}
+use mathlib.Core.List.{List, []}
+use Prim.Native.Nat.{ℕ, _+_, _*_, _≤_, _<_}
 use native.Mathlib.Omega.{arith}
 use lib.Dec.{lit<}
-use lib.ListN.{length, getD, replicate, length-replicate}
+use lib.ListN.{length, getD, length-replicate}
 use borrow.Author.Tests.{leb-false, ltb-false}
 use Rattle.laws.proofs.Lists.{getD-replicate-default}
 use Rattle.laws.proofs.Sums.{sumBelow, sumBelow-zero, sumOf, sumOf-nil}
@@ -23,9 +23,8 @@ use Rattle.model.specs.Limits.{topValue, valueCount}
 use Rattle.model.specs.Settings.{thresholdOf}
 use Rattle.model.specs.Counters.{unreported}
 use Rattle.model.specs.Site.{Site, freshSite, addressRefusal, arrivalRefusal, upTo}
-use Rattle.model.specs.Coordinator.{Coordinator}
 use Rattle.model.specs.Network.{Network, freshNetwork}
-use Rattle.model.specs.Claims.{counted, above}
+use Rattle.model.specs.Claims.{counted}
 use Rattle.model.proofs.RefusalLaws.{passed, both-accepted}
 use Rattle.model.proofs.SettingsLaws.{Settled}
 use Rattle.model.proofs.Threshold.{threshold-of-zero}

@@ -108,8 +108,7 @@ module _ {settings : Settings} {network : Network} {waiting : List Message} {lef
           together = together-site none-on-way j (polled (siteAt network j))
               (p .closing .site-known) (settings .sites) (siteAt network j .pending)
               (sound-polled site-sound) (λ i i< _. p .together .informed-same i i<)
-              (λ _. same) (p .together .thresholds-below j (p .closing .site-known)) refl
-              (omega arith);
+              (λ _. same) (p .together .thresholds-below j (p .closing .site-known)) (omega arith);
           steps-left = omega (arith, p .closing .site-known);
         });
       }

@@ -187,7 +187,7 @@ module _ {settings : Settings} {network : Network} {waiting : List Message} {lef
           sum-within = p .sum-within;
           together = together-site (p .together) (p .j) (siteAt network (p .j)) known 0 0 site-sound
               (λ i none _. absurd (omega arith)) (λ none. absurd (omega arith))
-              (p .together .thresholds-below (p .j) known) refl refl;
+              (p .together .thresholds-below (p .j) known) refl;
           steps-left = omega (arith, known, some-steps);
         });
       }

@@ -1,5 +1,5 @@
--- The quantile against the arrivals: while the threshold is 1 (PROOF.md N4), and later (N5). n is the
--- number of all arrivals.
+-- The quantile against the arrivals: while the threshold is 1 (PROOF.md N4), and later (N5). n is
+-- the number of all arrivals.
 --
 --   EarlyValues, early-fresh, early-arrival   the coordinator's histogram is the true one
 --   leastValue-is                             the least value of a true histogram
@@ -11,17 +11,17 @@ use mathlib.Core.List.{List, [], _∷_, _++_}
 use Prim.Native.Nat.{ℕ, zero, suc, _+_, _*_, _^_, _≤_, _<_}
 use native.Mathlib.Nat.{mul-le-mul-right}
 use native.Mathlib.Omega.{arith}
-use lib.Dec.{ltb, leb}
-use lib.ListN.{length, set, length-set, replicate, length-replicate}
+use lib.Dec.{ltb}
+use lib.ListN.{length, length-set, replicate, length-replicate}
 use borrow.Author.Tests.{leb-true, leb-false, le-leb}
 use Rattle.model.specs.declared.Arrival.{Arrival}
 use Rattle.model.specs.declared.Quantile.{Quantile}
-use Rattle.model.specs.declared.Quantile.the-variants.{Nothing, Value}
+use Rattle.model.specs.declared.Quantile.the-variants.{Value}
 use Rattle.model.specs.Limits.{valueCount}
 use Rattle.model.specs.Site.{oneMoreAt, upTo}
 use Rattle.model.specs.Coordinator.{enough}
 use Rattle.model.specs.Reading.{leastValueFrom, leastValue}
-use Rattle.model.specs.Claims.{oneIf, counted, below, above}
+use Rattle.model.specs.Claims.{counted, below, above}
 use Rattle.model.proofs.Halving.{halve, Least, Rising, halve-is-least}
 use Rattle.model.proofs.ArrivalLaws.{oneIf-le, counted-snoc, below-snoc, above-snoc, below-zero, below-mono, below-above, upTo-zeros, upTo-oneMore}
 
@@ -68,7 +68,11 @@ module _ (rank total top : ℕ) (accepted : List Arrival)
       → 1000 * before < rank * total
       → QuantileIs (rank * total) accepted (leastValueFrom rank total value before counts)
   leastValueFrom-is value before [] rest before-is few =
-      absurd (omega (arith, rest top, below-mono (top + 1) (value + top + 1) accepted (omega arith)))
+      absurd (omega (
+        arith,
+        rest top,
+        below-mono (top + 1) (value + top + 1) accepted (omega arith),
+      ))
   leastValueFrom-is value before (count ∷ counts) rest before-is few =
       by-count (enough rank total (before + count)) refl
       (leastValueFrom-is (value + 1) (before + count) counts later with-count)
@@ -93,7 +97,8 @@ module _ (rank total top : ℕ) (accepted : List Arrival)
         value = value;
         is-value = refl;
         below-low = omega arith;
-        upTo-high = omega (arith, with-count, leb-true (rank * total) (1000 * (before + count)) found);
+        upTo-high =
+            omega (arith, with-count, leb-true (rank * total) (1000 * (before + count)) found);
       })
       by-count false not-found next =
           rw (not-found, leastValueFrom)
@@ -155,14 +160,17 @@ module _ (rank : ℕ) (accepted : List Arrival) (test : ℕ → Bool)
       ))
 
   -- The least value with enough at or below it: too few are below it, and above it are the others.
-  late-of-least : (value : ℕ) → Least test value → LateQuantile rank value (counted accepted) accepted
+  late-of-least : (value : ℕ)
+      → Least test value
+      → LateQuantile rank value (counted accepted) accepted
   late-of-least value least = record {
     few-below = omega (arith, too-few value (least .fails-below));
     few-above =
         omega (
           arith,
           below-above value accepted,
-          leb-true (rank * n) (1000 * below (value + 1) accepted) (sym (test-is value) ∙ least .holds),
+          leb-true (rank * n) (1000 * below (value + 1) accepted)
+              (sym (test-is value) ∙ least .holds),
         );
   }
     where

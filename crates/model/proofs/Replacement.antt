@@ -2,7 +2,7 @@
 -- (PROOF.md section 2, "Replacement"). Letters and names as in SpaceSaving.
 --
 --   saved-replaced     "it replaces the code of least count"
-use mathlib.Core.Path.{_≡_, refl, sym, ap, _∙_}
+use mathlib.Core.Path.{_≡_}
 use mathlib.Core.List.{List}
 use Prim.Native.Nat.{ℕ, _+_, _*_, _≤_, _<_}
 use native.Mathlib.Nat.{mul-le-mul-right}
@@ -10,7 +10,7 @@ use native.Mathlib.Omega.{arith}
 use native.Mathlib.Decide.{ℕ-discrete}
 use lib.ListN.{length, set, length-set}
 use Rattle.laws.proofs.Lists.{all-set}
-use Rattle.laws.proofs.Sums.{sumOf, sumOf-set, sumOf-least}
+use Rattle.laws.proofs.Sums.{sumOf-set, sumOf-least}
 use Rattle.model.specs.Counters.{Counter, noCounter, counterAt, replacing}
 use Rattle.model.proofs.CounterLaws.{LeastAt}
 use Rattle.model.proofs.DistinctItems.{Absent, apart-set, absent-of-set, absent-before-set}
@@ -53,10 +53,12 @@ module _ {arrived arrived′ reported : ℕ → ℕ} {capacity n item : ℕ} {co
 
       x-ok : CounterOk arrived′ reported capacity (n + 1) x
       x-ok =
-          let before : NotHeld arrived reported capacity counters item = saved .not-held item absent in
+          let before : NotHeld arrived reported capacity counters item =
+          saved .not-held item absent in
           record {
             amounts-fit = omega arith;
-            arrived-le-count = omega (arith, one-more .grown, before .arrived-le-counts place inside);
+            arrived-le-count =
+                omega (arith, one-more .grown, before .arrived-le-counts place inside);
             reported-low = omega (arith, one-more .grown);
             reported-high = omega arith;
             overestimate-low = omega (arith, least-low);

@@ -1,12 +1,12 @@
 -- A site's item reports: a counter after its report, and what the reports say of an item's arrivals
 -- (PROOF.md S3, S6).
 --
---   saved-report                  "kind 1 goes out and sent grows by it" keeps what the counters say
+--   saved-report                  "kind 1 goes out and sent grows by it": the counters stay right
 --   below-report, sum-report      the unreported arrivals then
 --   Near, reports-near            no more is reported of an item than arrived, and hardly less
-use mathlib.Core.Path.{_≡_, refl, sym, ap, _∙_}
+use mathlib.Core.Path.{_≡_, sym, ap, _∙_}
 use mathlib.Core.List.{List}
-use Prim.Native.Nat.{ℕ, _+_, _-_, _*_, _≤_, _<_}
+use Prim.Native.Nat.{ℕ, _+_, _*_, _≤_, _<_}
 use native.Mathlib.Nat.{mul-le-mul-left, mul-le-mul-right}
 use native.Mathlib.Omega.{arith}
 use native.Mathlib.Decide.{decLt}
@@ -55,7 +55,8 @@ module _ {arrived reported reported′ : ℕ → ℕ} {capacity n threshold item
       → CounterOk arrived reported′ capacity n (counterAt counters j)
   others-ok j j< other =
       let ok : CounterOk arrived reported capacity n (counterAt counters j) = saved .held j j< in
-      let unchanged : reported′ (counterAt counters j .item) ≡ reported (counterAt counters j .item) =
+      let unchanged : reported′ (counterAt counters j .item)
+      ≡ reported (counterAt counters j .item) =
       told .same _ (λ same. elsewhere j j< other (same ∙ sym (counted .holds))) in
       record {
         amounts-fit = ok .amounts-fit;
@@ -138,7 +139,10 @@ module _ {arrived reported : ℕ → ℕ} {capacity n : ℕ} {counters : List Co
           let bound : arrived item
           ≤ counterAt counters (find item counters) .overestimate + (reported item + w) =
           omega (arith, few (find item counters) inside) in
-          record { reported-le = omega arith; arrived-near = omega (arith, mul-le-mul-left capacity bound) }
+          record {
+            reported-le = omega arith;
+            arrived-near = omega (arith, mul-le-mul-left capacity bound);
+          }
 
       without : NotHeld arrived reported capacity counters item
           → Dec (length counters < capacity)
@@ -162,5 +166,6 @@ module _ {arrived reported : ℕ → ℕ} {capacity n : ℕ} {counters : List Co
       by-place (yes inside) = in-counter inside
       by-place (no outside) =
           without
-          (saved .not-held item (record { nowhere = λ j j< same. found .lowest j (omega arith) same }))
+          (saved .not-held item
+          (record { nowhere = λ j j< same. found .lowest j (omega arith) same }))
           (decLt (length counters) capacity)

@@ -1,10 +1,10 @@
--- The bounds on messages that the account gives between arrivals (PROOF.md section 6, "Conclusion"):
--- fewer than k signals, and each site's pending below the threshold.
+-- The bounds on messages that the account gives between arrivals, where fewer than k signals came
+-- and each site's pending is below the threshold (PROOF.md section 6, "Conclusion").
 --
 --   messages-few            e × messages ≤ (40,000 + 5500 × ρ) × k × (digits of arrivals, plus 1)
 --   messages-per-arrival    messages ≤ (5 + ρ) × arrivals
-use mathlib.Core.Path.{_≡_, ap}
-use Prim.Native.Nat.{ℕ, _+_, _*_, _≤_, _<_}
+use mathlib.Core.Path.{ap}
+use Prim.Native.Nat.{ℕ, _+_, _*_, _≤_}
 use native.Mathlib.Nat.{mul-le-mul-left, mul-le-mul-right, le-of-mul-le-mul-right}
 use native.Mathlib.Omega.{arith}
 use Rattle.model.specs.Settings.{digits}

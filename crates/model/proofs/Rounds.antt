@@ -9,12 +9,12 @@
 --   CloseIn                    what a close does
 --   account-close-quiet        kept by a close that leaves threshold 1
 --   account-close-probing      kept by a close that leaves threshold 2 or more
-use mathlib.Core.Path.{_≡_, refl, sym, ap, _∙_}
-use Prim.Native.Nat.{ℕ, zero, suc, _+_, _-_, _*_, _≤_, _<_}
+use mathlib.Core.Path.{_≡_, refl, ap}
+use Prim.Native.Nat.{ℕ, suc, _+_, _*_, _≤_, _<_}
 use native.Mathlib.Nat.{mul-le-mul-left, mul-le-mul-right, mul-le-mul, le-of-mul-le-mul-right, le-of-mul-le-mul-left}
 use native.Mathlib.Omega.{arith}
 use native.Mathlib.Decide.{decLt}
-use Rattle.laws.proofs.Arithmetic.{mul-gap, bound-of-larger}
+use Rattle.laws.proofs.Arithmetic.{bound-of-larger}
 use Rattle.model.specs.Settings.{digits}
 use Rattle.model.proofs.Digits.{digits-le, digits-twice}
 
@@ -251,5 +251,5 @@ module _ {k e ρ cost : ℕ} {x y : Figures}
       by-stage (early one none) =
           rw none (stage-first k e (y .threshold) (x .arrivals) some-site e-le two low high)
       by-stage (late a g was-two top some a≤b b<2a long paid) =
-          stage-next (y .threshold) (x .arrivals) e-le (omega (arith, signals-cost)) two high was-two
-          (late a g was-two top some a≤b b<2a long paid)
+          stage-next (y .threshold) (x .arrivals) e-le (omega (arith, signals-cost)) two high
+          was-two (late a g was-two top some a≤b b<2a long paid)

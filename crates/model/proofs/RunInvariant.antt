@@ -3,10 +3,10 @@
 --
 --   run-ok            after every list of arrivals
 --   messages-of-ok    demand 3's three bounds on messages
-use mathlib.Core.Path.{_≡_, refl, sym, ap, _∙_}
+use mathlib.Core.Path.{_≡_, refl}
 use mathlib.Core.Bool.{Bool, true, false}
 use mathlib.Core.List.{List, [], _∷_}
-use Prim.Native.Nat.{ℕ, _+_, _*_, _≤_, _<_}
+use Prim.Native.Nat.{_+_, _*_, _≤_}
 use native.Mathlib.Nat.{le-div-iff-mul-le}
 use native.Mathlib.Omega.{arith}
 use lib.ListN.{length}
@@ -14,8 +14,8 @@ use borrow.Author.Tests.{eqb-true}
 use Rattle.model.specs.declared.Settings.{Settings}
 use Rattle.model.specs.declared.Arrival.{Arrival}
 use Rattle.model.specs.Choice.{isZero}
-use Rattle.model.specs.Limits.{messagesPerArrival, allowanceFactor}
-use Rattle.model.specs.Settings.{digits, allowance}
+use Rattle.model.specs.Limits.{allowanceFactor}
+use Rattle.model.specs.Settings.{digits}
 use Rattle.model.specs.Network.{siteAt}
 use Rattle.model.specs.Runs.{refusalIn, Run, freshRun, runOne, runFrom, runOf}
 use Rattle.model.specs.Claims.{counted, FewMessages}
@@ -57,9 +57,9 @@ module _ {settings : Settings} {run : Run} (fit : Settled settings) (ok : RunOk 
   signals-le : run .network .coordinator .signals ≤ settings .sites
   signals-le = omega (arith, ok .few-signals)
 
-  within-digits : settings .epsilon * length (run .messages)
+  times-epsilon : settings .epsilon * length (run .messages)
       ≤ allowanceFactor * (settings .sites * (digits (counted (run .accepted)) + 1))
-  within-digits =
+  times-epsilon =
       omega (
         arith,
         messages-few (fit .epsilon .at-most) (ok .account) signals-le (few-pending (ok .sites-ok)),
@@ -67,7 +67,7 @@ module _ {settings : Settings} {run : Run} (fit : Settled settings) (ok : RunOk 
 
   pub messages-of-ok : FewMessages settings run
   messages-of-ok = record {
-    within-digits = within-digits;
+    within-digits = omega (arith, times-epsilon);
     per-arrival =
         omega (
           arith,
@@ -76,5 +76,5 @@ module _ {settings : Settings} {run : Run} (fit : Settled settings) (ok : RunOk 
         );
     within-allowance =
         le-div-iff-mul-le {k = settings .epsilon} (omega (arith, fit .epsilon .at-least)) .1
-        (omega (arith, within-digits));
+        (omega (arith, times-epsilon));
   }

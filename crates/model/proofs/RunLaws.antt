@@ -1,5 +1,5 @@
--- Runs cut into parts: a run goes on where its front ended, refused arrivals leave no trace, and every
--- front of the accepted arrivals is accepted whole.
+-- Runs cut into parts: a run goes on where its front ended, refused arrivals leave no trace, and
+-- every front of the accepted arrivals is accepted whole.
 --
 --   newlyAccepted settings run arrivals   those of the arrivals that the run accepts, in order
 --   runFrom-append, runFrom-accepted      a run over two lists; a run over what it accepts
@@ -9,14 +9,14 @@ use mathlib.Core.Path.{_≡_, refl, sym, ap, _∙_}
 use mathlib.Core.Bool.{Bool, true, false}
 use mathlib.Core.List.{List, [], _∷_, _++_, append-nil, append-assoc}
 use Prim.Native.Nat.{ℕ, zero, suc}
-use lib.ListN.{length, take}
-use lib.Seq.{take-append-seam, take-nil}
+use lib.ListN.{take}
+use lib.Seq.{take-append-seam}
 use Rattle.model.specs.declared.Settings.{Settings}
 use Rattle.model.specs.declared.Arrival.{Arrival}
 use Rattle.model.specs.declared.Message.{Message}
 use Rattle.model.specs.Choice.{if_then_else_, isZero}
 use Rattle.model.specs.Network.{afterArrival}
-use Rattle.model.specs.Runs.{refusalIn, Run, freshRun, withArrival, runOne, runFrom, runOf}
+use Rattle.model.specs.Runs.{refusalIn, Run, freshRun, runOne, runFrom, runOf}
 use Rattle.model.specs.Claims.{Cuts}
 
 -- Whether a run accepts an arrival.
@@ -66,7 +66,10 @@ module _ (settings : Settings) where
       })
       by-test false refused = rw refused (extends-self run)
 
-  extends-both : {run middle after : Run} → Extends run middle → Extends middle after → Extends run after
+  extends-both : {run middle after : Run}
+      → Extends run middle
+      → Extends middle after
+      → Extends run after
   extends-both {run} first second = record {
     later-accepted = first .later-accepted ++ second .later-accepted;
     later-messages = first .later-messages ++ second .later-messages;

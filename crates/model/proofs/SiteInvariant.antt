@@ -5,14 +5,14 @@
 --   site-fresh               of a fresh site, at threshold 1
 --   ObservedOk, observed-ok  an arrival keeps it, and what moves then
 --   site-closed              a close keeps it: pending 0 and a threshold that is no smaller
-use mathlib.Core.Path.{_≡_, refl, sym, ap, _∙_, subst, fun-ext}
+use mathlib.Core.Path.{_≡_, refl, _∙_, subst, fun-ext}
 use mathlib.Core.Bool.{Bool, true, false}
-use mathlib.Core.List.{List, [], _∷_, _++_}
-use Prim.Native.Nat.{ℕ, zero, suc, _+_, _-_, _*_, _≤_, _<_}
+use mathlib.Core.List.{List}
+use Prim.Native.Nat.{ℕ, _+_, _≤_, _<_}
 use native.Mathlib.Omega.{arith}
 use native.Mathlib.Decide.{ℕ-discrete}
-use lib.Dec.{eqb, ltb, leb}
-use lib.ListN.{length, set, length-set, length-replicate}
+use lib.Dec.{eqb, ltb}
+use lib.ListN.{length, length-set, length-replicate}
 use borrow.Author.Tests.{leb-true, leb-false, eq-eqb, ne-eqb}
 use Rattle.laws.proofs.Sums.{sumOf}
 use Rattle.model.specs.declared.Settings.{Settings}
@@ -48,7 +48,8 @@ grow-zero f item = fun-ext (λ x. no-more x (eqb x item))
 -- ---- What holds of a site
 
 -- `arrived item` and `reported item` as in SpaceSaving.
-pub record SiteOk (settings : Settings) (threshold : ℕ) (arrived reported : ℕ → ℕ) (site : Site) : Type 0 where
+pub record SiteOk (settings : Settings) (threshold : ℕ)
+    (arrived reported : ℕ → ℕ) (site : Site) : Type 0 where
   pub saved : Saved arrived reported (settings .capacity) (site .arrivals) (site .counters)
   pub unreported-below : (j : ℕ) → j < length (site .counters)
       → unreported (counterAt (site .counters) j) < threshold
@@ -87,8 +88,8 @@ site-closed threshold′ rises ok = record {
 
 -- ---- An arrival at the site
 
--- What an arrival does to a site, with an item report (`itemDue`) or without, and with a count report
--- (`countDue`) or without; `lost` is the unreported that went with a replaced counter.
+-- What an arrival does to a site, with an item report (`itemDue`) or without, and with a count
+-- report (`countDue`) or without; `lost` is the unreported that went with a replaced counter.
 pub record ObservedOk (settings : Settings) (threshold : ℕ) (arrived reported : ℕ → ℕ)
     (arrival : Arrival) (itemDue countDue : Bool) (lost : ℕ) (before after : Site) : Type 0 where
   pub site-ok : SiteOk settings threshold
@@ -97,7 +98,8 @@ pub record ObservedOk (settings : Settings) (threshold : ℕ) (arrived reported 
       after
   pub one-arrival : after .arrivals ≡ before .arrivals + 1
   -- S7
-  pub unreported-moves : sumOf unreported (after .counters) + (if itemDue then threshold else 0) + lost
+  pub unreported-moves : sumOf unreported (after .counters)
+      + (if itemDue then threshold else 0) + lost
       ≡ sumOf unreported (before .counters) + 1
   pub pending-moves : after .pending + (if countDue then threshold else 0) ≡ before .pending + 1
   pub histogram-moves : (w : ℕ) → upTo w (after .histogram)
@@ -123,7 +125,8 @@ module _ (settings : Settings) (arrived reported : ℕ → ℕ) (site : Site) (a
   placed : Placed (settings .capacity) (site .counters) item (placementIn settings site arrival)
   placed = placementFor-is (settings .capacity) (site .counters) item some-counter
 
-  saved-now : Saved (grow arrived item 1) reported (settings .capacity) (site .arrivals + 1) counters
+  saved-now : Saved (grow arrived item 1) reported
+      (settings .capacity) (site .arrivals + 1) counters
   saved-now = saved-placed (grow-grows arrived item 1) (ok .saved) placed
 
   counted-now : Counted (site .threshold) item place lost (site .counters) counters
@@ -219,5 +222,6 @@ observed-ok settings threshold arrived reported site arrival some-counter positi
     (observed settings site arrival .site))
     (ok .threshold-same)
     (λ own-positive own-ok.
-    observed-own settings arrived reported site arrival some-counter own-positive value-known own-ok)
+    observed-own settings arrived reported site arrival some-counter own-positive value-known
+    own-ok)
     positive ok

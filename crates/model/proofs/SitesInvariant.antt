@@ -1,30 +1,30 @@
--- All sites of a network, with the arrivals accepted so far (PROOF.md S1 to S5 summed over the sites),
--- kept by an arrival at one of them and by a close.
+-- All sites of a network, with the arrivals accepted so far (PROOF.md S1 to S5 summed over the
+-- sites), kept by an arrival at one of them and by a close.
 --
 --   growAt f j item amount    of a family of functions, f j larger by the amount at the item
 --   SitesOk                   what holds of the sites; `arrived j item` and `reported j item` are
 --                             the item's arrivals and the sum of its reports at site j
 --   sites-arrival             kept by an arrival; unreported-arrival, pending-arrival: what moves
 --   sites-close               kept by a close; sum-closed: sums over the closed sites
-use mathlib.Core.Path.{_≡_, refl, sym, ap, _∙_}
+use mathlib.Core.Path.{_≡_, refl, ap, _∙_}
 use mathlib.Core.Bool.{Bool, true, false}
 use mathlib.Core.List.{List, [], _∷_, _++_}
-use Prim.Native.Nat.{ℕ, zero, suc, _+_, _*_, _≤_, _<_}
+use Prim.Native.Nat.{ℕ, _+_, _*_, _≤_, _<_}
 use native.Mathlib.Omega.{arith}
-use lib.Dec.{eqb, ltb}
-use lib.ListN.{length, getD, set, length-set, length-replicate}
+use lib.Dec.{eqb}
+use lib.ListN.{length, getD, set, length-set}
 use borrow.Author.Tests.{eq-eqb, ne-eqb, le-ltb}
-use Rattle.laws.proofs.Lists.{at-set, getD-replicate-default}
-use Rattle.laws.proofs.Sums.{sumBelow, sumBelow-same, sumBelow-le, sumBelow-const, sumBelow-zero, sumBelow-change, sumBelow-set, sumOf, sumOf-nil}
+use Rattle.laws.proofs.Lists.{at-set}
+use Rattle.laws.proofs.Sums.{sumBelow, sumBelow-same, sumBelow-le, sumBelow-const, sumBelow-change, sumBelow-set, sumOf}
 use Rattle.model.specs.declared.Settings.{Settings}
 use Rattle.model.specs.declared.Arrival.{Arrival}
 use Rattle.model.specs.Choice.{if_then_else_}
-use Rattle.model.specs.Limits.{topValue, valueCount}
+use Rattle.model.specs.Limits.{topValue}
 use Rattle.model.specs.Counters.{unreported}
 use Rattle.model.specs.Site.{Site, freshSite, upTo}
 use Rattle.model.specs.Claims.{oneIf, counted, countOf, below, above}
-use Rattle.model.proofs.ArrivalLaws.{eqb-sym, counted-snoc, countOf-snoc, below-snoc, above-snoc, upTo-zeros}
-use Rattle.model.proofs.SiteInvariant.{grow, SiteOk, site-fresh, site-closed, ObservedOk}
+use Rattle.model.proofs.ArrivalLaws.{eqb-sym, counted-snoc, countOf-snoc, below-snoc, above-snoc}
+use Rattle.model.proofs.SiteInvariant.{grow, SiteOk, site-closed, ObservedOk}
 use Rattle.model.proofs.DeliveryMessages.{pendingAt, upToAt}
 use Rattle.model.proofs.DeliveryClose.{sitesClosed}
 use Rattle.model.proofs.ClosedSites.{closedSite, length-sitesClosed, getD-sitesClosed}
@@ -191,14 +191,16 @@ module _ {settings : Settings} {threshold : ℕ} {sites : List Site}
       getD-sitesClosed settings sites threshold′ j j<k (omega (arith, ok .all-sites))
 
   pub sum-closed : (f : Site → ℕ) (threshold′ : ℕ)
-      → sumBelow (λ j. f (getD (sitesClosed settings sites threshold′) j freshSite)) (settings .sites)
+      → sumBelow (λ j. f (getD (sitesClosed settings sites threshold′) j freshSite))
+      (settings .sites)
       ≡ sumBelow (λ j. f (closedSite threshold′ (getD sites j freshSite))) (settings .sites)
   sum-closed f threshold′ =
       sumBelow-same _ _ (settings .sites) (λ j j<k. ap f (closed-at threshold′ j j<k))
 
   pub sites-close : (threshold′ : ℕ)
       → threshold ≤ threshold′
-      → SitesOk settings threshold′ (sitesClosed settings sites threshold′) arrived reported accepted
+      → SitesOk settings threshold′ (sitesClosed settings sites threshold′)
+      arrived reported accepted
   sites-close threshold′ rises = record {
     all-sites = length-sitesClosed settings sites threshold′ ∙ ok .all-sites;
     each-ok = λ j j<k.

@@ -1,6 +1,6 @@
 -- Space-Saving at one site: what its counters say of the arrivals of each item (PROOF.md S1 to S4),
--- and that an arrival counted in its own or in an unused counter keeps it; Replacement has the third
--- way.
+-- and that an arrival counted in its own or in an unused counter keeps it; Replacement has the
+-- third way.
 --
 -- `arrived item` is the item's arrivals at this site, `reported item` the sum of the site's item
 -- reports of it; n is the site's arrivals.
@@ -8,11 +8,11 @@
 --   CounterOk, NotHeld, Saved     of one counter; of an item without one; of the whole list
 --   saved-fresh                   of no counters
 --   saved-own, saved-unused       an arrival is counted
-use mathlib.Core.Path.{_≡_, refl, sym, ap, _∙_}
+use mathlib.Core.Path.{_≡_, refl, sym, _∙_}
 use mathlib.Core.List.{List, [], _∷_, _++_}
-use Prim.Native.Nat.{ℕ, zero, suc, _+_, _-_, _*_, _≤_, _<_}
+use Prim.Native.Nat.{ℕ, _+_, _*_, _≤_, _<_}
 use native.Mathlib.Omega.{arith}
-use lib.ListN.{length, getD, set, length-set}
+use lib.ListN.{length, set, length-set}
 use Rattle.laws.proofs.Lists.{length-snoc, all-set, all-snoc}
 use Rattle.laws.proofs.Sums.{sumOf, sumOf-nil, sumOf-set, sumOf-snoc}
 use Rattle.model.specs.Counters.{Counter, noCounter, counterAt, oneMoreOf, firstOf}
@@ -24,18 +24,21 @@ use Rattle.model.proofs.DistinctItems.{Absent, Apart, apart-set, apart-
 pub record CounterOk (arrived reported : ℕ → ℕ) (capacity n : ℕ) (x : Counter) : Type 0 where
   pub amounts-fit : x .overestimate + x .reported ≤ x .count
   pub arrived-le-count : arrived (x .item) ≤ x .count
-  pub reported-low : reported (x .item) + x .count ≤ arrived (x .item) + x .overestimate + x .reported
+  pub reported-low : reported (x .item) + x .count
+      ≤ arrived (x .item) + x .overestimate + x .reported
   pub reported-high : x .reported ≤ reported (x .item)
   pub overestimate-low : capacity * x .overestimate ≤ n
 
 -- S4 of an item without a counter: it arrived at most as often as the least count says, and not at
 -- all while a counter is unused.
-pub record NotHeld (arrived reported : ℕ → ℕ) (capacity : ℕ) (counters : List Counter) (item : ℕ) : Type 0 where
+pub record NotHeld (arrived reported : ℕ → ℕ) (capacity : ℕ)
+    (counters : List Counter) (item : ℕ) : Type 0 where
   pub reported-le : reported item ≤ arrived item
   pub arrived-le-counts : (j : ℕ) → j < length counters → arrived item ≤ counterAt counters j .count
   pub none-arrived : length counters < capacity → arrived item ≡ 0
 
-pub record Saved (arrived reported : ℕ → ℕ) (capacity n : ℕ) (counters : List Counter) : Type 0 where
+pub record Saved (arrived reported : ℕ → ℕ) (capacity n : ℕ)
+    (counters : List Counter) : Type 0 where
   pub within : length counters ≤ capacity
   pub counts-add-up : sumOf (λ x. x .count) counters ≡ n
   pub apart : Apart counters
@@ -167,7 +170,8 @@ module _ {arrived arrived′ reported : ℕ → ℕ} {capacity n item : ℕ} {co
 
       x-ok : CounterOk arrived′ reported capacity (n + 1) x
       x-ok =
-          let before : NotHeld arrived reported capacity counters item = saved .not-held item absent in
+          let before : NotHeld arrived reported capacity counters item =
+          saved .not-held item absent in
           let none : arrived item ≡ 0 = before .none-arrived room in
           record {
             amounts-fit = omega arith;

@@ -9,7 +9,7 @@ use Rattle.model.specs.Runs.{runOf}
 use Rattle.model.specs.Claims.{Estimates, Tracks, FewMessages, DemandsOverRuns}
 use Rattle.model.proofs.SettingsLaws.{Settled, settled}
 use Rattle.model.proofs.EstimateBounds.{RunOk, estimates-of-ok}
-use Rattle.model.proofs.ListBounds.{heavy-of-estimates, light-of-estimates}
+use Rattle.model.proofs.HeavyHitters.{heavy-of-estimates, light-of-estimates}
 use Rattle.model.proofs.QuantileBounds.{quantile-of-ok}
 use Rattle.model.proofs.RunInvariant.{run-ok, messages-of-ok}
 use Rattle.model.proofs.ListLaws.{list-law}

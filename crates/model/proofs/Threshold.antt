@@ -7,8 +7,8 @@
 --   base-of-threshold-one (T3)   t = 1: e × b < 6000 × k
 --   threshold-mono     (T4)      a larger base has no smaller threshold
 --   threshold-limit    (T5)      a third of a site's limit at most, if b ≤ k × limit
-use mathlib.Core.Path.{_≡_, refl, sym, ap, _∙_}
-use Prim.Native.Nat.{ℕ, zero, suc, _+_, _-_, _*_, _/_, _≤_, _<_, max}
+use mathlib.Core.Path.{_≡_}
+use Prim.Native.Nat.{ℕ, _*_, _/_, _≤_, _<_}
 use native.Mathlib.Nat.{mul-le-mul-left, mul-le-mul-right, mul-le-mul, lt-div-mul-add, div-mul-le-self, le-of-mul-le-mul-left, mul-zero, zero-div}
 use native.Mathlib.Omega.{arith}
 use native.Mathlib.Decide.{decLt}
@@ -32,15 +32,20 @@ module _ (settings : Settings) where
         → 3000 * (settings .sites * thresholdOf settings base) ≤ settings .epsilon * base
     threshold-low base two =
         let quotient : unrounded base ≡ thresholdOf settings base = omega arith in
-        omega (arith, rw quotient at (div-mul-le-self (settings .epsilon * base) (3000 * settings .sites)))
+        omega (
+          arith,
+          rw quotient at (div-mul-le-self (settings .epsilon * base) (3000 * settings .sites)),
+        )
 
     pub threshold-high : (base : ℕ)
         → 2 ≤ thresholdOf settings base
         → settings .epsilon * base ≤ 4500 * (settings .sites * thresholdOf settings base)
     threshold-high base two =
         let quotient : unrounded base ≡ thresholdOf settings base = omega arith in
-        let near : 2 * (settings .epsilon * base) ≤ 3 * (unrounded base * (3000 * settings .sites)) =
-        two-thirds-of-div (settings .epsilon * base) (3000 * settings .sites) (omega arith) (omega arith) in
+        let near : 2 * (settings .epsilon * base)
+        ≤ 3 * (unrounded base * (3000 * settings .sites)) =
+        two-thirds-of-div (settings .epsilon * base) (3000 * settings .sites)
+        (omega arith) (omega arith) in
         omega (arith, rw quotient at near)
 
     pub base-of-threshold-one : (base : ℕ)
@@ -70,10 +75,12 @@ module _ (settings : Settings) where
         → 3 ≤ limit
         → base ≤ settings .sites * limit
         → 3 * thresholdOf settings base ≤ limit
-    threshold-limit limit base epsilon-le three few = by-threshold (decLt (thresholdOf settings base) 2)
+    threshold-limit limit base epsilon-le three few =
+        by-threshold (decLt (thresholdOf settings base) 2)
       where
         by-threshold : Dec (thresholdOf settings base < 2) → 3 * thresholdOf settings base ≤ limit
         by-threshold (yes one) = omega arith
         by-threshold (no two) =
             le-of-mul-le-mul-left {k = 1000 * settings .sites}
-            (omega (arith, threshold-low base (omega arith), mul-le-mul epsilon-le few)) (omega arith)
+            (omega (arith, threshold-low base (omega arith), mul-le-mul epsilon-le few))
+            (omega arith)

@@ -90,17 +90,17 @@ module _ {settings : Settings} {network : Network} {informed flight : ℕ}
     at-site P new i old =
         at-set P freshSite (network .sites) j site inside new i old
 
-    -- The arrivals are the same; what is no longer pending is on its way.
+    -- What is no longer pending is on its way; what arrived is pending, or on its way.
     pub together-site : (informed′ flight′ : ℕ)
         → SoundSite settings site
         → ((i : ℕ) → i < informed′ → (i ≡ j → ⊥)
         → siteAt network i .threshold ≡ network .coordinator .threshold)
         → (j < informed′ → site .threshold ≡ network .coordinator .threshold)
         → site .threshold ≤ network .coordinator .threshold
-        → site .arrivals ≡ siteAt network j .arrivals
-        → flight′ + site .pending ≡ flight + siteAt network j .pending
+        → flight′ + (site .pending + siteAt network j .arrivals)
+        ≡ flight + (siteAt network j .pending + site .arrivals)
         → Together settings (withSite network j site) informed′ flight′
-    together-site informed′ flight′ sound others-same same below arrivals moves = record {
+    together-site informed′ flight′ sound others-same same below moves = record {
       all-sites = length-set (network .sites) j site ∙ together .all-sites;
       sites-sound = λ i i<.
           at-site (λ _ x. SoundSite settings x) sound i (λ _. together .sites-sound i i<);

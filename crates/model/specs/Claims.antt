@@ -1,5 +1,5 @@
--- What is claimed of every run: demands 2 and 3 over all lists of arrivals, and the bounds that later
--- parts lean on. `DemandsOverRuns` is the whole of it; proofs/Theorem.antt proves it.
+-- What is claimed of every run: demands 2 and 3 over all lists of arrivals, and the bounds that
+-- later parts lean on. `DemandsOverRuns` is the whole of it; proofs/Theorem.antt proves it.
 --
 --   counted arrivals                    n: the arrivals that shares, ranks and message bounds count
 --   countOf item arrivals               an item's arrivals; 0 of no arrival

@@ -20,3 +20,4 @@ pub mod Transcript
 pub mod Instances
 pub mod SoundNetwork
 pub mod DeliveryClaims
+pub mod SoundClaims

@@ -1,0 +1,82 @@
+-- What is claimed of every sound network, arisen or not: it stays sound, and a delivery may be done
+-- by any caller: each message is due and carries the right amount, and asking for kind 7 early comes
+-- to the same. (Document 01, "Full delivery", "Refused" rows 5, 6, 7, 9, 10 and 11.)
+--
+--   Reached settings start n d      a delivery after n steps: hand-overs of the head of the queue,
+--                                   and kinds 7 asked for at any time
+--   InMidDelivery ..                what holds of a delivery that was reached
+--   SoundClaims                     all of it
+use mathlib.Core.Path.{_≡_}
+use mathlib.Core.Bool.{true, false}
+use mathlib.Core.List.{List, [], _∷_}
+use Prim.Native.Nat.{ℕ, zero, suc, _≤_, _<_}
+use Rattle.model.specs.declared.Settings.{Settings}
+use Rattle.model.specs.declared.Arrival.{Arrival}
+use Rattle.model.specs.declared.Message.{Message}
+use Rattle.model.specs.Refusals.{accepted}
+use Rattle.model.specs.Settings.{settingsRefusal}
+use Rattle.model.specs.Coordinator.{isAnnouncing}
+use Rattle.model.specs.Network.{Network, freshNetwork, siteAt, handOver, askAnnouncement, deliveryFuel, afterArrival}
+use Rattle.model.specs.Runs.{refusalIn}
+use Rattle.model.specs.SoundNetwork.{SoundSite, SoundCoordinator, Sound}
+use Rattle.model.specs.DeliveryClaims.{Delivery, delivery, joining, deliverySteps, outcome, deliveryOf, messageRefusal}
+
+-- ---- Deliveries that any caller may do
+
+pub data Reached (settings : Settings) (start : Delivery) : ℕ → Delivery → Type 0 where
+  begun : Reached settings start 0 start
+  -- the head of the queue is handed to whom it is for; the answer joins the queue
+  handed : (n : ℕ) (network : Network) (m : Message) (waiting log : List Message)
+      → Reached settings start n (delivery network (m ∷ waiting) log)
+      → Reached settings start (suc n) (joining (handOver settings network m) waiting log)
+  -- the next kind 7 is asked of a coordinator that announces, whatever waits
+  asked : (n : ℕ) (network : Network) (waiting log : List Message)
+      → Reached settings start n (delivery network waiting log)
+      → isAnnouncing (network .coordinator .phase) ≡ true
+      → Reached settings start (suc n) (joining (askAnnouncement settings network) waiting log)
+
+-- ---- What holds of them
+
+pub record InMidDelivery (settings : Settings) (network : Network) (arrival : Arrival) (n : ℕ)
+    (d : Delivery) : Type 0 where
+  -- the head of the queue is accepted by whom it is for: never 5, 6, 7, 9 or 10
+  pub head-accepted : (m : Message) (waiting : List Message)
+      → d .waiting ≡ m ∷ waiting
+      → messageRefusal settings (d .network) m ≡ accepted
+  -- each site and the coordinator are sound by themselves: never 11, but for the limit
+  pub sites-sound : (j : ℕ) → j < settings .sites → SoundSite settings (siteAt (d .network) j)
+  pub coordinator-sound : SoundCoordinator settings (d .network .coordinator)
+  -- every delivery comes to its end: no order of steps has more than these
+  pub few-steps : n ≤ deliveryFuel settings
+  -- finished in the model's order, it comes to the model's network and messages
+  pub finishes : outcome (deliverySteps (deliveryFuel settings) settings d)
+      ≡ afterArrival settings network arrival
+  -- where nothing waits and no kind 7 is to come, it has come there
+  pub ends : d .waiting ≡ []
+      → isAnnouncing (d .network .coordinator .phase) ≡ false
+      → outcome d ≡ afterArrival settings network arrival
+
+pub record SoundClaims : Type 0 where
+  -- "Started fresh"
+  pub fresh-sound : (settings : Settings)
+      → settingsRefusal settings ≡ accepted
+      → Sound settings (freshNetwork settings)
+  -- an accepted arrival with full delivery
+  pub arrival-sound : (settings : Settings) (network : Network) (arrival : Arrival)
+      → settingsRefusal settings ≡ accepted
+      → Sound settings network
+      → refusalIn settings network arrival ≡ accepted
+      → Sound settings (afterArrival settings network arrival .network)
+  -- no threshold comes near a site's limit
+  pub threshold-small : (settings : Settings) (network : Network)
+      → settingsRefusal settings ≡ accepted
+      → Sound settings network
+      → network .coordinator .threshold ≤ 333333333
+  -- in mid-delivery, after any steps
+  pub in-mid-delivery : (settings : Settings) (network : Network) (arrival : Arrival) (n : ℕ)
+      (d : Delivery)
+      → settingsRefusal settings ≡ accepted
+      → Sound settings network
+      → refusalIn settings network arrival ≡ accepted
+      → Reached settings (deliveryOf settings network arrival) n d
+      → InMidDelivery settings network arrival n d

@@ -6,6 +6,8 @@
 --   false-of-not     what a test's negation says of it: it fails
 --   true-of-not      and it holds
 --   ltb-is-not-leb   b < a is the negation of a ≤ b, as tests
+--   and-false, and-true, or-false   a joined test whose second part is known
+--   first-fails, second-fails       a disjunction that fails, fails in both parts
 use mathlib.Core.Path.{_≡_, refl, sym, _∙_}
 use Prim.Native.Nat.{ℕ}
 use lib.Dec.{leb, ltb}
@@ -45,3 +47,23 @@ ltb-is-not-leb a b = by-order (leb a b) refl
     by-order : (test : Bool) → leb a b ≡ test → ltb b a ≡ not test
     by-order true holds = le-ltb b a (leb-true a b holds)
     by-order false fails = lt-ltb b a (leb-false a b fails)
+
+pub and-false : (test : Bool) → (test && false) ≡ false
+and-false true = refl
+and-false false = refl
+
+pub and-true : (test : Bool) → (test && true) ≡ test
+and-true true = refl
+and-true false = refl
+
+pub or-false : (test : Bool) → (test || false) ≡ test
+or-false true = refl
+or-false false = refl
+
+pub first-fails : (first second : Bool) → (first || second) ≡ false → first ≡ false
+first-fails true second impossible = absurd (false≢true (sym impossible))
+first-fails false second fails = refl
+
+pub second-fails : (first second : Bool) → (first || second) ≡ false → second ≡ false
+second-fails true second impossible = absurd (false≢true (sym impossible))
+second-fails false second fails = fails

@@ -3,8 +3,9 @@
 --   passed          a row's test failed, and no later row refuses
 --   both-accepted   neither the first part of a chain nor the later refuses
 --   refused-first   the first part refuses, so the chain does
+--   refused-same    the same, for a number that equals the first part
 --   accepted-both   neither part refuses, so the chain does not
-use mathlib.Core.Path.{_≡_, refl}
+use mathlib.Core.Path.{_≡_, refl, sym, _∙_}
 use mathlib.Core.Bool.{Bool, true, false}
 use Prim.Native.Nat.{ℕ, zero, suc, _≤_, _<_}
 use native.Mathlib.Omega.{arith}
@@ -37,6 +38,14 @@ pub refused-first : (first later : ℕ)
     → (first orElse later) ≡ first
 refused-first zero later refused = absurd (refused refl)
 refused-first (suc first) later refused = refl
+
+-- A number that is the first part's refusal, and no acceptance, is the chain's.
+pub refused-same : (refusal first later : ℕ)
+    → refusal ≡ first
+    → (refusal ≡ accepted → ⊥)
+    → refusal ≡ (first orElse later)
+refused-same refusal first later same refused =
+    same ∙ sym (refused-first first later (λ none. refused (same ∙ none)))
 
 -- Both parts of a chain accept, so the chain does.
 pub accepted-both : (first later : ℕ)

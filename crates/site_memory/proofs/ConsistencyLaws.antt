@@ -8,6 +8,7 @@ use native.Mathlib.Omega.{arith}
 use lib.Dec.{eqb, ltb, leb}
 use lib.ListN.{length, take, drop}
 use borrow.Author.Tests.{lt-ltb, le-ltb, le-leb, lt-leb}
+use Rattle.laws.proofs.Tests.{and-false, and-true}
 use Rattle.model.specs.declared.Settings.{Settings}
 use Rattle.model.specs.declared.SiteRecord.{SiteRecord}
 use Rattle.model.specs.Choice.{between}
@@ -17,18 +18,9 @@ use Rattle.model.specs.Settings.{settingsRefusal}
 use Rattle.model.specs.Counters.{Counter, unreported}
 use Rattle.model.specs.Site.{Site}
 use Rattle.model.specs.SiteMemory.{counterWords, siteWords, siteMemoryRefusal, siteIn, countersIn, sum, counterConsistent, countersConsistent, siteConsistent}
-use Rattle.model.proofs.RefusalLaws.{refused-first}
+use Rattle.model.proofs.RefusalLaws.{refused-same}
 use Rattle.counters.specs.Stored.{storedAt}
 use Rattle.counters.proofs.Search.{countersFrom, counters-start, counters-end, counters-cons}
-
--- A conjunction that fails, or holds, in its second part.
-and-false : (test : Bool) → (test && false) ≡ false
-and-false true = refl
-and-false false = refl
-
-and-true : (test : Bool) → (test && true) ≡ test
-and-true true = refl
-and-true false = refl
 
 -- ---- One counter
 
@@ -160,8 +152,7 @@ module _ (settings : Settings) (numbers : SiteRecord) (memory : List ℕ) where
       → refusal ≡ settingsRefusal settings
       → (refusal ≡ accepted → ⊥)
       → refusal ≡ siteMemoryRefusal settings numbers memory
-  settings-refused refusal same refused =
-      same ∙ sym (refused-first (settingsRefusal settings) _ (λ none. refused (same ∙ none)))
+  settings-refused refusal = refused-same refusal (settingsRefusal settings) _
 
   pub memory-short : settingsRefusal settings ≡ accepted
       → length memory < siteWords settings

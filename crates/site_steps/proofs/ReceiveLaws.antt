@@ -11,6 +11,7 @@ use native.Mathlib.Omega.{arith}
 use lib.Dec.{leb, ltb, eqb}
 use lib.ListN.{length, take, drop}
 use borrow.Author.Tests.{leb-false, ltb-false, not-false}
+use Rattle.laws.proofs.Tests.{first-fails, second-fails}
 use Rattle.model.specs.declared.Settings.{Settings}
 use Rattle.model.specs.declared.SiteRecord.{SiteRecord}
 use Rattle.model.specs.declared.Message.{Message}
@@ -54,15 +55,6 @@ message-due settings site which m none =
 
 -- ---- What an announcement's amount is
 
--- A disjunction that fails, fails in both parts.
-or-false-left : (first second : Bool) → (first || second) ≡ false → first ≡ false
-or-false-left true second impossible = absurd (false≢true (sym impossible))
-or-false-left false second fails = refl
-
-or-false-right : (first second : Bool) → (first || second) ≡ false → second ≡ false
-or-false-right true second impossible = absurd (false≢true (sym impossible))
-or-false-right false second fails = fails
-
 -- The new threshold of an announcement that is neither a poll nor a probe.
 pub record Announced (site : Site) (m : Message) : Type 0 where
   pub not-below : site .threshold ≤ m .a
@@ -80,8 +72,8 @@ announced settings site which m due-is not-poll not-probe =
     let right : (below || above) ≡ false =
     rw (not-poll, not-probe, kind) at (due-is .not-wrong) in
     record {
-      not-below = ltb-false (m .a) (site .threshold) (or-false-left below above right);
-      not-above = ltb-false siteLimit (m .a) (or-false-right below above right);
+      not-below = ltb-false (m .a) (site .threshold) (first-fails below above right);
+      not-above = ltb-false siteLimit (m .a) (second-fails below above right);
     }
   where
     is-announcement : (test : Bool) → isAnnouncement m ≡ test → isAnnouncement m ≡ true

@@ -1,0 +1,123 @@
+-- What the calls on sites answer when they are refused and when they are not: the contracts of Calls
+-- from the refusal and, where there is none, from the step's promise.
+use Prim.Native.Nat.{ℕ}
+use mathlib.Core.Path.{_≡_, sym, _∙_}
+use mathlib.Core.List.{List, []}
+use mathlib.Core.Bool.{Bool, true, false}
+use native.Mathlib.Omega.{arith}
+use lib.Dec.{leb, eqb}
+use borrow.Author.Tests.{eq-eqb, ne-eqb}
+use Rattle.model.specs.declared.Settings.{Settings}
+use Rattle.model.specs.declared.Arrival.{Arrival}
+use Rattle.model.specs.declared.Message.{Message}
+use Rattle.model.specs.declared.SiteRecord.{SiteRecord}
+use Rattle.model.specs.Choice.{isZero}
+use Rattle.model.specs.Refusals.{when, _orElse_, accepted, unknownSite}
+use Rattle.model.specs.Messages.{noMessage}
+use Rattle.model.specs.Site.{arrivalRefusal, siteMessageRefusal}
+use Rattle.model.specs.SiteMemory.{siteIn, siteMemoryRefusal}
+use Rattle.model.proofs.RefusalLaws.{both-accepted, passed}
+use Rattle.site_memory.proofs.ReadyLaws.{step-ready}
+use Rattle.site_steps.specs.declared.Observed.{Observed}
+use Rattle.site_steps.specs.declared.Answered.{Answered}
+use Rattle.site_steps.specs.Steps.{ObserveAsks, ObserveStepSays, ReceiveAsks, ReceiveStepSays}
+use Rattle.site_steps.proofs.ReceiveLaws.{message-due}
+use Rattle.site.specs.Calls.{observeRefusal, ObserveSays, receiveRefusal, ReceiveSays}
+
+-- ---- An arrival
+
+module _
+    (settings : Settings)
+    (numbers : SiteRecord)
+    (arrival : Arrival)
+    (before : List ℕ) where
+  pub observe-asks : observeRefusal settings numbers arrival before ≡ accepted
+      → ObserveAsks settings numbers arrival before
+  observe-asks none =
+      let parts = both-accepted (siteMemoryRefusal settings numbers before) _ none in
+      record {
+        ready = step-ready settings numbers before (parts .first-accepted);
+        not-refused = parts .later-accepted;
+      }
+
+  pub observe-accepted : (after : List ℕ) (answer : Observed)
+      → observeRefusal settings numbers arrival before ≡ accepted
+      → ObserveStepSays settings numbers arrival before after answer
+      → ObserveSays settings numbers arrival before after answer
+  observe-accepted after answer none says =
+      let test = eq-eqb (observeRefusal settings numbers arrival before) 0 none in
+      record {
+        refusal = says .gathered .refusal ∙ sym none;
+        site = rw test (says .gathered .site);
+        count = rw test (says .gathered .count);
+        first = rw test (says .gathered .first);
+        second = rw test (says .gathered .second);
+        memory = rw test (says .memory);
+      }
+
+  pub observe-refused : (refusal : ℕ) (none : Message)
+      → refusal ≡ observeRefusal settings numbers arrival before
+      → (refusal ≡ accepted → ⊥)
+      → none ≡ noMessage
+      → ObserveSays settings numbers arrival before before
+      (record { refusal = refusal; site = numbers; count = 0; first = none; second = none })
+  observe-refused refusal none same refused absent =
+      let test = ne-eqb (observeRefusal settings numbers arrival before) 0
+      (λ zero-is. refused (same ∙ zero-is)) in
+      record {
+        refusal = same;
+        site = rw test;
+        count = rw test;
+        first = rw test absent;
+        second = rw test absent;
+        memory = rw test;
+      }
+
+-- ---- A message
+
+module _
+    (settings : Settings)
+    (numbers : SiteRecord)
+    (which : ℕ)
+    (m : Message)
+    (memory : List ℕ) where
+  pub receive-asks : receiveRefusal settings numbers which m memory ≡ accepted
+      → ReceiveAsks settings numbers m memory
+  receive-asks none =
+      let parts = both-accepted (siteMemoryRefusal settings numbers memory) _ none in
+      let own-row = passed (leb (settings .sites) which) 5 _ (omega arith) (parts .later-accepted) in
+      let due = message-due settings (siteIn settings numbers memory) which m
+      (own-row .later-accepted) in
+      record {
+        ready = step-ready settings numbers memory (parts .first-accepted);
+        value-known = due .value-known;
+      }
+
+  pub receive-accepted : (answer : Answered)
+      → receiveRefusal settings numbers which m memory ≡ accepted
+      → ReceiveStepSays settings numbers m memory answer
+      → ReceiveSays settings numbers which m memory answer
+  receive-accepted answer none says =
+      let test = eq-eqb (receiveRefusal settings numbers which m memory) 0 none in
+      record {
+        refusal = says .refusal ∙ sym none;
+        site = rw test (says .site);
+        count = rw test (says .count);
+        reply = rw test (says .reply);
+      }
+
+  pub receive-refused : (refusal : ℕ) (none : Message)
+      → refusal ≡ receiveRefusal settings numbers which m memory
+      → (refusal ≡ accepted → ⊥)
+      → none ≡ noMessage
+      → ReceiveSays settings numbers which m memory
+      (record { refusal = refusal; site = numbers; count = 0; reply = none })
+  receive-refused refusal none same refused absent =
+      let test = ne-eqb (receiveRefusal settings numbers which m memory) 0
+      (λ zero-is. refused (same ∙ zero-is)) in
+      record {
+        refusal = same;
+        site = rw test;
+        count = rw test;
+        reply = rw test absent;
+      }

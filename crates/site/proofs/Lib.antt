@@ -1,0 +1,4 @@
+-- Laws of the calls on sites.
+pub mod MessageLaws
+pub mod CallLaws
+pub mod StartLaws

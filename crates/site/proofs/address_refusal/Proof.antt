@@ -1,0 +1,29 @@
+-- `site::address_refusal` meets its contract: the rows in their order.
+use borrow.Author.Tests.{lt-ltb, le-ltb, le-leb, lt-leb}
+use Rattle.site.proofs.address_refusal.Statement.{statement}
+use Rattle.site.proofs.address_refusal.Tie as tie
+
+returns : tie.Need-returns
+returns c = simp (le-leb _ _ (c .if1 .taken))
+
+returns-2 : tie.Need-returns-2
+returns-2 c = simp (lt-leb _ _ (c .before .before .before .if1 .left), le-leb _ _ (c .if2 .taken))
+
+returns-3 : tie.Need-returns-3
+returns-3 c =
+    simp (
+      lt-leb _ _ (c .before .before .before .before .before .if1 .left),
+      lt-leb _ _ (c .before .before .if2 .left),
+      lt-ltb _ _ (c .if3 .taken),
+    )
+
+returns-4 : tie.Need-returns-4
+returns-4 c =
+    simp (
+      lt-leb _ _ (c .before .before .before .before .before .if1 .left),
+      lt-leb _ _ (c .before .before .if2 .left),
+      le-ltb _ _ (c .if3 .left),
+    )
+
+pub address-refusal-spec : {M : Type 1} → statement M
+address-refusal-spec = tie.close (tie.spec returns returns-2 returns-3 returns-4)

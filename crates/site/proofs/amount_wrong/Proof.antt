@@ -1,0 +1,35 @@
+-- `site::amount_wrong` meets its contract: each kind by its test, and the amounts by theirs.
+use borrow.Author.Tests.{eq-eqb, ne-eqb, lt-ltb}
+use Rattle.laws.proofs.Tests.{or-false}
+use Rattle.site.specs.Calls.{bareSite}
+use Rattle.site.proofs.MessageLaws.{wrong-by-limit}
+use Rattle.site.proofs.amount_wrong.Statement.{statement}
+use Rattle.site.proofs.amount_wrong.Tie as tie
+
+returns : tie.Need-returns
+returns c = simp (c .before .before .if1 .taken, ne-eqb _ _ (c .if2 .taken))
+
+returns-2 : tie.Need-returns-2
+returns-2 c = simp (c .before .before .before .if1 .taken, eq-eqb _ _ (c .before .if2 .left), or-false)
+
+returns-3 : tie.Need-returns-3
+returns-3 c = simp (c .before .if3 .taken, or-false)
+
+returns-4 : tie.Need-returns-4
+returns-4 c = simp (c .before .before .before .if4 .taken, lt-ltb _ _ (c .if5 .taken))
+
+returns-5 : tie.Need-returns-5
+returns-5 c =
+    let a = c .before .before .before .before .before .before .before .before .before .before .args in
+    wrong-by-limit (bareSite (a .site)) (a .message) (c .before .before .before .before .if4 .taken) (c .before .if5 .left)
+
+returns-6 : tie.Need-returns-6
+returns-6 c =
+    simp (
+      ne-eqb _ _ (c .before .before .before .before .if1 .left),
+      ne-eqb _ _ (c .before .before .if3 .left),
+      ne-eqb _ _ (c .if4 .left),
+    )
+
+pub amount-wrong-spec : {M : Type 1} → statement M
+amount-wrong-spec = tie.close (tie.spec returns returns-2 returns-3 returns-4 returns-5 returns-6)

@@ -1,0 +1,24 @@
+-- `site::arrival_refusal` meets its contract: 5, 6, 7 first, then 8.
+use mathlib.Core.Path.{_∙_, sym}
+use borrow.Author.Tests.{le-leb, lt-leb}
+use borrow.Author.Needs.{needs}
+use Rattle.model.proofs.RefusalLaws.{refused-same}
+use Rattle.site.proofs.arrival_refusal.Statement.{statement}
+use Rattle.site.proofs.arrival_refusal.Tie as tie
+
+address-refusal-requires : tie.Need-address-refusal-requires
+address-refusal-requires c κs = search needs
+
+returns : tie.Need-returns
+returns c =
+    let address = c .before .address-refusal in
+    refused-same (address .result) _ _ (address .ensures) (c .if1 .taken)
+
+returns-2 : tie.Need-returns-2
+returns-2 c = rw (sym (c .before .before .before .address-refusal .ensures) ∙ c .before .before .if1 .left, le-leb _ _ (c .if2 .taken))
+
+returns-3 : tie.Need-returns-3
+returns-3 c = rw (sym (c .before .before .before .address-refusal .ensures) ∙ c .before .before .if1 .left, lt-leb _ _ (c .if2 .left))
+
+pub arrival-refusal-spec : {M : Type 1} → statement M
+arrival-refusal-spec = tie.close (tie.spec address-refusal-requires returns returns-2 returns-3)

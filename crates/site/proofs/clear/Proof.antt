@@ -1,0 +1,62 @@
+-- `site::clear` meets its contract. The loop's invariant: the first i numbers are 0. The measure is the
+-- count of the numbers left.
+use Prim.Native.Nat.{_-_}
+use mathlib.Core.Path.{refl, _∙_, ap}
+use native.Mathlib.Omega.{arith}
+use borrow.Author.Needs.{needs}
+use Rattle.site.proofs.StartLaws.{Clearing, clearing-start, clearing-on, clearing-end}
+use Rattle.site.proofs.clear.Statement.{statement}
+use Rattle.site.proofs.clear.Tie as tie
+
+abbrev Inv-loop : tie.InvT-loop
+Inv-loop memory₀ words i₀ memory i = Clearing memory₀ words memory i
+
+abbrev μ-loop : tie.MeasureT-loop
+μ-loop memory₀ words i₀ memory i = words - i
+
+loop-holds : tie.Need-loop-holds Inv-loop μ-loop
+loop-holds c = clearing-start (c .args .memory .now) (c .args .words)
+
+mul-memory : tie.Need-mul-memory Inv-loop μ-loop
+mul-memory c = search needs
+
+slice-write-memory : tie.Need-slice-write-memory Inv-loop μ-loop
+slice-write-memory c = search needs
+
+add-i : tie.Need-add-i Inv-loop μ-loop
+add-i c = search needs
+
+loop-less : tie.Need-loop-less Inv-loop μ-loop
+loop-less c = search needs
+
+loop-again : tie.Need-loop-again Inv-loop μ-loop
+loop-again c =
+    let a = c .before .before .args in
+    let at-loop = c .before .loop in
+    clearing-on (a .memory .now) (a .words) (at-loop .memory) (at-loop .i) (c .before .before .pre) (at-loop .inv)
+    (search needs)
+
+same-length : tie.Need-same-length Inv-loop μ-loop
+same-length c = search needs
+
+returns : tie.Need-returns Inv-loop μ-loop
+returns c =
+    let a = c .before .before .args in
+    let at-loop = c .before .loop in
+    clearing-end (a .memory .now) (a .words) (at-loop .memory) (at-loop .i) (at-loop .inv)
+    (search needs)
+
+pub clear-spec : {M : Type 1} → statement M
+clear-spec =
+    tie.close
+    (tie.spec
+    Inv-loop
+    μ-loop
+    loop-holds
+    mul-memory
+    slice-write-memory
+    add-i
+    loop-less
+    loop-again
+    same-length
+    returns)

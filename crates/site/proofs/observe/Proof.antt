@@ -1,0 +1,52 @@
+-- `site::observe` meets its contract: refused, or the step.
+use mathlib.Core.Path.{_∙_, sym}
+use borrow.Author.Needs.{needs}
+use Rattle.site.proofs.CallLaws.{observe-asks, observe-accepted, observe-refused}
+use Rattle.site.proofs.observe.Statement.{statement}
+use Rattle.site.proofs.observe.Tie as tie
+
+observe-refusal-requires : tie.Need-observe-refusal-requires
+observe-refusal-requires c κs = search needs
+
+make-message-requires : tie.Need-make-message-requires
+make-message-requires c κs = search needs
+
+same-length : tie.Need-same-length
+same-length c = search needs
+
+returns : tie.Need-returns
+returns c =
+    let a = c .before .before .before .before .before .args in
+    let tested = c .before .before .observe-refusal in
+    observe-refused (a .settings) (a .site) (a .arrival) (a .memory .now)
+    (tested .result) (c .make-message .result) (tested .ensures) (c .before .if1 .taken)
+    (c .make-message .ensures)
+
+observe-step-requires : tie.Need-observe-step-requires
+observe-step-requires c κs =
+    let a = c .before .before .before .before .before .args in
+    observe-asks (a .settings) (a .site) (a .arrival) (a .memory .now)
+    (sym (c .before .before .observe-refusal .ensures) ∙ c .before .if1 .left)
+
+same-length-2 : tie.Need-same-length-2
+same-length-2 c = search needs
+
+returns-2 : tie.Need-returns-2
+returns-2 c =
+    let a = c .before .before .before .before .before .before .before .before .args in
+    let step = c .before .before .observe-step in
+    observe-accepted (a .settings) (a .site) (a .arrival) (a .memory .now)
+    (step .last .1 .1 .1 .0) (step .result)
+    (sym (c .before .before .before .before .before .observe-refusal .ensures) ∙ c .before .before .before .before .if1 .left) (step .ensures)
+
+pub observe-spec : {M : Type 1} → statement M
+observe-spec =
+    tie.close
+    (tie.spec
+    observe-refusal-requires
+    make-message-requires
+    same-length
+    returns
+    observe-step-requires
+    same-length-2
+    returns-2)

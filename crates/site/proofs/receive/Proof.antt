@@ -1,0 +1,43 @@
+-- `site::receive` meets its contract: refused, or the step.
+use mathlib.Core.Path.{_∙_, sym}
+use borrow.Author.Needs.{needs}
+use Rattle.site.proofs.CallLaws.{receive-asks, receive-accepted, receive-refused}
+use Rattle.site.proofs.receive.Statement.{statement}
+use Rattle.site.proofs.receive.Tie as tie
+
+receive-refusal-requires : tie.Need-receive-refusal-requires
+receive-refusal-requires c κs = search needs
+
+make-message-requires : tie.Need-make-message-requires
+make-message-requires c κs = search needs
+
+returns : tie.Need-returns
+returns c =
+    let a = c .before .before .before .before .args in
+    let tested = c .before .before .receive-refusal in
+    receive-refused (a .settings) (a .site) (a .which) (a .message) (a .memory .now)
+    (tested .result) (c .make-message .result) (tested .ensures) (c .before .if1 .taken)
+    (c .make-message .ensures)
+
+receive-step-requires : tie.Need-receive-step-requires
+receive-step-requires c κs =
+    let a = c .before .before .before .args in
+    receive-asks (a .settings) (a .site) (a .which) (a .message) (a .memory .now)
+    (sym (c .before .receive-refusal .ensures) ∙ c .if1 .left)
+
+returns-2 : tie.Need-returns-2
+returns-2 c =
+    let a = c .before .before .before .before .args in
+    let step = c .receive-step in
+    receive-accepted (a .settings) (a .site) (a .which) (a .message) (a .memory .now)
+    (step .result) (sym (c .before .before .receive-refusal .ensures) ∙ c .before .if1 .left) (step .ensures)
+
+pub receive-spec : {M : Type 1} → statement M
+receive-spec =
+    tie.close
+    (tie.spec
+    receive-refusal-requires
+    make-message-requires
+    returns
+    receive-step-requires
+    returns-2)

@@ -1,0 +1,133 @@
+-- What the calls on sites answer, refused or not, and what they leave in record and memory.
+--
+--   StartSays       starting all sites
+--   ObserveSays     an arrival at a site
+--   ReceiveSays     a message at a site
+--
+-- A refused call leaves record and memory as they were and hands out no message; a start hands back
+-- fresh records all the same.
+use mathlib.Core.Path.{_≡_}
+use mathlib.Core.Bool.{Bool}
+use mathlib.Core.List.{List, [], _++_}
+use Prim.Native.Nat.{ℕ}
+use lib.Dec.{leb, ltb}
+use lib.ListN.{length, getD, replicate}
+use Rattle.model.specs.declared.Settings.{Settings}
+use Rattle.model.specs.declared.Arrival.{Arrival}
+use Rattle.model.specs.declared.Message.{Message}
+use Rattle.model.specs.declared.SiteRecord.{SiteRecord}
+use Rattle.model.specs.Choice.{if_then_else_, isZero}
+use Rattle.model.specs.Refusals.{when, _orElse_, accepted, memoryTooShort, unknownSite}
+use Rattle.model.specs.Messages.{noMessage}
+use Rattle.model.specs.Settings.{settingsRefusal}
+use Rattle.model.specs.Site.{Site, SiteStep, arrivalRefusal, observed, siteMessageRefusal, siteReceives}
+use Rattle.model.specs.SiteMemory.{siteIn, siteRecord, siteMemory, siteMemoryRefusal, overwrite}
+use Rattle.model.specs.NetworkMemory.{sitesWords, freshSites}
+use Rattle.site_steps.specs.declared.Observed.{Observed}
+use Rattle.site_steps.specs.declared.Answered.{Answered}
+use Rattle.site.specs.declared.StartedSites.{StartedSites}
+
+-- The site of a record alone, for tests that look at the single numbers: no counter, no value.
+abbrev pub bareSite : SiteRecord → Site
+bareSite numbers = record {
+  counters = [];
+  histogram = [];
+  arrivals = numbers .arrivals;
+  pending = numbers .pending;
+  threshold = numbers .threshold;
+}
+
+-- ---- Starting all sites
+
+-- "longer is fine, the rest untouched"
+abbrev pub startRefusal : Settings → List ℕ → ℕ
+startRefusal settings memory =
+    settingsRefusal settings
+    orElse when (ltb (length memory) (sitesWords settings)) memoryTooShort
+    orElse accepted
+
+-- "Started fresh, every number is 0 (unused slots too)".
+abbrev pub cleared : Settings → List ℕ → List ℕ
+cleared settings memory = overwrite (replicate (sitesWords settings) 0) memory
+
+pub record StartSays
+    (settings : Settings)
+    (before after : List ℕ)
+    (answer : StartedSites) : Type 0 where
+  pub refusal : answer .refusal ≡ startRefusal settings before
+  pub sites : answer .sites ≡ freshSites
+  pub memory : after
+      ≡ (if isZero (startRefusal settings before) then cleared settings before else before)
+
+-- ---- An arrival at a site
+
+-- 1, 2, 3, 4, 11; then 5, 6, 7, 8.
+abbrev pub observeRefusal : Settings → SiteRecord → Arrival → List ℕ → ℕ
+observeRefusal settings numbers arrival memory =
+    siteMemoryRefusal settings numbers memory
+    orElse arrivalRefusal settings (siteIn settings numbers memory) arrival
+
+-- The model's step; a refused arrival is no step.
+abbrev pub observedStep : Settings → SiteRecord → Arrival → List ℕ → SiteStep
+observedStep settings numbers arrival memory =
+    observed settings (siteIn settings numbers memory) arrival
+
+-- The messages that go out.
+abbrev pub observedMessages : Settings → SiteRecord → Arrival → List ℕ → List Message
+observedMessages settings numbers arrival memory =
+    if isZero (observeRefusal settings numbers arrival memory)
+    then observedStep settings numbers arrival memory .messages
+    else []
+
+pub record ObserveSays
+    (settings : Settings)
+    (numbers : SiteRecord)
+    (arrival : Arrival)
+    (before after : List ℕ)
+    (answer : Observed) : Type 0 where
+  pub refusal : answer .refusal ≡ observeRefusal settings numbers arrival before
+  pub site : answer .site
+      ≡ (if isZero (observeRefusal settings numbers arrival before)
+      then siteRecord (observedStep settings numbers arrival before .site)
+      else numbers)
+  pub count : answer .count ≡ length (observedMessages settings numbers arrival before)
+  pub first : answer .first ≡ getD (observedMessages settings numbers arrival before) 0 noMessage
+  pub second : answer .second ≡ getD (observedMessages settings numbers arrival before) 1 noMessage
+  pub memory : after
+      ≡ (if isZero (observeRefusal settings numbers arrival before)
+      then siteMemory settings (observedStep settings numbers arrival before .site) before
+      else before)
+
+-- ---- A message at a site
+
+-- 1, 2, 3, 4, 11; 5 for the site's own number; then 5, 9, 7, 10.
+abbrev pub receiveRefusal : Settings → SiteRecord → ℕ → Message → List ℕ → ℕ
+receiveRefusal settings numbers which m memory =
+    siteMemoryRefusal settings numbers memory
+    orElse when (leb (settings .sites) which) unknownSite
+    orElse siteMessageRefusal settings (siteIn settings numbers memory) which m
+
+abbrev pub receivedStep : Settings → SiteRecord → Message → List ℕ → SiteStep
+receivedStep settings numbers m memory = siteReceives (siteIn settings numbers memory) m
+
+-- The reply, if there is one.
+abbrev pub receivedMessages : Settings → SiteRecord → ℕ → Message → List ℕ → List Message
+receivedMessages settings numbers which m memory =
+    if isZero (receiveRefusal settings numbers which m memory)
+    then receivedStep settings numbers m memory .messages
+    else []
+
+pub record ReceiveSays
+    (settings : Settings)
+    (numbers : SiteRecord)
+    (which : ℕ)
+    (m : Message)
+    (memory : List ℕ)
+    (answer : Answered) : Type 0 where
+  pub refusal : answer .refusal ≡ receiveRefusal settings numbers which m memory
+  pub site : answer .site
+      ≡ (if isZero (receiveRefusal settings numbers which m memory)
+      then siteRecord (receivedStep settings numbers m memory .site)
+      else numbers)
+  pub count : answer .count ≡ length (receivedMessages settings numbers which m memory)
+  pub reply : answer .reply ≡ getD (receivedMessages settings numbers which m memory) 0 noMessage

@@ -1,0 +1,2 @@
+-- What the calls on sites promise.
+pub mod Calls

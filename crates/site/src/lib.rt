@@ -1,0 +1,269 @@
+// The calls on sites: starting them, an arrival at a site and a message at a site. Each refuses what
+// document 01's table "Refused" names, in its order, and then takes the step of crate `site_steps`.
+
+ghost use mathlib.Core.Path.{_≡_};
+ghost use mathlib.Core.Bool.{not, _&&_};
+ghost use Prim.Native.Nat.{_≤_};
+ghost use lib.Dec.{ltb};
+ghost use lib.ListN.{length, replicate};
+ghost use Rattle.model.specs.Limits.{topValue};
+ghost use Rattle.model.specs.Messages.{isProbe};
+ghost use Rattle.model.specs.Site.{addressRefusal, arrivalRefusal, dueAtSite, wrongAtSite, siteMessageRefusal};
+ghost use Rattle.model.specs.SiteMemory.{overwrite};
+ghost use Rattle.model.specs.NetworkMemory.{freshSites};
+ghost use Rattle.site.specs.Calls.{bareSite, observeRefusal, receiveRefusal, StartSays, ObserveSays, ReceiveSays};
+use counters::Word;
+use model::ACCEPTED;
+use model::AMOUNT_NOT_DUE;
+use model::Arrival;
+use model::MEMORY_TOO_SHORT;
+use model::MESSAGE_NOT_DUE;
+use model::Message;
+use model::SITE_FULL;
+use model::SITE_LIMIT;
+use model::Settings;
+use model::SiteRecord;
+use model::Sites;
+use model::TOP_VALUE;
+use model::UNKNOWN_ITEM;
+use model::UNKNOWN_SITE;
+use model::VALUE_TOO_LARGE;
+use site_steps::ANNOUNCEMENT;
+use site_steps::Answered;
+use site_steps::Observed;
+use site_steps::POLL;
+use site_steps::PROBE;
+
+// All sites started: why that was refused, if it was, and fresh records in every case.
+pub struct StartedSites {
+    pub refusal: u32,
+    pub sites: Sites,
+}
+
+// Why an arrival's site, item or value is refused: 5, 6, 7.
+pub fn address_refusal(settings: Settings, arrival: Arrival) -> u32
+    ensures { λ r. ⌜ r ≡ addressRefusal settings arrival ⌝ }
+{
+    if settings.sites <= arrival.site {
+        return UNKNOWN_SITE;
+    }
+    if settings.universe <= arrival.item {
+        return UNKNOWN_ITEM;
+    }
+    if TOP_VALUE < arrival.value {
+        return VALUE_TOO_LARGE;
+    }
+    ACCEPTED
+}
+
+// Why an arrival is refused at a site that is consistent: 5, 6, 7, 8.
+pub fn arrival_refusal(settings: Settings, site: SiteRecord, arrival: Arrival) -> u32
+    ensures { λ r. ⌜ r ≡ arrivalRefusal settings (bareSite site) arrival ⌝ }
+{
+    let refusal = address_refusal(settings, arrival);
+    if refusal != ACCEPTED {
+        return refusal;
+    }
+    if SITE_LIMIT <= site.arrivals {
+        return SITE_FULL;
+    }
+    ACCEPTED
+}
+
+// Why an arrival is refused: 1, 2, 3, 4, 11; then 5, 6, 7, 8.
+fn observe_refusal(settings: Settings, site: SiteRecord, arrival: Arrival, memory: &[Word]) -> u32
+    ensures { λ r. ⌜ r ≡ observeRefusal settings site arrival (now (memory .entry)) ⌝ }
+{
+    let refusal = site_memory::site_memory_refusal(settings, site, memory);
+    if refusal != ACCEPTED {
+        return refusal;
+    }
+    arrival_refusal(settings, site, arrival)
+}
+
+// An arrival at a site, with its messages. The memory is the site's own, and may be longer.
+pub fn observe(
+    settings: Settings,
+    site: SiteRecord,
+    arrival: Arrival,
+    memory: &mut [Word],
+) -> Observed
+    ensures { λ r. ⌜ ObserveSays settings site arrival (now (memory .entry)) (now (memory .exit)) r ⌝ }
+{
+    let refusal = observe_refusal(settings, site, arrival, memory);
+    if refusal != ACCEPTED {
+        let none = site_steps::make_message(0, 0, 0, 0);
+        return Observed {
+            refusal: refusal,
+            site: site,
+            count: 0,
+            first: none,
+            second: none,
+        };
+    }
+    site_steps::observe_step(settings, site, arrival, memory)
+}
+
+// Whether a message is not due at a site: of another kind, or with another site's number.
+fn message_not_due(which: u32, message: Message) -> bool
+    ensures { λ r. ⌜ r ≡ not (dueAtSite which message) ⌝ }
+{
+    if message.site != which {
+        return true;
+    }
+    if message.kind == POLL {
+        return false;
+    }
+    if message.kind == PROBE {
+        return false;
+    }
+    message.kind != ANNOUNCEMENT
+}
+
+// Whether a probe asks for a value that is none.
+fn value_unknown(message: Message) -> bool
+    ensures { λ r. ⌜ r ≡ (isProbe message && ltb topValue (message .a)) ⌝ }
+{
+    let top = TOP_VALUE as u64;
+    if message.kind == PROBE {
+        return top < message.a;
+    }
+    false
+}
+
+// Whether a message's amounts are not due at a site.
+fn amount_wrong(site: SiteRecord, message: Message) -> bool
+    ensures { λ r. ⌜ r ≡ wrongAtSite (bareSite site) message ⌝ }
+{
+    if message.kind == POLL {
+        if message.a != 0 {
+            return true;
+        }
+        return message.b != 0;
+    }
+    if message.kind == PROBE {
+        return message.b != 0;
+    }
+    if message.kind == ANNOUNCEMENT {
+        if message.a < site.threshold {
+            return true;
+        }
+        return SITE_LIMIT < message.a;
+    }
+    false
+}
+
+// Why a message is refused at a site that is consistent: 5, 9, 7, 10.
+pub fn message_refusal(settings: Settings, site: SiteRecord, which: u32, message: Message) -> u32
+    ensures { λ r. ⌜ r ≡ siteMessageRefusal settings (bareSite site) which message ⌝ }
+{
+    if settings.sites <= message.site {
+        return UNKNOWN_SITE;
+    }
+    if message_not_due(which, message) {
+        return MESSAGE_NOT_DUE;
+    }
+    if value_unknown(message) {
+        return VALUE_TOO_LARGE;
+    }
+    if amount_wrong(site, message) {
+        return AMOUNT_NOT_DUE;
+    }
+    ACCEPTED
+}
+
+// Why a message is refused: 1, 2, 3, 4, 11; 5 for the site's own number; then 5, 9, 7, 10.
+fn receive_refusal(
+    settings: Settings,
+    site: SiteRecord,
+    which: u32,
+    message: Message,
+    memory: &[Word],
+) -> u32
+    ensures { λ r. ⌜ r ≡ receiveRefusal settings site which message (now (memory .entry)) ⌝ }
+{
+    let refusal = site_memory::site_memory_refusal(settings, site, memory);
+    if refusal != ACCEPTED {
+        return refusal;
+    }
+    if settings.sites <= which {
+        return UNKNOWN_SITE;
+    }
+    message_refusal(settings, site, which, message)
+}
+
+// A message at site `which`, with the reply, if there is one. The memory is only read.
+pub fn receive(
+    settings: Settings,
+    site: SiteRecord,
+    which: u32,
+    message: Message,
+    memory: &[Word],
+) -> Answered
+    ensures { λ r. ⌜ ReceiveSays settings site which message (now (memory .entry)) r ⌝ }
+{
+    let refusal = receive_refusal(settings, site, which, message, memory);
+    if refusal != ACCEPTED {
+        return Answered {
+            refusal: refusal,
+            site: site,
+            count: 0,
+            reply: site_steps::make_message(0, 0, 0, 0),
+        };
+    }
+    site_steps::receive_step(settings, site, message, memory)
+}
+
+// The records of 32 sites started fresh, and no message counted.
+fn fresh_sites() -> Sites
+    ensures { λ r. ⌜ r ≡ freshSites ⌝ }
+{
+    let fresh = SiteRecord {
+        arrivals: 0,
+        pending: 0,
+        threshold: 1,
+        used: 0,
+    };
+    Sites {
+        records: [fresh; 32],
+        messages: 0,
+    }
+}
+
+// The first numbers of a memory set to 0.
+fn clear(memory: &mut [Word], words: usize)
+    requires { ⌜ words ≤ length (now memory) ⌝ }
+    ensures { λ r. ⌜ now (memory .exit) ≡ overwrite (replicate words 0) (now (memory .entry)) ⌝ }
+{
+    let mut i = 0;
+    while i < words {
+        memory[i] = 0;
+        i += 1;
+    }
+}
+
+// All sites started fresh, their memory one after another.
+pub fn start_sites(settings: Settings, memory: &mut [Word]) -> StartedSites
+    ensures { λ r. ⌜ StartSays settings (now (memory .entry)) (now (memory .exit)) r ⌝ }
+{
+    let fresh = fresh_sites();
+    let refusal = settings::test_settings(settings);
+    if refusal != ACCEPTED {
+        return StartedSites {
+            refusal: refusal,
+            sites: fresh,
+        };
+    }
+    let words = (settings.sites as usize) * site_memory::site_words(settings);
+    if memory.len() < words {
+        return StartedSites {
+            refusal: MEMORY_TOO_SHORT,
+            sites: fresh,
+        };
+    }
+    clear(memory, words);
+    StartedSites {
+        refusal: ACCEPTED,
+        sites: fresh,
+    }
+}

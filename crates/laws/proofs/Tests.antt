@@ -56,10 +56,6 @@ pub and-true : (test : Bool) → (test && true) ≡ test
 and-true true = refl
 and-true false = refl
 
-pub or-false : (test : Bool) → (test || false) ≡ test
-or-false true = refl
-or-false false = refl
-
 pub first-fails : (first second : Bool) → (first || second) ≡ false → first ≡ false
 first-fails true second impossible = absurd (false≢true (sym impossible))
 first-fails false second fails = refl

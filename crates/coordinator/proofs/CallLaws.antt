@@ -25,13 +25,13 @@ use Rattle.model.specs.SiteMemory.{overwrite}
 use Rattle.model.specs.Coordinator.{CoordinatorStep, freshCoordinator, coordinatorRefusal}
 use Rattle.model.specs.CoordinatorMemory.{coordinatorIn, coordinatorMemory, coordinatorWords, coordinatorMemoryRefusal}
 use Rattle.model.proofs.RefusalLaws.{both-accepted, passed}
-use Rattle.coordinator.specs.declared.Answered.{Answered}
+use Rattle.coordinator_steps.specs.declared.Answered.{Answered}
 use Rattle.coordinator.specs.declared.Received.{Received}
-use Rattle.coordinator.specs.Steps.{answerOf}
-use Rattle.coordinator.specs.Ready.{StepAsks, AnnounceAsks}
+use Rattle.coordinator_steps.specs.Steps.{answerOf}
+use Rattle.coordinator_steps.specs.Ready.{StepAsks, AnnounceAsks}
 use Rattle.coordinator.specs.Calls.{Hands, startRefusal, receiveRefusal, announceRefusal}
-use Rattle.coordinator.proofs.Chains.{accepts, refuses}
-use Rattle.coordinator.proofs.ReadyLaws.{tested, ready-of-consistent}
+use Rattle.coordinator_tests.proofs.Chains.{accepts, refuses}
+use Rattle.coordinator_tests.proofs.ReadyLaws.{tested, ready-of-consistent}
 
 -- ---- Memory cleared from its first place on
 

@@ -1,5 +1,2 @@
--- What the functions of this crate ask and promise, over the model's definitions.
-pub mod Steps
-pub mod Ready
-pub mod Consistency
+-- What the calls on the coordinator promise, over the model's definitions.
 pub mod Calls

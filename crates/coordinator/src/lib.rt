@@ -1,9 +1,6 @@
 // The coordinator: document 01's desk, on its record and lent memory of 8 bytes a number: a number for
 // each item (the estimates), then 1024 value counts. The calls of this file test all that they are
 // given (1 to 4 and 11, then the message) and have no `requires`.
-pub mod consistency;
-pub mod refusals;
-pub mod steps;
 
 ghost use mathlib.Core.Path.{_≡_};
 ghost use mathlib.Core.Bool.{not};
@@ -14,7 +11,11 @@ ghost use Rattle.model.specs.Coordinator.{freshCoordinator, isAnnouncing};
 ghost use Rattle.model.specs.CoordinatorMemory.{coordinatorRecord};
 ghost use Rattle.model.specs.declared.Settings.{Settings};
 ghost use Rattle.coordinator.specs.Calls.{startRefusal, receiveRefusal, announceRefusal, Starts, Receives, Announces};
-use consistency::coordinator_memory_refusal;
+use coordinator_steps::announce_step;
+use coordinator_steps::no_message;
+use coordinator_steps::receive_step;
+use coordinator_tests::consistency::coordinator_memory_refusal;
+use coordinator_tests::refusals::message_refusal;
 use model::ACCEPTED;
 use model::CoordinatorRecord;
 use model::MEMORY_TOO_SHORT;
@@ -23,19 +24,7 @@ use model::Message;
 use model::Phase;
 use model::Settings;
 use model::VALUE_COUNT;
-use refusals::message_refusal;
 use settings::test_settings;
-use steps::announce_step;
-use steps::no_message;
-use steps::receive_step;
-
-// What a step hands back: the record after it, the number of messages that go out (0 or 1) and the
-// message, all zeros where there is none.
-pub struct Answered {
-    pub coordinator: CoordinatorRecord,
-    pub count: u32,
-    pub out: Message,
-}
 
 // What a start hands back. The record is fresh also where the start is refused.
 pub struct StartedCoordinator {

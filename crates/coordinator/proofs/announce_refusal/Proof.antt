@@ -1,21 +1,16 @@
-use Rattle.coordinator.proofs.Chains.{refused-first, accepted-first}
-use Rattle.model.specs.CoordinatorMemory.{coordinatorMemoryRefusal}
-use Rattle.model.specs.Refusals.{when, messageNotDue}
+-- Each return is the row of `announceRefusal` that decides.
 use mathlib.Core.Path.{ap, sym, _∙_}
 use mathlib.Core.Bool.{Bool}
 use borrow.Author.Needs.{needs}
+use Rattle.coordinator_tests.proofs.Chains.{refused-first, accepted-first}
+use Rattle.model.specs.CoordinatorMemory.{coordinatorMemoryRefusal}
+use Rattle.model.specs.Refusals.{when, messageNotDue}
 use Rattle.coordinator.proofs.announce_refusal.Statement.{statement}
 use Rattle.coordinator.proofs.announce_refusal.Tie as tie
-use Rattle.coordinator.proofs.announce_refusal.Reads as reads
-use Rattle.coordinator.proofs.announce_refusal.Lts as lts
-use Rattle.coordinator.proofs.consistency.coordinator_memory_refusal.Reads as coordinator-memory-refusal-reads
-use Rattle.coordinator.proofs.not_announcing.Reads as not-announcing-reads
 
--- src/lib.rt:174:9
 coordinator-memory-refusal-requires : tie.Need-coordinator-memory-refusal-requires
 coordinator-memory-refusal-requires c κs = search needs
 
--- src/lib.rt:176:9
 returns : tie.Need-returns
 returns c =
     let start = c .before .before .before .args in
@@ -25,11 +20,9 @@ returns c =
     (refused-first (coordinatorMemoryRefusal (start .settings) (start .coordinator) (start .memory .now)) _
     (λ none. c .if1 .taken (result-is ∙ none)))
 
--- src/lib.rt:179:8
 not-announcing-requires : tie.Need-not-announcing-requires
 not-announcing-requires c κs = search needs
 
--- src/lib.rt:180:9
 returns-2 : tie.Need-returns-2
 returns-2 c =
     let tests = c .before .before in
@@ -39,7 +32,6 @@ returns-2 c =
     (sym (tests .before .coordinator-memory-refusal .ensures) ∙ tests .if1 .left)
     ∙ ap (λ (other : Bool). when other messageNotDue) (sym (c .before .not-announcing .ensures) ∙ c .if2 .taken))
 
--- src/lib.rt:171:1
 returns-3 : tie.Need-returns-3
 returns-3 c =
     let tests = c .before .before in

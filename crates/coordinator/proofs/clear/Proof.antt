@@ -1,15 +1,13 @@
-use Rattle.coordinator.proofs.CallLaws.{Cleared, cleared-start, cleared-on, cleared-end}
-use Prim.Native.Nat.{ℕ}
-use Rattle.model.specs.SiteMemory.{overwrite}
+-- The invariant is `Cleared`: zeros up to place i, and from there the memory as it was.
+use Prim.Native.Nat.{ℕ, _-_, _≤_, _<_}
 use lib.ListN.{length, length-set, replicate}
 use native.Mathlib.Omega.{arith}
-use mathlib.Core.Path.{_≡_, refl, sym, ap, _∙_}
-use Prim.Native.Nat.{_-_, _≤_, _<_}
+use mathlib.Core.Path.{_≡_, refl, ap, _∙_}
 use borrow.Author.Needs.{needs}
+use Rattle.coordinator.proofs.CallLaws.{Cleared, cleared-start, cleared-on, cleared-end}
+use Rattle.model.specs.SiteMemory.{overwrite}
 use Rattle.coordinator.proofs.clear.Statement.{statement}
 use Rattle.coordinator.proofs.clear.Tie as tie
-use Rattle.coordinator.proofs.clear.Reads as reads
-use Rattle.coordinator.proofs.clear.Lts as lts
 
 abbrev Inv-loop : tie.InvT-loop
 Inv-loop memory₀ count i₀ memory i = (i ≤ count) × (length memory ≡ length memory₀) × Cleared memory₀ memory i
@@ -17,27 +15,21 @@ Inv-loop memory₀ count i₀ memory i = (i ≤ count) × (length memory ≡ len
 abbrev μ-loop : tie.MeasureT-loop
 μ-loop memory₀ count i₀ memory i = count - i
 
--- src/lib.rt:74:5
 loop-holds : tie.Need-loop-holds Inv-loop μ-loop
 loop-holds c = (omega arith, refl, cleared-start (c .args .memory .now))
 
--- src/lib.rt:75:9
 mul-memory : tie.Need-mul-memory Inv-loop μ-loop
 mul-memory c = search needs
 
--- src/lib.rt:75:9
 slice-write-memory : tie.Need-slice-write-memory Inv-loop μ-loop
 slice-write-memory c = search needs
 
--- src/lib.rt:76:9
 add-i : tie.Need-add-i Inv-loop μ-loop
 add-i c = search needs
 
--- src/lib.rt:74:5
 loop-less : tie.Need-loop-less Inv-loop μ-loop
 loop-less c = search needs
 
--- src/lib.rt:74:5
 loop-again : tie.Need-loop-again Inv-loop μ-loop
 loop-again c =
     let at-loop = c .before .loop in
@@ -49,11 +41,9 @@ loop-again c =
       cleared-on (start .args .memory .now) (at-loop .memory) (at-loop .i) (at-loop .inv .2) inside,
     )
 
--- src/lib.rt:69:1
 same-length : tie.Need-same-length Inv-loop μ-loop
 same-length c = search needs
 
--- src/lib.rt:69:1
 returns : tie.Need-returns Inv-loop μ-loop
 returns c =
     let at-loop = c .before .loop in

@@ -1,31 +1,24 @@
-use Rattle.coordinator.proofs.CallLaws.{fresh-memory, start-long}
-use Rattle.coordinator.proofs.StepLaws.{valueCount-is}
-use Rattle.coordinator.proofs.Chains.{accepts, refuses}
-use Rattle.coordinator.specs.Calls.{startRefusal}
-use Rattle.model.specs.CoordinatorMemory.{coordinatorWords}
-use Rattle.model.specs.SiteMemory.{overwrite}
+-- The fresh coordinator in memory is zeros alone.
 use lib.ListN.{length, replicate}
 use native.Mathlib.Omega.{arith}
 use mathlib.Core.Path.{_≡_, ap, sym, _∙_}
 use Prim.Native.Nat.{ℕ, _+_}
 use borrow.Author.Needs.{needs}
+use Rattle.coordinator.proofs.CallLaws.{fresh-memory, start-long}
+use Rattle.coordinator_steps.proofs.StepLaws.{valueCount-is}
+use Rattle.coordinator_tests.proofs.Chains.{accepts, refuses}
+use Rattle.coordinator.specs.Calls.{startRefusal}
+use Rattle.model.specs.CoordinatorMemory.{coordinatorWords}
+use Rattle.model.specs.SiteMemory.{overwrite}
 use Rattle.coordinator.proofs.start_coordinator.Statement.{statement}
 use Rattle.coordinator.proofs.start_coordinator.Tie as tie
-use Rattle.coordinator.proofs.start_coordinator.Reads as reads
-use Rattle.coordinator.proofs.start_coordinator.Lts as lts
-use Rattle.coordinator.proofs.clear.Reads as clear-reads
-use Rattle.coordinator.proofs.fresh_record.Reads as fresh-record-reads
-use Rattle.coordinator.proofs.start_refusal.Reads as start-refusal-reads
 
--- src/lib.rt:98:9
 fresh-record-requires : tie.Need-fresh-record-requires
 fresh-record-requires c κs = search needs
 
--- src/lib.rt:99:9
 start-refusal-requires : tie.Need-start-refusal-requires
 start-refusal-requires c κs = search needs
 
--- src/lib.rt:101:9
 returns : tie.Need-returns
 returns c =
     let tests = c .before in
@@ -38,15 +31,12 @@ returns c =
       memory = refuses refusal _ _ (λ none. c .if1 .taken (result-is ∙ none));
     }
 
--- src/lib.rt:106:20
 cast-clear : tie.Need-cast-clear
 cast-clear c = search needs
 
--- src/lib.rt:106:19
 add-clear : tie.Need-add-clear
 add-clear c = search needs
 
--- src/lib.rt:106:5
 clear-requires : tie.Need-clear-requires
 clear-requires c κs =
     let tests = c .before .before .before in
@@ -54,11 +44,9 @@ clear-requires c κs =
     let none = sym (tests .start-refusal .ensures) ∙ c .before .before .if1 .left in
     omega (arith, start-long (start .settings) (length (start .memory .now)) none, valueCount-is)
 
--- src/lib.rt:95:1
 same-length : tie.Need-same-length
 same-length c = search needs
 
--- src/lib.rt:95:1
 returns-2 : tie.Need-returns-2
 returns-2 c =
     let cleared = c .before .before in

@@ -1,25 +1,20 @@
-use Rattle.model.specs.CoordinatorMemory.{coordinatorWords}
-use Rattle.coordinator.proofs.Chains.{refused-first, accepted-first}
-use Rattle.coordinator.proofs.StepLaws.{valueCount-is}
-use Rattle.model.specs.Settings.{settingsRefusal}
-use Rattle.model.specs.Refusals.{when, _orElse_, accepted, memoryTooShort}
+-- Each return is the row of `startRefusal` whose test was the first to hold.
 use borrow.Author.Tests.{lt-ltb, le-ltb}
 use native.Mathlib.Omega.{arith}
-use mathlib.Core.Path.{_≡_, sym, ap, _∙_}
+use mathlib.Core.Path.{sym, ap, _∙_}
 use mathlib.Core.Bool.{Bool}
-use Prim.Native.Nat.{ℕ}
 use borrow.Author.Needs.{needs}
+use Rattle.model.specs.CoordinatorMemory.{coordinatorWords}
+use Rattle.coordinator_tests.proofs.Chains.{refused-first, accepted-first}
+use Rattle.coordinator_steps.proofs.StepLaws.{valueCount-is}
+use Rattle.model.specs.Settings.{settingsRefusal}
+use Rattle.model.specs.Refusals.{when, _orElse_, accepted, memoryTooShort}
 use Rattle.coordinator.proofs.start_refusal.Statement.{statement}
 use Rattle.coordinator.proofs.start_refusal.Tie as tie
-use Rattle.coordinator.proofs.start_refusal.Reads as reads
-use Rattle.coordinator.proofs.start_refusal.Lts as lts
-use Rattle.settings.proofs.test_settings.Reads as test-settings-reads
 
--- src/lib.rt:84:9
 test-settings-requires : tie.Need-test-settings-requires
 test-settings-requires c κs = search needs
 
--- src/lib.rt:86:9
 returns : tie.Need-returns
 returns c =
     let start = c .before .before .args in
@@ -27,15 +22,12 @@ returns c =
     result-is
     ∙ sym (refused-first (settingsRefusal (start .settings)) _ (λ none. c .if1 .taken (result-is ∙ none)))
 
--- src/lib.rt:88:17
 cast-if2 : tie.Need-cast-if2
 cast-if2 c = search needs
 
--- src/lib.rt:88:16
 add-if2 : tie.Need-add-if2
 add-if2 c = search needs
 
--- src/lib.rt:89:9
 returns-2 : tie.Need-returns-2
 returns-2 c =
     let at-settings = c .before .before in
@@ -47,7 +39,6 @@ returns-2 c =
     ∙ ap (λ (short : Bool). when short memoryTooShort orElse accepted)
     (lt-ltb words (coordinatorWords settings) (omega (arith, c .if2 .taken, valueCount-is))))
 
--- src/lib.rt:81:1
 returns-3 : tie.Need-returns-3
 returns-3 c =
     let at-settings = c .before .before in

@@ -1,0 +1,98 @@
+-- By phase: out of announcing the step leaves all as it is; else the site after this one, if there is one, decides.
+use native.Mathlib.Omega.{arith}
+use borrow.Author.Tests.{lt-ltb, le-ltb}
+use borrow.Author.Needs.{needs}
+use Rattle.coordinator_steps.proofs.StepLaws.{settings-fit}
+use Rattle.coordinator_steps.specs.Ready.{PhaseShape}
+use Rattle.model.specs.declared.Phase.the-variants.{Announcing}
+use Rattle.coordinator_steps.proofs.announce_step.Statement.{statement}
+use Rattle.coordinator_steps.proofs.announce_step.Tie as tie
+
+enum-told : tie.Need-enum-told
+enum-told c = search needs
+
+keep-silent-requires : tie.Need-keep-silent-requires
+keep-silent-requires c κs = search needs
+
+enum-told-2 : tie.Need-enum-told-2
+enum-told-2 c = search needs
+
+keep-silent-requires-2 : tie.Need-keep-silent-requires-2
+keep-silent-requires-2 c κs = search needs
+
+enum-told-3 : tie.Need-enum-told-3
+enum-told-3 c = search needs
+
+keep-silent-requires-3 : tie.Need-keep-silent-requires-3
+keep-silent-requires-3 c κs = search needs
+
+enum-known-phase : tie.Need-enum-known-phase
+enum-known-phase c = search needs
+
+announcement-of-requires : tie.Need-announcement-of-requires
+announcement-of-requires c κs = search needs
+
+add-if1 : tie.Need-add-if1
+add-if1 c =
+    let start = c .before .before .before .before in
+    let settings = start .args .settings in
+    let site = c .before .before .phase .given .0 .0 in
+    let shape : PhaseShape settings (start .args .coordinator .signals) (Announcing site) =
+    rw (c .before .before .phase .given .1) at (start .pre .phase-shape) in
+    omega (arith, shape .site-known, settings-fit settings (start .pre .settings-accepted) .sites-few)
+
+add-t10 : tie.Need-add-t10
+add-t10 c = search needs
+
+speak-requires : tie.Need-speak-requires
+speak-requires c κs = search needs
+
+returns : tie.Need-returns
+returns c = λ memory.
+    rw (c .before .before .before .before .before .phase .given .1, lt-ltb _ _ (c .before .if1 .taken))
+    (rw (c .before .before .before .announcement-of .ensures) at (c .speak .ensures))
+
+speak-requires-2 : tie.Need-speak-requires-2
+speak-requires-2 c κs = search needs
+
+returns-2 : tie.Need-returns-2
+returns-2 c = λ memory.
+    let idle = c .before .enum-told .given .1 in
+    rw idle (rw idle at (c .keep-silent .ensures))
+
+returns-3 : tie.Need-returns-3
+returns-3 c = λ memory.
+    let collecting = c .before .enum-told2 .given .1 in
+    rw collecting (rw collecting at (c .keep-silent2 .ensures))
+
+returns-4 : tie.Need-returns-4
+returns-4 c = λ memory.
+    let probing = c .before .enum-told3 .given .1 in
+    rw probing (rw probing at (c .keep-silent3 .ensures))
+
+returns-5 : tie.Need-returns-5
+returns-5 c = λ memory.
+    rw (c .before .before .before .before .before .phase .given .1, le-ltb _ _ (c .before .if1 .left))
+    (rw (c .before .before .before .announcement-of .ensures) at (c .speak2 .ensures))
+
+pub announce-step-spec : {M : Type 1} → statement M
+announce-step-spec =
+    tie.close
+    (tie.spec
+    enum-told
+    keep-silent-requires
+    enum-told-2
+    keep-silent-requires-2
+    enum-told-3
+    keep-silent-requires-3
+    enum-known-phase
+    announcement-of-requires
+    add-if1
+    add-t10
+    speak-requires
+    returns
+    speak-requires-2
+    returns-2
+    returns-3
+    returns-4
+    returns-5)

@@ -2,4 +2,6 @@
 pub mod Accepted
 pub mod MemoryLaws
 pub mod StepLaws
+pub mod ShapeLaws
+pub mod Kept
 pub mod Receives

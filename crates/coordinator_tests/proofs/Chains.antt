@@ -1,12 +1,15 @@
 -- Laws of refusal chains and of a choice by the refusal.
 --
 --   refused-first, accepted-first    a chain whose first part refuses, and one whose first part does not
---   accepts, refuses                 what is chosen where a call accepts, and where it refuses
-use mathlib.Core.Path.{_≡_, refl, ap}
+--   last-row                         a chain whose first part accepts: its last row decides
+--   accepts, refuses, refuses-by                 what is chosen where a call accepts, and where it refuses
+use mathlib.Core.Path.{_≡_, refl, ap, sym, _∙_}
+use mathlib.Core.Bool.{Bool}
 use Prim.Native.Nat.{ℕ, zero, suc}
+use native.Mathlib.Omega.{arith}
 use borrow.Author.Tests.{eq-eqb, ne-eqb}
 use Rattle.model.specs.Choice.{if_then_else_, isZero}
-use Rattle.model.specs.Refusals.{_orElse_, accepted}
+use Rattle.model.specs.Refusals.{when, _orElse_, accepted}
 
 pub refused-first : (first later : ℕ) → (first ≡ accepted → ⊥) → (first orElse later) ≡ first
 refused-first zero later refused = absurd (refused refl)
@@ -15,6 +18,17 @@ refused-first (suc first) later refused = refl
 pub accepted-first : (first later : ℕ) → first ≡ accepted → (first orElse later) ≡ later
 accepted-first first later none = ap (λ (x : ℕ). x orElse later) none
 
+-- The last row of a chain decides where the first part accepts.
+pub last-row : (first number : ℕ) (test answer : Bool)
+    → first ≡ accepted
+    → test ≡ answer
+    → (first orElse when test number orElse accepted) ≡ (when answer number orElse accepted)
+last-row first number test answer none is =
+    accepted-first first _ none ∙ ap (λ (x : Bool). when x number orElse accepted) is
+
+zero≢suc-at : (number : ℕ) → suc number ≡ accepted → ⊥
+zero≢suc-at number impossible = omega arith
+
 -- What is chosen where a call accepts, and where it refuses.
 module _ {A : Type 0} (refusal : ℕ) (chosen other : A) where
   pub accepts : refusal ≡ accepted → chosen ≡ (if isZero refusal then chosen else other)
@@ -22,3 +36,9 @@ module _ {A : Type 0} (refusal : ℕ) (chosen other : A) where
 
   pub refuses : (refusal ≡ accepted → ⊥) → other ≡ (if isZero refusal then chosen else other)
   refuses some = rw (ne-eqb refusal 0 some)
+
+  -- Where the call is known to refuse with a number.
+  pub refuses-by : (number : ℕ)
+      → refusal ≡ suc number
+      → other ≡ (if isZero refusal then chosen else other)
+  refuses-by number is = refuses (λ none. zero≢suc-at number (sym is ∙ none))

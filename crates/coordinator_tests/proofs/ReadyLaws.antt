@@ -74,6 +74,7 @@ phase-sum-within settings signals (Announcing site) holds = omega arith
 pub record Consistent (settings : Settings) (c : Coordinator) : Type 0 where
   pub shape : CoordinatorShape settings c
   pub within : CoordinatorWithin coordinatorLimit c
+  pub histogram-all : allWithin coordinatorLimit (c .histogram) ≡ true
 
 -- While the threshold is 1 the other half of the test decides.
 counted-of-test : (c : Coordinator)
@@ -109,6 +110,7 @@ consistent-facts settings c holds =
         histogram-within = within-at coordinatorLimit (c .histogram) (seven .second-true);
         sum-within = phase-sum-within settings (c .signals) (c .phase) (two .first-true);
       };
+      histogram-all = seven .second-true;
     }
 
 -- A greater limit serves as well.

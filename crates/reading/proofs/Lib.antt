@@ -1,0 +1,4 @@
+-- The laws behind the calls that read the coordinator.
+pub mod Signed
+pub mod ListLaws
+pub mod ReadLaws

@@ -1,0 +1,112 @@
+-- The invariant is `Searching`: no value passed has enough counts at or below it.
+use lib.ListN.{length}
+use native.Mathlib.Nat.{mul-le-mul}
+use native.Mathlib.Omega.{arith}
+use mathlib.Core.Path.{sym}
+use Prim.Native.Nat.{_-_}
+use borrow.Author.Needs.{needs}
+use Rattle.reading.proofs.ReadLaws.{Searching, searching-start, searching-found, searching-on, searching-end}
+use Rattle.coordinator_tests.proofs.NumberLaws.{within-at}
+use Rattle.coordinator_steps.proofs.StepLaws.{valueCount-is}
+use Rattle.model.specs.Limits.{coordinatorLimit}
+use Rattle.reading.proofs.least_value.Statement.{statement}
+use Rattle.reading.proofs.least_value.Tie as tie
+
+abbrev Inv-loop : tie.InvT-loop
+Inv-loop rank total counts needed below₀ value₀ below value = Searching rank total counts below value
+
+abbrev μ-loop : tie.MeasureT-loop
+μ-loop rank total counts needed below₀ value₀ below value = length counts - value
+
+mul-needed : tie.Need-mul-needed Inv-loop μ-loop
+mul-needed c = omega (arith, mul-le-mul (c .pre .rank-small) (c .pre .total-within))
+
+loop-holds : tie.Need-loop-holds Inv-loop μ-loop
+loop-holds c = searching-start (c .args .rank) (c .args .total) (c .args .counts .now)
+
+mul-below : tie.Need-mul-below Inv-loop μ-loop
+mul-below c = search needs
+
+shared-slice-read-below : tie.Need-shared-slice-read-below Inv-loop μ-loop
+shared-slice-read-below c = search needs
+
+add-below : tie.Need-add-below Inv-loop μ-loop
+add-below c =
+    let at-loop = c .before .before in
+    let start = at-loop .before in
+    omega (
+      arith,
+      at-loop .loop .inv .small,
+      c .before .loop-test .taken,
+      start .pre .few,
+      valueCount-is,
+      within-at coordinatorLimit (start .args .counts .now) (start .pre .counts-within) (at-loop .loop .value),
+    )
+
+mul-if1 : tie.Need-mul-if1 Inv-loop μ-loop
+mul-if1 c =
+    let at-loop = c .before .before in
+    let start = at-loop .before in
+    omega (
+      arith,
+      at-loop .loop .inv .small,
+      c .before .loop-test .taken,
+      start .pre .few,
+      valueCount-is,
+      within-at coordinatorLimit (start .args .counts .now) (start .pre .counts-within) (at-loop .loop .value),
+    )
+
+cast-t12 : tie.Need-cast-t12 Inv-loop μ-loop
+cast-t12 c =
+    let start = c .before .before .before .before in
+    omega (arith, c .before .before .loop-test .taken, start .pre .few, valueCount-is)
+
+returns : tie.Need-returns Inv-loop μ-loop
+returns c =
+    let at-loop = c .before .before .before in
+    let start = at-loop .before .args in
+    sym
+    (searching-found (start .rank) (start .total) (start .counts .now) (at-loop .loop .below) (at-loop .loop .value)
+    (at-loop .loop .inv) (c .before .before .loop-test .taken) (c .if1 .taken))
+
+add-value : tie.Need-add-value Inv-loop μ-loop
+add-value c = search needs
+
+loop-less : tie.Need-loop-less Inv-loop μ-loop
+loop-less c = search needs
+
+loop-again : tie.Need-loop-again Inv-loop μ-loop
+loop-again c =
+    let at-loop = c .before .before .before in
+    let start = at-loop .before in
+    searching-on (start .args .rank) (start .args .total) (start .args .counts .now) (at-loop .loop .below)
+    (at-loop .loop .value) (at-loop .loop .inv) (c .before .before .loop-test .taken)
+    (within-at coordinatorLimit (start .args .counts .now) (start .pre .counts-within) (at-loop .loop .value))
+    (c .if1 .left)
+
+returns-2 : tie.Need-returns-2 Inv-loop μ-loop
+returns-2 c =
+    let at-loop = c .before in
+    let start = at-loop .before .args in
+    sym
+    (searching-end (start .rank) (start .total) (start .counts .now) (at-loop .loop .below) (at-loop .loop .value)
+    (at-loop .loop .inv) (c .loop-test .left))
+
+pub least-value-spec : {M : Type 1} → statement M
+least-value-spec =
+    tie.close
+    (tie.spec
+    Inv-loop
+    μ-loop
+    mul-needed
+    loop-holds
+    mul-below
+    shared-slice-read-below
+    add-below
+    mul-if1
+    cast-t12
+    returns
+    add-value
+    loop-less
+    loop-again
+    returns-2)

@@ -1,0 +1,242 @@
+// Reading the coordinator: the list of heavy hitters, the margin of an item and the tracked quantile.
+// The record and the memory are not changed; the calls have no `requires` and test all they are given.
+ghost use mathlib.Core.Path.{_≡_};
+ghost use Prim.Native.Nat.{_*_, _≤_, _<_};
+ghost use lib.ListN.{length};
+ghost use Rattle.model.specs.SiteMemory.{overwrite};
+ghost use Rattle.model.specs.CoordinatorMemory.{coordinatorIn};
+ghost use Rattle.model.specs.Reading.{heavyHitters, difference, leastValue, quantileOf};
+ghost use Rattle.reading.specs.Contracts.{Lists, ReadsMargin, ReadsQuantile, ReadAsks, SidesAsk, ValuesAsk, marginRefusal, sideNeeded, ruleHolds};
+use coordinator_tests::consistency::coordinator_memory_refusal;
+use model::ACCEPTED;
+use model::CoordinatorRecord;
+use model::LIST_TOO_SHORT;
+use model::Quantile;
+use model::Settings;
+use model::UNKNOWN_ITEM;
+use model::VALUE_COUNT;
+
+// What the list call hands back: how many items it wrote.
+pub struct Listed {
+    pub refusal: u32,
+    pub count: u32,
+}
+
+// What the margin call hands back: 0 where it is refused.
+pub struct Margin {
+    pub refusal: u32,
+    pub margin: i64,
+}
+
+// What the quantile call hands back: `Nothing` where it is refused.
+pub struct QuantileRead {
+    pub refusal: u32,
+    pub quantile: Quantile,
+}
+
+// (2p - e) × total, the side of the list rule that an item's number has to reach.
+fn side_needed(settings: Settings, total: u64, number: u64) -> u64
+    requires { ⌜ SidesAsk settings total number ⌝ }
+    ensures { λ r. ⌜ r ≡ sideNeeded settings total ⌝ }
+{
+    let share = 2 * (settings.phi as u64) - (settings.epsilon as u64);
+    share * total
+}
+
+// Whether an item with this number is listed.
+fn is_listed(settings: Settings, total: u64, number: u64) -> bool
+    requires { ⌜ SidesAsk settings total number ⌝ }
+    ensures { λ r. ⌜ r ≡ ruleHolds settings total number ⌝ }
+{
+    if total < 1 {
+        return false;
+    }
+    side_needed(settings, total, number) <= 2000 * number
+}
+
+// How many items are listed.
+fn count_listed(settings: Settings, coordinator: CoordinatorRecord, memory: &[u64]) -> usize
+    requires { ⌜ ReadAsks settings coordinator (now memory) ⌝ }
+    ensures { λ r. ⌜ r ≡ length (heavyHitters settings (coordinatorIn settings coordinator (now (memory .entry)))) ⌝ }
+{
+    let items = settings.universe as usize;
+    let mut count = 0;
+    let mut item = 0;
+    while item < items {
+        if is_listed(settings, coordinator.total, memory[item]) {
+            count += 1;
+        }
+        item += 1;
+    }
+    count
+}
+
+// Writes the listed items to the front of a list that has the places.
+fn write_listed(
+    settings: Settings,
+    coordinator: CoordinatorRecord,
+    memory: &[u64],
+    list: &mut [u32],
+)
+    requires { ⌜ ReadAsks settings coordinator (now memory) × (length (heavyHitters settings (coordinatorIn settings coordinator (now memory))) ≤ length (now list)) ⌝ }
+    ensures { λ r. ⌜ now (list .exit) ≡ overwrite (heavyHitters settings (coordinatorIn settings coordinator (now (memory .entry)))) (now (list .entry)) ⌝ }
+{
+    let items = settings.universe as usize;
+    let mut count = 0;
+    let mut item = 0;
+    while item < items {
+        if is_listed(settings, coordinator.total, memory[item]) {
+            list[count] = item as u32;
+            count += 1;
+        }
+        item += 1;
+    }
+}
+
+// The items with a share of the arrivals, in rising order. They are counted first, so that a list with
+// too few places stays as it was.
+pub fn list_heavy_hitters(
+    settings: Settings,
+    coordinator: CoordinatorRecord,
+    memory: &[u64],
+    list: &mut [u32],
+) -> Listed
+    ensures { λ r. ⌜ Lists settings coordinator (now (memory .entry)) (now (list .entry)) (now (list .exit)) r ⌝ }
+{
+    let refusal = coordinator_memory_refusal(settings, coordinator, memory);
+    if refusal != ACCEPTED {
+        return Listed {
+            refusal: refusal,
+            count: 0,
+        };
+    }
+    let count = count_listed(settings, coordinator, memory);
+    if list.len() < count {
+        return Listed {
+            refusal: LIST_TOO_SHORT,
+            count: 0,
+        };
+    }
+    write_listed(settings, coordinator, memory, list);
+    Listed {
+        refusal: ACCEPTED,
+        count: count as u32,
+    }
+}
+
+// x - y, below zero too.
+fn subtract(x: u64, y: u64) -> i64
+    requires { ⌜ (x < 4611686018427387904) × (y < 4611686018427387904) ⌝ }
+    ensures { λ r. ⌜ r ≡ difference x y ⌝ }
+{
+    (x as i64) - (y as i64)
+}
+
+// The signed difference of the two sides of the list rule.
+fn margin_of(settings: Settings, total: u64, number: u64) -> i64
+    requires { ⌜ SidesAsk settings total number ⌝ }
+    ensures { λ r. ⌜ r ≡ difference (2000 * number) (sideNeeded settings total) ⌝ }
+{
+    subtract(2000 * number, side_needed(settings, total, number))
+}
+
+// Why the margin is refused, or 0.
+fn margin_refusal(
+    settings: Settings,
+    coordinator: CoordinatorRecord,
+    item: u32,
+    memory: &[u64],
+) -> u32
+    ensures { λ r. ⌜ r ≡ marginRefusal settings coordinator item (now (memory .entry)) ⌝ }
+{
+    let refusal = coordinator_memory_refusal(settings, coordinator, memory);
+    if refusal != ACCEPTED {
+        return refusal;
+    }
+    if settings.universe <= item {
+        return UNKNOWN_ITEM;
+    }
+    ACCEPTED
+}
+
+// How far an item's number is above what the list asks, or below it.
+pub fn read_margin(
+    settings: Settings,
+    coordinator: CoordinatorRecord,
+    item: u32,
+    memory: &[u64],
+) -> Margin
+    ensures { λ r. ⌜ ReadsMargin settings coordinator item (now (memory .entry)) r ⌝ }
+{
+    let refusal = margin_refusal(settings, coordinator, item, memory);
+    if refusal != ACCEPTED {
+        return Margin {
+            refusal: refusal,
+            margin: 0,
+        };
+    }
+    let number = memory[item as usize];
+    let margin = margin_of(settings, coordinator.total, number);
+    Margin {
+        refusal: refusal,
+        margin: margin,
+    }
+}
+
+// The least value with enough counts at or below it.
+fn least_value(rank: u32, total: u64, counts: &[u64]) -> Quantile
+    requires { ⌜ ValuesAsk rank total (now counts) ⌝ }
+    ensures { λ r. ⌜ r ≡ leastValue rank total (now (counts .entry)) ⌝ }
+{
+    let needed = (rank as u64) * total;
+    let mut below: u64 = 0;
+    let mut value = 0;
+    while value < counts.len() {
+        below += counts[value];
+        if needed <= 1000 * below {
+            return Quantile::Value(value as u32);
+        }
+        value += 1;
+    }
+    Quantile::Nothing
+}
+
+// The quantile of a coordinator that passed its tests: from the value counts while the threshold is
+// 1, later from the record.
+fn quantile_value(settings: Settings, coordinator: CoordinatorRecord, memory: &[u64]) -> Quantile
+    requires { ⌜ ReadAsks settings coordinator (now memory) ⌝ }
+    ensures { λ r. ⌜ r ≡ quantileOf settings (coordinatorIn settings coordinator (now (memory .entry))) ⌝ }
+{
+    if coordinator.threshold == 1 {
+        if coordinator.total == 0 {
+            return Quantile::Nothing;
+        }
+        let items = settings.universe as usize;
+        let words = items + VALUE_COUNT;
+        return least_value(settings.rank, coordinator.total, &memory[items..words]);
+    }
+    Quantile::Value(coordinator.quantile)
+}
+
+// The tracked quantile.
+pub fn read_quantile(
+    settings: Settings,
+    coordinator: CoordinatorRecord,
+    memory: &[u64],
+) -> QuantileRead
+    ensures { λ r. ⌜ ReadsQuantile settings coordinator (now (memory .entry)) r ⌝ }
+{
+    let refusal = coordinator_memory_refusal(settings, coordinator, memory);
+    if refusal != ACCEPTED {
+        let nothing = Quantile::Nothing;
+        return QuantileRead {
+            refusal: refusal,
+            quantile: nothing,
+        };
+    }
+    let quantile = quantile_value(settings, coordinator, memory);
+    QuantileRead {
+        refusal: refusal,
+        quantile: quantile,
+    }
+}

@@ -1,17 +1,20 @@
--- The three ways in which an item is counted, each from the tests that lead there: it has a counter,
--- it takes the next unused one, or it replaces the one of least count.
-use Prim.Native.Nat.{ℕ, _+_, _*_, _<_, _≤_}
-use mathlib.Core.Path.{_≡_, refl, ap, sym, _∙_}
+-- The three ways in which an item is counted, each from the tests that lead there: it has a
+-- counter, it takes the next unused one, or it replaces the one of least count.
+--
+--   least-within, small-at                         places and counts within their bounds
+--   counted-own, counted-unused, counted-replaced   the promise of `count_item` for each way
+use Prim.Native.Nat.{ℕ, _+_, _<_, _≤_}
+use mathlib.Core.Path.{_≡_, ap, sym, _∙_}
 use mathlib.Core.List.{List, [], _∷_, _++_}
-use mathlib.Core.Bool.{Bool, true, false}
+use mathlib.Core.Bool.{true, false}
 use native.Mathlib.Omega.{arith}
-use lib.ListN.{length, getD, set, length-set, length-append}
+use lib.ListN.{length, set, length-set, length-append}
 use lib.Seq.{getD-set-same, getD-append-seam}
 use lib.Dec.{ltb}
 use borrow.Author.Tests.{lt-ltb, le-ltb}
-use Rattle.model.specs.Counters.{Counter, noCounter, counterAt, find, leastPlace, Placement, placementFor, placeOf, countersAfter, oneMoreOf, firstOf, replacing}
+use Rattle.model.specs.Counters.{Counter, noCounter, counterAt, find, leastPlace, Placement, placeOf, oneMoreOf, firstOf, replacing}
 use Rattle.model.specs.Counters.Placement.{own, unused, replaced}
-use Rattle.model.specs.SiteMemory.{countersIn, counterNumbers, overwrite}
+use Rattle.model.specs.SiteMemory.{countersIn}
 use Rattle.counters.specs.declared.Counted.{Counted}
 use Rattle.counters.specs.Stored.{storedAt, setCounter, counterOf}
 use Rattle.counters.specs.Count.{greatestWord, CountAsks, CountSays, placement, placeIn, countersThen}
@@ -54,7 +57,8 @@ module _
 
   placement-unused : used ≤ found → used < capacity → placement before capacity used item ≡ unused
   placement-unused past room =
-      let test : ltb (find item (countersIn used before)) (length (countersIn used before)) ≡ false =
+      let counters = countersIn used before in
+      let test : ltb (find item counters) (length counters) ≡ false =
       rw (length-countersIn used before, ← found-is) (le-ltb found used past) in
       let free : ltb (length (countersIn used before)) capacity ≡ true =
       rw (length-countersIn used before) (lt-ltb used capacity room) in
@@ -63,7 +67,8 @@ module _
   placement-replaced : used ≤ found → capacity ≤ used
       → placement before capacity used item ≡ replaced (leastPlace (countersIn used before))
   placement-replaced past full =
-      let test : ltb (find item (countersIn used before)) (length (countersIn used before)) ≡ false =
+      let counters = countersIn used before in
+      let test : ltb (find item counters) (length counters) ≡ false =
       rw (length-countersIn used before, ← found-is) (le-ltb found used past) in
       let free : ltb (length (countersIn used before)) capacity ≡ false =
       rw (length-countersIn used before) (le-ltb used capacity full) in
@@ -94,7 +99,8 @@ module _
             (same-counter ∙ sym (getD-set-same (countersIn used before) place x noCounter inside));
         memory = rw counters-are
             (stored
-            ∙ sym (overwrite-set used before (omega (arith, asks .fits, asks .within)) place x within));
+            ∙ sym
+            (overwrite-set used before (omega (arith, asks .fits, asks .within)) place x within));
       }
 
   pub counted-own : (old : Counter)
@@ -124,7 +130,8 @@ module _
       → CountSays before after capacity used item answer
   counted-replaced least old least-is old-is past full =
       let way = placement-replaced past full in
-      let within : least < used = omega (arith, least-is, least-within before capacity used asks full) in
+      let within : least < used =
+      omega (arith, least-is, least-within before capacity used asks full) in
       let same = counterAt-countersIn used least before within ∙ sym old-is in
       counted-set least (replacing old item) within
       (ap (λ (p : Placement). placeOf p (countersIn used before)) way ∙ sym least-is)
@@ -148,5 +155,6 @@ module _
         counter = rw way
             (same-counter ∙ sym (getD-append-seam counters (firstOf item) [] noCounter));
         memory = rw way
-            (stored ∙ sym (overwrite-append used before (firstOf item) (omega (arith, asks .fits))));
+            (stored
+            ∙ sym (overwrite-append used before (firstOf item) (omega (arith, asks .fits))));
       }

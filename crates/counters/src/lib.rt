@@ -1,6 +1,6 @@
 // The counters of one site in its lent memory (Space-Saving): the search for an item, the scan for
-// the least count, and the counting of an arrival's item. All functions here are internal steps: each
-// has a `requires`, which the entry points of crate `site` establish by their tests.
+// the least count, and the counting of an arrival's item. All functions here are internal steps:
+// what they require, the entry points of crate `site` and the batch call establish by their tests.
 
 ghost use mathlib.Core.Path.{_≡_};
 ghost use Prim.Native.Nat.{_+_, _*_, _≤_};
@@ -13,7 +13,8 @@ ghost use Rattle.counters.specs.Stored.{storedAt, setCounter, counterOf,
 // A number of a site's memory: 4 bytes.
 pub type Word = u32;
 
-// A counter as memory holds it: document 01's slot, a code, a count, an overcount and a sent number.
+// A counter as memory holds it: document 01's slot, a code, a count, an overcount and a sent
+// number.
 pub struct StoredCounter {
     pub item: Word,
     pub count: Word,

@@ -8,7 +8,7 @@
 --   set-append-add            a place past the first list of two
 --   four                      a memory of at least four numbers, taken apart
 --   four-suc                  a place one record of four further on
-use Prim.Native.Nat.{ℕ, zero, suc, _+_, _-_, _*_, _<_, _≤_}
+use Prim.Native.Nat.{ℕ, suc, _+_, _-_, _*_, _<_, _≤_}
 use mathlib.Core.Path.{_≡_, refl, ap, sym, _∙_}
 use mathlib.Core.List.{List, [], _∷_, _++_, append-assoc}
 use native.Mathlib.Numerals.{add-one}
@@ -53,7 +53,11 @@ module _ {A : Type 0} where
       → overwritten xs memory ≡ overwritten xs (take n memory) ++ drop n memory
   overwritten-front xs memory n within fits =
       let short : length xs ≤ length (take n memory) = rw (length-take-le n memory fits) within in
-      rw (append-assoc, ← drop-append-le (length xs) (take n memory) (drop n memory) short, take-append-drop)
+      rw (
+        append-assoc,
+        ← drop-append-le (length xs) (take n memory) (drop n memory) short,
+        take-append-drop,
+      )
 
   -- The first n numbers with one of them set, written over the memory, are the memory with it set.
   pub overwritten-set : (n : ℕ) (memory : List A) (i : ℕ) (a : A)
@@ -93,7 +97,8 @@ module _ {A : Type 0} where
       → length xs ≤ n
       → n + k ≤ length memory
       → i < k
-      → overwritten xs (take n memory) ++ overwritten (set (take k (drop n memory)) i a) (drop n memory)
+      → overwritten xs (take n memory)
+      ++ overwritten (set (take k (drop n memory)) i a) (drop n memory)
       ≡ set (overwritten xs memory) (n + i) a
   two-parts n k xs memory i a within fits inside =
       let front : n ≤ length memory = omega arith in

@@ -1,5 +1,6 @@
-// The calls on sites: starting them, an arrival at a site and a message at a site. Each refuses what
-// document 01's table "Refused" names, in its order, and then takes the step of crate `site_steps`.
+// The calls on sites: starting them, an arrival at a site and a message at a site. Each refuses
+// what document 01's table "Refused" names, in its order, and then takes the step of crate
+// `site_steps`.
 
 ghost use mathlib.Core.Path.{_≡_};
 ghost use mathlib.Core.Bool.{not, _&&_};

@@ -1,13 +1,29 @@
--- What the internal tests of a site's record and memory require.
+-- What the internal tests of a site's record and memory answer and require.
+--
+--   counterPasses, countersPass     whether counters in memory are consistent
+--   MemoryFits settings memory      settings that pass, and memory that is long enough
+--   ValuesFit memory from value     a histogram in memory, and a value of it
 use mathlib.Core.Path.{_≡_}
+use mathlib.Core.Bool.{Bool}
 use mathlib.Core.List.{List}
-use Prim.Native.Nat.{ℕ, _+_, _*_, _≤_, _<_}
+use Prim.Native.Nat.{ℕ, _+_, _≤_, _<_}
 use lib.ListN.{length, take, drop}
 use Rattle.model.specs.declared.Settings.{Settings}
+use Rattle.model.specs.declared.SiteRecord.{SiteRecord}
 use Rattle.model.specs.Refusals.{accepted}
 use Rattle.model.specs.Limits.{valueCount, siteLimit}
 use Rattle.model.specs.Settings.{settingsRefusal}
-use Rattle.model.specs.SiteMemory.{siteWords, sum}
+use Rattle.model.specs.SiteMemory.{siteWords, siteIn, countersIn, sum, counterConsistent, countersConsistent}
+use Rattle.counters.specs.Stored.{storedAt}
+
+-- Whether the counter at a place, and whether each of the counters in use, is consistent.
+abbrev pub counterPasses : Settings → SiteRecord → List ℕ → ℕ → Bool
+counterPasses settings numbers memory place =
+    counterConsistent settings (siteIn settings numbers memory) (storedAt memory place)
+
+abbrev pub countersPass : Settings → SiteRecord → List ℕ → ℕ → Bool
+countersPass settings numbers memory used =
+    countersConsistent settings (siteIn settings numbers memory) (countersIn used memory)
 
 -- Settings that pass, and memory that is long enough.
 pub record MemoryFits (settings : Settings) (memory : List ℕ) : Type 0 where

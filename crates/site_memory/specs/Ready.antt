@@ -1,4 +1,5 @@
--- What the consistency test of a site's record and memory decides, as facts: refusal 11 taken apart.
+-- What the consistency test of a site's record and memory decides, as facts: refusal 11 taken
+-- apart.
 --
 --   CounterReady settings site counter     one counter in use
 --   SiteReady settings site                a whole site

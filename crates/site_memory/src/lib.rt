@@ -1,6 +1,6 @@
-// A site's record and lent memory: how long it is, and whether it is consistent (refusals 4 and 11).
-// The entry points of crate `site` and the batch call test by these functions; those with a `requires`
-// are internal.
+// A site's record and lent memory: how long it is, and whether it is consistent (refusals 4 and
+// 11). The entry points of crate `site` and the batch call test by these functions; those with a
+// `requires` are internal.
 
 ghost use mathlib.Core.Path.{_≡_};
 ghost use Prim.Native.Nat.{_+_, _*_, _≤_};
@@ -10,9 +10,8 @@ ghost use Rattle.model.specs.Refusals.{accepted};
 ghost use Rattle.model.specs.Limits.{valueCount};
 ghost use Rattle.model.specs.Settings.{settingsRefusal};
 ghost use Rattle.model.specs.Site.{upTo};
-ghost use Rattle.model.specs.SiteMemory.{siteWords, siteIn, countersIn, sum, counterConsistent, countersConsistent, siteConsistent, siteMemoryRefusal};
-ghost use Rattle.counters.specs.Stored.{storedAt};
-ghost use Rattle.site_memory.specs.Contracts.{MemoryFits, ValuesFit};
+ghost use Rattle.model.specs.SiteMemory.{siteWords, sum, siteConsistent, siteMemoryRefusal};
+ghost use Rattle.site_memory.specs.Contracts.{counterPasses, countersPass, MemoryFits, ValuesFit};
 use counters::StoredCounter;
 use counters::Word;
 use model::ACCEPTED;
@@ -31,11 +30,11 @@ pub fn site_words(settings: Settings) -> usize
     4 * (settings.capacity as usize) + VALUE_COUNT
 }
 
-// Whether the counter at a place is consistent. The sums are compared by differences, so that nothing
-// overflows whatever the memory holds.
+// Whether the counter at a place is consistent. The sums are compared by differences, so that
+// nothing overflows whatever the memory holds.
 fn counter_consistent(settings: Settings, site: SiteRecord, memory: &[Word], place: usize) -> bool
     requires { ⌜ 4 * place + 4 ≤ length (now memory) ⌝ }
-    ensures { λ r. ⌜ r ≡ counterConsistent settings (siteIn settings site (now (memory .entry))) (storedAt (now (memory .entry)) place) ⌝ }
+    ensures { λ r. ⌜ r ≡ counterPasses settings site (now (memory .entry)) place ⌝ }
 {
     let counter = counters::counter_at(memory, place);
     if settings.universe <= counter.item {
@@ -56,7 +55,7 @@ fn counter_consistent(settings: Settings, site: SiteRecord, memory: &[Word], pla
 // Whether every counter in use is consistent.
 fn counters_consistent(settings: Settings, site: SiteRecord, memory: &[Word], used: usize) -> bool
     requires { ⌜ 4 * used ≤ length (now memory) ⌝ }
-    ensures { λ r. ⌜ r ≡ countersConsistent settings (siteIn settings site (now (memory .entry))) (countersIn used (now (memory .entry))) ⌝ }
+    ensures { λ r. ⌜ r ≡ countersPass settings site (now (memory .entry)) used ⌝ }
 {
     let mut i = 0;
     while i < used {
@@ -69,8 +68,8 @@ fn counters_consistent(settings: Settings, site: SiteRecord, memory: &[Word], us
     true
 }
 
-// Whether the histogram that starts at `from` sums to `total`: each count is taken off what is left of
-// the total, so that no sum is formed.
+// Whether the histogram that starts at `from` sums to `total`: each count is taken off what is left
+// of the total, so that no sum is formed.
 fn values_sum_to(memory: &[Word], from: usize, total: u64) -> bool
     requires { ⌜ from + valueCount ≤ length (now memory) ⌝ }
     ensures { λ r. ⌜ r ≡ eqb (sum (take valueCount (drop from (now (memory .entry))))) total ⌝ }

@@ -10,15 +10,14 @@ use mathlib.Core.Path.{_≡_, refl, ap, sym, _∙_}
 use mathlib.Core.List.{List, _++_}
 use mathlib.Core.Bool.{Bool, true, false}
 use native.Mathlib.Omega.{arith}
-use lib.Dec.{leb}
-use lib.ListN.{length, getD, set, take, drop, length-set}
-use Rattle.laws.proofs.FlatMemory.{overwritten, getD-overwritten, two-parts}
+use lib.ListN.{length, getD, set, drop, length-set}
+use Rattle.laws.proofs.FlatMemory.{getD-overwritten, two-parts}
 use Rattle.model.specs.declared.Settings.{Settings}
 use Rattle.model.specs.declared.SiteRecord.{SiteRecord}
 use Rattle.model.specs.declared.Arrival.{Arrival}
 use Rattle.model.specs.Choice.{if_then_else_}
 use Rattle.model.specs.Limits.{valueCount}
-use Rattle.model.specs.Counters.{Counter, counterAt, unreported}
+use Rattle.model.specs.Counters.{Counter, counterAt}
 use Rattle.model.specs.Site.{Site, observed, oneMoreAt, placeFor, countersWith, reportAt, reportsItem}
 use Rattle.model.specs.SiteMemory.{counterWords, siteWords, siteIn, siteMemory, counterNumbers, overwrite}
 use Rattle.counters.proofs.CounterMemory.{length-counterNumbers, withReported, set-reported}
@@ -50,7 +49,8 @@ module _ (settings : Settings) (site : Site) (arrival : Arrival) where
       (countersWith settings site arrival)
       else countersWith settings site arrival
 
-  pub length-countersReported : length countersReported ≡ length (countersWith settings site arrival)
+  pub length-countersReported :
+      length countersReported ≡ length (countersWith settings site arrival)
   length-countersReported = by-report (reportsItem settings site arrival)
     where
       by-report : (due : Bool)
@@ -107,7 +107,8 @@ module _
     (few : length (countersWith settings (siteIn settings numbers before) arrival)
     ≤ settings .capacity)
     (reported-is : reported
-    ≡ overwrite (counterNumbers (countersReported settings (siteIn settings numbers before) arrival))
+    ≡ overwrite
+    (counterNumbers (countersReported settings (siteIn settings numbers before) arrival))
     before) where
   -- The numbers of the counters end before those of the values.
   numbers-before :
@@ -132,7 +133,9 @@ module _
       ∙ sym (getD-valuesAt before (counterWords settings) long (arrival .value) known)
 
   pub memory-observed : oneMoreAt reported (counterWords settings + arrival .value)
-      ≡ siteMemory settings (observed settings (siteIn settings numbers before) arrival .site) before
+      ≡ siteMemory settings
+      (observed settings (siteIn settings numbers before) arrival .site)
+      before
   memory-observed =
       let site = siteIn settings numbers before in
       let ws = counterNumbers (countersReported settings site arrival) in

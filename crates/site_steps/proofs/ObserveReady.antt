@@ -1,15 +1,16 @@
--- A site that was ready is ready again after an accepted arrival, in the model and in its record and
--- memory.
+-- A site that was ready is ready again after an accepted arrival, in the model and in its record
+-- and memory.
 --
 --   ready-observed    the model's site
---   ready-again       its record and the memory that it was written to
-use Prim.Native.Nat.{ℕ, _+_, _-_, _<_, _≤_}
-use mathlib.Core.Path.{_≡_, refl, ap, sym, _∙_, subst⁻¹}
+--   ready-written     any ready site, written to memory, is ready there
+--   ready-again       record and memory after the step of an arrival
+use Prim.Native.Nat.{ℕ, _+_, _<_, _≤_}
+use mathlib.Core.Path.{_≡_, refl, ap, _∙_, subst⁻¹}
 use mathlib.Core.List.{List}
 use mathlib.Core.Bool.{Bool, true, false}
 use native.Mathlib.Omega.{arith}
 use lib.Dec.{leb, eqb}
-use lib.ListN.{length, getD, set, length-set}
+use lib.ListN.{length, length-set}
 use lib.Seq.{getD-set-same, getD-set-other}
 use borrow.Author.Tests.{leb-true, leb-false, eqb-true, eqb-false}
 use Rattle.model.specs.declared.Settings.{Settings}
@@ -17,16 +18,15 @@ use Rattle.model.specs.declared.SiteRecord.{SiteRecord}
 use Rattle.model.specs.declared.Arrival.{Arrival}
 use Rattle.model.specs.Choice.{if_then_else_}
 use Rattle.model.specs.Refusals.{accepted}
-use Rattle.model.specs.Limits.{valueCount}
 use Rattle.model.specs.Counters.{Counter, noCounter, counterAt, unreported, afterReport}
-use Rattle.model.specs.Site.{Site, arrivalRefusal, observed, placeFor, countersWith, reportAt, reportsItem, reportsCount}
+use Rattle.model.specs.Site.{Site, arrivalRefusal, observed, placeFor, countersWith, reportAt, reportsItem}
 use Rattle.model.specs.SiteMemory.{siteWords, siteIn, siteRecord, siteMemory}
 use Rattle.model.proofs.SettingsLaws.{settled}
 use Rattle.site_memory.specs.Ready.{CounterReady, SiteReady, StepReady}
 use Rattle.site_memory.proofs.ValueLaws.{valueCount-is, sum-one-more}
 use Rattle.site_memory.proofs.SiteMemoryLaws.{length-siteMemory, siteIn-siteMemory}
 use Rattle.site_steps.proofs.Placements.{Acceptable, acceptable, JustCounted, Grown, grown}
-use Rattle.site_steps.proofs.ObserveMemory.{countersReported, length-countersReported}
+use Rattle.site_steps.proofs.ObserveMemory.{length-countersReported}
 
 -- ---- The counters
 
@@ -88,7 +88,10 @@ module _ (settings : Settings) (site after : Site) (more : after .arrivals ≡ s
           (counterAt (if due then reportAt (site .threshold) place counters else counters) other)
       by-place true here true due-is =
           let x = afterReport (site .threshold) (counterAt counters place) in
-          rw (eqb-true other place here, getD-set-same counters place x noCounter (grew .place-within))
+          rw (
+            eqb-true other place here,
+            getD-set-same counters place x noCounter (grew .place-within),
+          )
           (ready-reported (counterAt counters place) positive (grew .just-counted) due-is)
       by-place true here false due-is =
           rw (eqb-true other place here)
@@ -137,7 +140,8 @@ ready-observed settings site arrival some ready taken =
       values-counted = length-set (site .histogram) (arrival .value) _ ∙ ready .values-counted;
       values-sum = sum-one-more (site .histogram) (arrival .value) value-within
           ∙ ap (λ (n : ℕ). n + 1) (ready .values-sum);
-      pending-within = pending-observed (site .pending) (site .threshold) (ready .threshold-positive);
+      pending-within =
+          pending-observed (site .pending) (site .threshold) (ready .threshold-positive);
       threshold-positive = ready .threshold-positive;
       threshold-within = ready .threshold-within;
     }

@@ -7,8 +7,8 @@
 use mathlib.Core.Path.{_≡_}
 use mathlib.Core.Bool.{Bool, true}
 use mathlib.Core.List.{List, [], _∷_, _++_}
-use Prim.Native.Nat.{ℕ, _+_, _*_, _≤_, _<_}
-use lib.Dec.{leb, eqb}
+use Prim.Native.Nat.{ℕ, _+_, _*_, _≤_}
+use lib.Dec.{leb}
 use lib.ListN.{length, getD, set}
 use Rattle.model.specs.declared.Settings.{Settings}
 use Rattle.model.specs.declared.Arrival.{Arrival}
@@ -51,7 +51,10 @@ abbrev pub messagesDue : Bool → Message → Bool → Message → List Message
 messagesDue itemDue itemReport countDue countReport =
     (if itemDue then itemReport ∷ [] else []) ++ (if countDue then countReport ∷ [] else [])
 
-pub record GatherSays (numbers : SiteRecord) (messages : List Message) (answer : Observed) : Type 0 where
+pub record GatherSays
+    (numbers : SiteRecord)
+    (messages : List Message)
+    (answer : Observed) : Type 0 where
   pub refusal : answer .refusal ≡ accepted
   pub site : answer .site ≡ numbers
   pub count : answer .count ≡ length messages

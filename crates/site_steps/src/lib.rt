@@ -1,6 +1,6 @@
 // The steps of a site: what an arrival and what a message do to its record and memory. They are
-// internal: they test nothing, and require what the entry points of crate `site`, and the batch call,
-// have tested. A site's memory is handed over as a slice that may be longer than it needs.
+// internal: they test nothing, and require what the entry points of crate `site`, and the batch
+// call, have tested. A site's memory is handed over as a slice that may be longer than it needs.
 
 ghost use mathlib.Core.Path.{_≡_};
 ghost use Prim.Native.Nat.{_+_, _<_};
@@ -35,8 +35,8 @@ pub const PROBE_ANSWER: u32 = 6;
 
 pub const ANNOUNCEMENT: u32 = 7;
 
-// What an arrival leads to: the site's record then, and the messages that go out, of which there are
-// `count`; an absent one is all zeros.
+// What an arrival leads to: the site's record then, and the messages that go out, of which there
+// are `count`; an absent one is all zeros.
 pub struct Observed {
     pub refusal: u32,
     pub site: SiteRecord,
@@ -211,8 +211,8 @@ pub fn observe_step(
     gather(after, stored.due, item_report, count_due, count_report)
 }
 
-// A message at a site: a poll is answered by what is pending, a probe by the arrivals at or below its
-// value, and an announcement sets the threshold. The memory is only read.
+// A message at a site: a poll is answered by what is pending, a probe by the arrivals at or below
+// its value, and an announcement sets the threshold. The memory is only read.
 pub fn receive_step(
     settings: Settings,
     site: SiteRecord,

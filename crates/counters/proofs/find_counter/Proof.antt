@@ -1,8 +1,6 @@
--- `counters::find_counter` meets its contract. The loop's invariant: what is sought stands from place i
--- on. The measure is the number of counters left.
+-- `counters::find_counter` meets its contract. The loop's invariant: what is sought stands from
+-- place i on. The measure is the number of counters left.
 use Prim.Native.Nat.{_-_}
-use mathlib.Core.Path.{_≡_, sym, _∙_, ap}
-use native.Mathlib.Omega.{arith}
 use borrow.Author.Needs.{needs}
 use Rattle.counters.proofs.Search.{Searching, find-start, find-end, find-here, find-on}
 use Rattle.counters.proofs.find_counter.Statement.{statement}
@@ -36,19 +34,22 @@ loop-again : tie.Need-loop-again Inv-loop μ-loop
 loop-again c =
     let at-loop = c .before .before .before in
     let a = at-loop .before .args in
-    find-on (a .memory .now) (a .used) (at-loop .loop .i) (a .item) (at-loop .loop .inv) (search needs) (c .if2 .left)
+    find-on (a .memory .now) (a .used) (at-loop .loop .i) (a .item) (at-loop .loop .inv)
+    (search needs) (c .if2 .left)
 
 returns : tie.Need-returns Inv-loop μ-loop
 returns c =
     let at-loop = c .before in
     let a = at-loop .before .args in
-    find-end (a .memory .now) (a .used) (at-loop .loop .i) (a .item) (at-loop .loop .inv) (search needs)
+    find-end (a .memory .now) (a .used) (at-loop .loop .i) (a .item) (at-loop .loop .inv)
+    (search needs)
 
 returns-2 : tie.Need-returns-2 Inv-loop μ-loop
 returns-2 c =
     let at-loop = c .before .before .before in
     let a = at-loop .before .args in
-    find-here (a .memory .now) (a .used) (at-loop .loop .i) (a .item) (at-loop .loop .inv) (search needs) (c .if2 .taken)
+    find-here (a .memory .now) (a .used) (at-loop .loop .i) (a .item) (at-loop .loop .inv)
+    (search needs) (c .if2 .taken)
 
 pub find-counter-spec : {M : Type 1} → statement M
 find-counter-spec =

@@ -1,9 +1,8 @@
--- `counters::least_counter` meets its contract. The loop's invariant: the scan goes on from place i with
--- the best place so far. The measure is the number of counters left.
+-- `counters::least_counter` meets its contract. The loop's invariant: the scan goes on from place i
+-- with the best place so far. The measure is the number of counters left.
 use Prim.Native.Nat.{_-_}
-use mathlib.Core.Path.{_≡_, sym, _∙_}
+use mathlib.Core.Path.{sym, _∙_}
 use mathlib.Core.Logic.{⊎-elim}
-use native.Mathlib.Omega.{arith}
 use borrow.Author.Needs.{needs}
 use Rattle.counters.proofs.Search.{Scanning, least-start, least-end, least-new, least-old}
 use Rattle.counters.proofs.least_counter.Statement.{statement}
@@ -79,15 +78,18 @@ loop-again c =
     let scanning = at-loop .loop .inv in
     let order = sym (c .before .is-before .ensures) in
     ⊎-elim
-    (λ w. rw (w .1) (least-new memory (a .used) i best scanning (search needs) (order ∙ w .0 .taken)))
-    (λ w. rw (w .1) (least-old memory (a .used) i best scanning (search needs) (order ∙ w .0 .left)))
+    (λ w. rw (w .1)
+    (least-new memory (a .used) i best scanning (search needs) (order ∙ w .0 .taken)))
+    (λ w. rw (w .1)
+    (least-old memory (a .used) i best scanning (search needs) (order ∙ w .0 .left)))
     (c .if1 .came)
 
 returns : tie.Need-returns Inv-loop μ-loop
 returns c =
     let at-loop = c .before in
     let a = at-loop .before .before .args in
-    least-end (a .memory .now) (a .used) (at-loop .loop .i) (at-loop .loop .best) (at-loop .loop .inv) (search needs)
+    least-end (a .memory .now) (a .used) (at-loop .loop .i) (at-loop .loop .best)
+    (at-loop .loop .inv) (search needs)
 
 pub least-counter-spec : {M : Type 1} → statement M
 least-counter-spec =

@@ -11,17 +11,21 @@ returns-2 c = simp (lt-leb _ _ (c .before .before .before .if1 .left), le-leb _ 
 
 returns-3 : tie.Need-returns-3
 returns-3 c =
+    let at-if2 = c .before .before in
+    let at-if1 = at-if2 .before .before .before in
     simp (
-      lt-leb _ _ (c .before .before .before .before .before .if1 .left),
-      lt-leb _ _ (c .before .before .if2 .left),
+      lt-leb _ _ (at-if1 .if1 .left),
+      lt-leb _ _ (at-if2 .if2 .left),
       lt-ltb _ _ (c .if3 .taken),
     )
 
 returns-4 : tie.Need-returns-4
 returns-4 c =
+    let at-if2 = c .before .before in
+    let at-if1 = at-if2 .before .before .before in
     simp (
-      lt-leb _ _ (c .before .before .before .before .before .if1 .left),
-      lt-leb _ _ (c .before .before .if2 .left),
+      lt-leb _ _ (at-if1 .if1 .left),
+      lt-leb _ _ (at-if2 .if2 .left),
       le-ltb _ _ (c .if3 .left),
     )
 

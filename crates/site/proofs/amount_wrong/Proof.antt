@@ -10,7 +10,10 @@ returns : tie.Need-returns
 returns c = simp (c .before .before .if1 .taken, ne-eqb _ _ (c .if2 .taken))
 
 returns-2 : tie.Need-returns-2
-returns-2 c = simp (c .before .before .before .if1 .taken, eq-eqb _ _ (c .before .if2 .left), or-false)
+returns-2 c =
+    let at-if2 = c .before in
+    let at-if1 = at-if2 .before .before in
+    simp (at-if1 .if1 .taken, eq-eqb _ _ (at-if2 .if2 .left), or-false)
 
 returns-3 : tie.Need-returns-3
 returns-3 c = simp (c .before .if3 .taken, or-false)
@@ -20,14 +23,19 @@ returns-4 c = simp (c .before .before .before .if4 .taken, lt-ltb _ _ (c .if5 .t
 
 returns-5 : tie.Need-returns-5
 returns-5 c =
-    let a = c .before .before .before .before .before .before .before .before .before .before .args in
-    wrong-by-limit (bareSite (a .site)) (a .message) (c .before .before .before .before .if4 .taken) (c .before .if5 .left)
+    let at-if5 = c .before in
+    let at-if4 = at-if5 .before .before .before in
+    let start = at-if4 .before .before .before .before .before .before in
+    let a = start .args in
+    wrong-by-limit (bareSite (a .site)) (a .message) (at-if4 .if4 .taken) (at-if5 .if5 .left)
 
 returns-6 : tie.Need-returns-6
 returns-6 c =
+    let at-if3 = c .before .before in
+    let at-if1 = at-if3 .before .before in
     simp (
-      ne-eqb _ _ (c .before .before .before .before .if1 .left),
-      ne-eqb _ _ (c .before .before .if3 .left),
+      ne-eqb _ _ (at-if1 .if1 .left),
+      ne-eqb _ _ (at-if3 .if3 .left),
       ne-eqb _ _ (c .if4 .left),
     )
 

@@ -15,10 +15,24 @@ returns c =
     refused-same (address .result) _ _ (address .ensures) (c .if1 .taken)
 
 returns-2 : tie.Need-returns-2
-returns-2 c = rw (sym (c .before .before .before .address-refusal .ensures) ∙ c .before .before .if1 .left, le-leb _ _ (c .if2 .taken))
+returns-2 c =
+    let at-if1 = c .before .before in
+    let at-address-refusal = at-if1 .before in
+    rw (
+      sym (at-address-refusal .address-refusal .ensures) ∙ at-if1 .if1 .left,
+      le-leb _ _
+          (c .if2 .taken),
+    )
 
 returns-3 : tie.Need-returns-3
-returns-3 c = rw (sym (c .before .before .before .address-refusal .ensures) ∙ c .before .before .if1 .left, lt-leb _ _ (c .if2 .left))
+returns-3 c =
+    let at-if1 = c .before .before in
+    let at-address-refusal = at-if1 .before in
+    rw (
+      sym (at-address-refusal .address-refusal .ensures) ∙ at-if1 .if1 .left,
+      lt-leb _ _
+          (c .if2 .left),
+    )
 
 pub arrival-refusal-spec : {M : Type 1} → statement M
 arrival-refusal-spec = tie.close (tie.spec address-refusal-requires returns returns-2 returns-3)

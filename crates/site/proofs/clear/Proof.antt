@@ -1,8 +1,6 @@
--- `site::clear` meets its contract. The loop's invariant: the first i numbers are 0. The measure is the
--- count of the numbers left.
+-- `site::clear` meets its contract. The loop's invariant: the first i numbers are 0. The measure is
+-- the count of the numbers left.
 use Prim.Native.Nat.{_-_}
-use mathlib.Core.Path.{refl, _∙_, ap}
-use native.Mathlib.Omega.{arith}
 use borrow.Author.Needs.{needs}
 use Rattle.site.proofs.StartLaws.{Clearing, clearing-start, clearing-on, clearing-end}
 use Rattle.site.proofs.clear.Statement.{statement}
@@ -31,9 +29,11 @@ loop-less c = search needs
 
 loop-again : tie.Need-loop-again Inv-loop μ-loop
 loop-again c =
-    let a = c .before .before .args in
-    let at-loop = c .before .loop in
-    clearing-on (a .memory .now) (a .words) (at-loop .memory) (at-loop .i) (c .before .before .pre) (at-loop .inv)
+    let at-loop = c .before in
+    let start = at-loop .before in
+    let a = start .args in
+    let loop = at-loop .loop in
+    clearing-on (a .memory .now) (a .words) (loop .memory) (loop .i) (start .pre) (loop .inv)
     (search needs)
 
 same-length : tie.Need-same-length Inv-loop μ-loop
@@ -42,8 +42,8 @@ same-length c = search needs
 returns : tie.Need-returns Inv-loop μ-loop
 returns c =
     let a = c .before .before .args in
-    let at-loop = c .before .loop in
-    clearing-end (a .memory .now) (a .words) (at-loop .memory) (at-loop .i) (at-loop .inv)
+    let loop = c .before .loop in
+    clearing-end (a .memory .now) (a .words) (loop .memory) (loop .i) (loop .inv)
     (search needs)
 
 pub clear-spec : {M : Type 1} → statement M

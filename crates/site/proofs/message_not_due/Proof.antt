@@ -13,16 +13,23 @@ returns-2 c = simp (eq-eqb _ _ (c .before .before .if1 .left), eq-eqb _ _ (c .if
 
 returns-3 : tie.Need-returns-3
 returns-3 c =
+    let at-if2 = c .before .before in
+    let at-if1 = at-if2 .before .before in
     simp (
-      eq-eqb _ _ (c .before .before .before .before .if1 .left),
-      ne-eqb _ _ (c .before .before .if2 .left),
+      eq-eqb _ _ (at-if1 .if1 .left),
+      ne-eqb _ _ (at-if2 .if2 .left),
       eq-eqb _ _ (c .if3 .taken),
     )
 
 returns-4 : tie.Need-returns-4
 returns-4 c =
-    let a = c .before .before .before .before .before .before .before .args in
-    not-due-by-kind (a .which) (a .message) (c .before .before .before .before .before .if1 .left) (c .before .before .before .if2 .left) (c .before .if3 .left)
+    let at-if3 = c .before in
+    let at-if2 = at-if3 .before .before in
+    let at-if1 = at-if2 .before .before in
+    let start = at-if1 .before .before in
+    let a = start .args in
+    not-due-by-kind (a .which) (a .message) (at-if1 .if1 .left) (at-if2 .if2 .left)
+    (at-if3 .if3 .left)
 
 pub message-not-due-spec : {M : Type 1} → statement M
 message-not-due-spec = tie.close (tie.spec returns returns-2 returns-3 returns-4)

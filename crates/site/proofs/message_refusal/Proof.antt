@@ -23,11 +23,15 @@ value-unknown-requires c κs = search needs
 
 returns-3 : tie.Need-returns-3
 returns-3 c =
+    let at-value-unknown = c .before in
+    let at-if2 = at-value-unknown .before in
+    let at-message-not-due = at-if2 .before in
+    let at-if1 = at-message-not-due .before in
     simp (
-      lt-leb _ _ (c .before .before .before .before .if1 .left),
-      ← c .before .before .before .message-not-due .ensures,
-      c .before .before .if2 .left,
-      ← c .before .value-unknown .ensures,
+      lt-leb _ _ (at-if1 .if1 .left),
+      ← at-message-not-due .message-not-due .ensures,
+      at-if2 .if2 .left,
+      ← at-value-unknown .value-unknown .ensures,
       c .if3 .taken,
     )
 
@@ -36,25 +40,37 @@ amount-wrong-requires c κs = search needs
 
 returns-4 : tie.Need-returns-4
 returns-4 c =
+    let at-amount-wrong = c .before in
+    let at-if3 = at-amount-wrong .before in
+    let at-value-unknown = at-if3 .before in
+    let at-if2 = at-value-unknown .before in
+    let at-message-not-due = at-if2 .before in
+    let at-if1 = at-message-not-due .before in
     simp (
-      lt-leb _ _ (c .before .before .before .before .before .before .if1 .left),
-      ← c .before .before .before .before .before .message-not-due .ensures,
-      c .before .before .before .before .if2 .left,
-      ← c .before .before .before .value-unknown .ensures,
-      c .before .before .if3 .left,
-      ← c .before .amount-wrong .ensures,
+      lt-leb _ _ (at-if1 .if1 .left),
+      ← at-message-not-due .message-not-due .ensures,
+      at-if2 .if2 .left,
+      ← at-value-unknown .value-unknown .ensures,
+      at-if3 .if3 .left,
+      ← at-amount-wrong .amount-wrong .ensures,
       c .if4 .taken,
     )
 
 returns-5 : tie.Need-returns-5
 returns-5 c =
+    let at-amount-wrong = c .before in
+    let at-if3 = at-amount-wrong .before in
+    let at-value-unknown = at-if3 .before in
+    let at-if2 = at-value-unknown .before in
+    let at-message-not-due = at-if2 .before in
+    let at-if1 = at-message-not-due .before in
     simp (
-      lt-leb _ _ (c .before .before .before .before .before .before .if1 .left),
-      ← c .before .before .before .before .before .message-not-due .ensures,
-      c .before .before .before .before .if2 .left,
-      ← c .before .before .before .value-unknown .ensures,
-      c .before .before .if3 .left,
-      ← c .before .amount-wrong .ensures,
+      lt-leb _ _ (at-if1 .if1 .left),
+      ← at-message-not-due .message-not-due .ensures,
+      at-if2 .if2 .left,
+      ← at-value-unknown .value-unknown .ensures,
+      at-if3 .if3 .left,
+      ← at-amount-wrong .amount-wrong .ensures,
       c .if4 .left,
     )
 

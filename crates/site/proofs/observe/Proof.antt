@@ -16,28 +16,38 @@ same-length c = search needs
 
 returns : tie.Need-returns
 returns c =
-    let a = c .before .before .before .before .before .args in
-    let tested = c .before .before .observe-refusal in
+    let at-if1 = c .before in
+    let at-observe-refusal = at-if1 .before in
+    let start = at-observe-refusal .before .before .before in
+    let a = start .args in
+    let tested = at-observe-refusal .observe-refusal in
     observe-refused (a .settings) (a .site) (a .arrival) (a .memory .now)
-    (tested .result) (c .make-message .result) (tested .ensures) (c .before .if1 .taken)
+    (tested .result) (c .make-message .result) (tested .ensures) (at-if1 .if1 .taken)
     (c .make-message .ensures)
 
 observe-step-requires : tie.Need-observe-step-requires
 observe-step-requires c κs =
-    let a = c .before .before .before .before .before .args in
+    let at-if1 = c .before in
+    let at-observe-refusal = at-if1 .before in
+    let start = at-observe-refusal .before .before .before in
+    let a = start .args in
     observe-asks (a .settings) (a .site) (a .arrival) (a .memory .now)
-    (sym (c .before .before .observe-refusal .ensures) ∙ c .before .if1 .left)
+    (sym (at-observe-refusal .observe-refusal .ensures) ∙ at-if1 .if1 .left)
 
 same-length-2 : tie.Need-same-length-2
 same-length-2 c = search needs
 
 returns-2 : tie.Need-returns-2
 returns-2 c =
-    let a = c .before .before .before .before .before .before .before .before .args in
-    let step = c .before .before .observe-step in
+    let at-observe-step = c .before .before in
+    let at-if1 = at-observe-step .before .before in
+    let at-observe-refusal = at-if1 .before in
+    let start = at-observe-refusal .before .before .before in
+    let a = start .args in
+    let step = at-observe-step .observe-step in
     observe-accepted (a .settings) (a .site) (a .arrival) (a .memory .now)
     (step .last .1 .1 .1 .0) (step .result)
-    (sym (c .before .before .before .before .before .observe-refusal .ensures) ∙ c .before .before .before .before .if1 .left) (step .ensures)
+    (sym (at-observe-refusal .observe-refusal .ensures) ∙ at-if1 .if1 .left) (step .ensures)
 
 pub observe-spec : {M : Type 1} → statement M
 observe-spec =

@@ -17,7 +17,11 @@ arrival-refusal-requires : tie.Need-arrival-refusal-requires
 arrival-refusal-requires c κs = search needs
 
 returns-2 : tie.Need-returns-2
-returns-2 c = rw (sym (c .before .before .site-memory-refusal .ensures) ∙ c .before .if1 .left) (c .arrival-refusal .ensures)
+returns-2 c =
+    let at-if1 = c .before in
+    let at-site-memory-refusal = at-if1 .before in
+    rw (sym (at-site-memory-refusal .site-memory-refusal .ensures) ∙ at-if1 .if1 .left)
+    (c .arrival-refusal .ensures)
 
 pub observe-refusal-spec : {M : Type 1} → statement M
 observe-refusal-spec =

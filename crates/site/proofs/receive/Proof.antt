@@ -13,10 +13,13 @@ make-message-requires c κs = search needs
 
 returns : tie.Need-returns
 returns c =
-    let a = c .before .before .before .before .args in
-    let tested = c .before .before .receive-refusal in
+    let at-if1 = c .before in
+    let at-receive-refusal = at-if1 .before in
+    let start = at-receive-refusal .before .before in
+    let a = start .args in
+    let tested = at-receive-refusal .receive-refusal in
     receive-refused (a .settings) (a .site) (a .which) (a .message) (a .memory .now)
-    (tested .result) (c .make-message .result) (tested .ensures) (c .before .if1 .taken)
+    (tested .result) (c .make-message .result) (tested .ensures) (at-if1 .if1 .taken)
     (c .make-message .ensures)
 
 receive-step-requires : tie.Need-receive-step-requires
@@ -27,10 +30,14 @@ receive-step-requires c κs =
 
 returns-2 : tie.Need-returns-2
 returns-2 c =
-    let a = c .before .before .before .before .args in
+    let at-if1 = c .before in
+    let at-receive-refusal = at-if1 .before in
+    let start = at-receive-refusal .before .before in
+    let a = start .args in
     let step = c .receive-step in
     receive-accepted (a .settings) (a .site) (a .which) (a .message) (a .memory .now)
-    (step .result) (sym (c .before .before .receive-refusal .ensures) ∙ c .before .if1 .left) (step .ensures)
+    (step .result) (sym (at-receive-refusal .receive-refusal .ensures) ∙ at-if1 .if1 .left)
+    (step .ensures)
 
 pub receive-spec : {M : Type 1} → statement M
 receive-spec =

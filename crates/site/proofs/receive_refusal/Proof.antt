@@ -15,14 +15,28 @@ returns c =
     refused-same (tested .result) _ _ (tested .ensures) (c .if1 .taken)
 
 returns-2 : tie.Need-returns-2
-returns-2 c = rw (sym (c .before .before .before .site-memory-refusal .ensures) ∙ c .before .before .if1 .left, le-leb _ _ (c .if2 .taken))
+returns-2 c =
+    let at-if1 = c .before .before in
+    let at-site-memory-refusal = at-if1 .before in
+    rw (
+      sym (at-site-memory-refusal .site-memory-refusal .ensures) ∙ at-if1 .if1 .left,
+      le-leb _ _
+          (c .if2 .taken),
+    )
 
 message-refusal-requires : tie.Need-message-refusal-requires
 message-refusal-requires c κs = search needs
 
 returns-3 : tie.Need-returns-3
 returns-3 c =
-    rw (sym (c .before .before .before .before .site-memory-refusal .ensures) ∙ c .before .before .before .if1 .left, lt-leb _ _ (c .before .if2 .left))
+    let at-if2 = c .before in
+    let at-if1 = at-if2 .before .before in
+    let at-site-memory-refusal = at-if1 .before in
+    rw (
+      sym (at-site-memory-refusal .site-memory-refusal .ensures) ∙ at-if1 .if1 .left,
+      lt-leb _ _
+          (at-if2 .if2 .left),
+    )
     (c .message-refusal .ensures)
 
 pub receive-refusal-spec : {M : Type 1} → statement M

@@ -17,9 +17,14 @@ test-settings-requires c κs = search needs
 
 returns : tie.Need-returns
 returns c =
-    let a = c .before .before .before .before .args in
-    start-settings (a .settings) (a .memory .now) (c .before .before .fresh-sites .result) (c .before .before .fresh-sites .ensures)
-    (c .before .test-settings .result) (c .before .test-settings .ensures) (c .if1 .taken)
+    let at-test-settings = c .before in
+    let at-fresh-sites = at-test-settings .before in
+    let start = at-fresh-sites .before .before in
+    let a = start .args in
+    start-settings (a .settings) (a .memory .now) (at-fresh-sites .fresh-sites .result)
+    (at-fresh-sites .fresh-sites .ensures)
+    (at-test-settings .test-settings .result) (at-test-settings .test-settings .ensures)
+    (c .if1 .taken)
 
 cast-words : tie.Need-cast-words
 cast-words c = search needs
@@ -29,16 +34,30 @@ site-words-requires c κs = sym (c .before .before .test-settings .ensures) ∙ 
 
 mul-words : tie.Need-mul-words
 mul-words c =
-    let a = c .before .before .before .before .before .before .args in
+    let at-if1 = c .before .before in
+    let at-test-settings = at-if1 .before in
+    let start = at-test-settings .before .before .before in
+    let a = start .args in
     let words = ap (λ (n : ℕ). a .settings .sites * n) (c .site-words .ensures) in
-    omega (arith, words, words-fit (a .settings) (sym (c .before .before .before .test-settings .ensures) ∙ c .before .before .if1 .left))
+    omega (
+      arith,
+      words,
+      words-fit (a .settings)
+          (sym (at-test-settings .test-settings .ensures) ∙ at-if1 .if1 .left),
+    )
 
 returns-2 : tie.Need-returns-2
 returns-2 c =
-    let a = c .before .before .before .before .before .before .before .args in
-    let words = ap (λ (n : ℕ). a .settings .sites * n) (c .before .site-words .ensures) in
-    start-short (a .settings) (a .memory .now) (c .before .before .before .before .before .fresh-sites .result) (c .before .before .before .before .before .fresh-sites .ensures)
-    (sym (c .before .before .before .before .test-settings .ensures) ∙ c .before .before .before .if1 .left) (omega (arith, words))
+    let at-site-words = c .before in
+    let at-if1 = at-site-words .before .before in
+    let at-test-settings = at-if1 .before in
+    let at-fresh-sites = at-test-settings .before in
+    let start = at-fresh-sites .before .before in
+    let a = start .args in
+    let words = ap (λ (n : ℕ). a .settings .sites * n) (at-site-words .site-words .ensures) in
+    start-short (a .settings) (a .memory .now) (at-fresh-sites .fresh-sites .result)
+    (at-fresh-sites .fresh-sites .ensures)
+    (sym (at-test-settings .test-settings .ensures) ∙ at-if1 .if1 .left) (omega (arith, words))
 
 clear-requires : tie.Need-clear-requires
 clear-requires c κs = search needs
@@ -48,11 +67,19 @@ same-length c = search needs
 
 returns-3 : tie.Need-returns-3
 returns-3 c =
-    let a = c .before .before .before .before .before .before .before .before .before .before .before .args in
-    let words = ap (λ (n : ℕ). a .settings .sites * n) (c .before .before .before .before .before .site-words .ensures) in
-    start-accepted (a .settings) (a .memory .now) (c .before .before .before .before .before .before .before .before .before .fresh-sites .result) (c .before .before .before .before .before .before .before .before .before .fresh-sites .ensures)
-    (c .before .before .clear .last .0) (sym (c .before .before .before .before .before .before .before .before .test-settings .ensures) ∙ c .before .before .before .before .before .before .before .if1 .left) (omega (arith, words))
-    (c .before .before .clear .ensures ∙ ap (λ (n : ℕ). overwrite (replicate n 0) (a .memory .now)) words)
+    let at-clear = c .before .before in
+    let at-site-words = at-clear .before .before .before in
+    let at-if1 = at-site-words .before .before in
+    let at-test-settings = at-if1 .before in
+    let at-fresh-sites = at-test-settings .before in
+    let start = at-fresh-sites .before .before in
+    let a = start .args in
+    let words = ap (λ (n : ℕ). a .settings .sites * n) (at-site-words .site-words .ensures) in
+    start-accepted (a .settings) (a .memory .now) (at-fresh-sites .fresh-sites .result)
+    (at-fresh-sites .fresh-sites .ensures)
+    (at-clear .clear .last .0) (sym (at-test-settings .test-settings .ensures) ∙ at-if1 .if1 .left)
+    (omega (arith, words))
+    (at-clear .clear .ensures ∙ ap (λ (n : ℕ). overwrite (replicate n 0) (a .memory .now)) words)
 
 pub start-sites-spec : {M : Type 1} → statement M
 start-sites-spec =

@@ -1,7 +1,6 @@
--- `site_memory::count_up_to` meets its contract. The loop's invariant: the first i counts were added up. The
--- measure is the number of counts left.
+-- `site_memory::count_up_to` meets its contract. The loop's invariant: the first i counts were
+-- added up. The measure is the number of counts left.
 use Prim.Native.Nat.{_-_, _+_}
-use mathlib.Core.Path.{_≡_, _∙_, sym}
 use native.Mathlib.Omega.{arith}
 use borrow.Author.Needs.{needs}
 use Rattle.site_memory.proofs.ValueLaws.{valueCount-is, Counting, counting-start, counting-on, counting-small, counting-end}
@@ -15,7 +14,8 @@ abbrev μ-loop : tie.MeasureT-loop
 μ-loop memory from value count₀ i₀ count i = value + 1 - i
 
 loop-holds : tie.Need-loop-holds Inv-loop μ-loop
-loop-holds c = counting-start (c .args .memory .now) (c .args .from) (c .pre .long-enough) (c .args .value)
+loop-holds c =
+    counting-start (c .args .memory .now) (c .args .from) (c .pre .long-enough) (c .args .value)
 
 add-count : tie.Need-add-count Inv-loop μ-loop
 add-count c = search needs
@@ -27,16 +27,21 @@ shared-slice-read-count : tie.Need-shared-slice-read-count Inv-loop μ-loop
 shared-slice-read-count c = search needs
 
 cast-count : tie.Need-cast-count Inv-loop μ-loop
-cast-count c = omega (arith, c .shared-slice-known .given (c .before .before .before .args .from + c .before .before .loop .i))
+cast-count c =
+    let at-loop = c .before .before in
+    let start = at-loop .before in
+    omega (arith, c .shared-slice-known .given (start .args .from + at-loop .loop .i))
 
 add-count-2 : tie.Need-add-count-2 Inv-loop μ-loop
 add-count-2 c =
-    let a = c .before .before .before .args in
-    let at-loop = c .before .before .loop in
+    let at-loop = c .before .before in
+    let start = at-loop .before in
+    let a = start .args in
+    let loop = at-loop .loop in
     omega (
       arith,
-      counting-small (a .memory .now) (a .from) (c .before .before .before .pre .long-enough) (a .value) (at-loop .count)
-          (at-loop .i) (at-loop .inv) (search needs) (c .before .before .before .pre .value-within),
+      counting-small (a .memory .now) (a .from) (start .pre .long-enough) (a .value) (loop .count)
+          (loop .i) (loop .inv) (search needs) (start .pre .value-within),
     )
 
 add-i : tie.Need-add-i Inv-loop μ-loop
@@ -47,17 +52,21 @@ loop-less c = search needs
 
 loop-again : tie.Need-loop-again Inv-loop μ-loop
 loop-again c =
-    let a = c .before .before .before .args in
-    let at-loop = c .before .before .loop in
-    counting-on (a .memory .now) (a .from) (c .before .before .before .pre .long-enough) (a .value) (at-loop .count)
-    (at-loop .i) (at-loop .inv) (search needs) (c .before .before .before .pre .value-within)
+    let at-loop = c .before .before in
+    let start = at-loop .before in
+    let a = start .args in
+    let loop = at-loop .loop in
+    counting-on (a .memory .now) (a .from) (start .pre .long-enough) (a .value) (loop .count)
+    (loop .i) (loop .inv) (search needs) (start .pre .value-within)
 
 returns : tie.Need-returns Inv-loop μ-loop
 returns c =
-    let a = c .before .before .args in
-    let at-loop = c .before .loop in
-    counting-end (a .memory .now) (a .from) (c .before .before .pre .long-enough) (a .value) (at-loop .count)
-    (at-loop .i) (at-loop .inv) (search needs)
+    let at-loop = c .before in
+    let start = at-loop .before in
+    let a = start .args in
+    let loop = at-loop .loop in
+    counting-end (a .memory .now) (a .from) (start .pre .long-enough) (a .value) (loop .count)
+    (loop .i) (loop .inv) (search needs)
 
 pub count-up-to-spec : {M : Type 1} → statement M
 count-up-to-spec =

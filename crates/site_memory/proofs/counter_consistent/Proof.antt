@@ -13,25 +13,31 @@ counter-at-requires c κs = search needs
 
 returns : tie.Need-returns
 returns c =
-    let a = c .before .before .before .before .before .args in
+    let at-counter-at = c .before .before .before in
+    let start = at-counter-at .before .before in
+    let a = start .args in
     let site = siteIn (a .settings) (a .site) (a .memory .now) in
-    let read = c .before .before .before .counter-at in
+    let read = at-counter-at .counter-at in
     item-unknown (a .settings) site (counterOf (read .result)) (search needs)
     ∙ ap (counterConsistent (a .settings) site) (read .ensures)
 
 returns-2 : tie.Need-returns-2
 returns-2 c =
-    let a = c .before .before .before .before .before .before .before .args in
+    let at-counter-at = c .before .before .before .before .before in
+    let start = at-counter-at .before .before in
+    let a = start .args in
     let site = siteIn (a .settings) (a .site) (a .memory .now) in
-    let read = c .before .before .before .before .before .counter-at in
+    let read = at-counter-at .counter-at in
     parts-above (a .settings) site (counterOf (read .result)) (omega arith)
     ∙ ap (counterConsistent (a .settings) site) (read .ensures)
 
 returns-3 : tie.Need-returns-3
 returns-3 c =
-    let a = c .before .before .before .before .before .before .before .before .before .before .args in
+    let at-counter-at = c .before .before .before .before .before .before .before .before in
+    let start = at-counter-at .before .before in
+    let a = start .args in
     let site = siteIn (a .settings) (a .site) (a .memory .now) in
-    let read = c .before .before .before .before .before .before .before .before .counter-at in
+    let read = at-counter-at .counter-at in
     parts-above (a .settings) site (counterOf (read .result)) (omega arith)
     ∙ ap (counterConsistent (a .settings) site) (read .ensures)
 
@@ -40,9 +46,12 @@ cast-if4 c = search needs
 
 returns-4 : tie.Need-returns-4
 returns-4 c =
-    let a = c .before .before .before .before .before .before .before .before .before .before .before .before .before .args in
+    let earlier = c .before .before .before .before .before .before .before in
+    let at-counter-at = earlier .before .before .before .before in
+    let start = at-counter-at .before .before in
+    let a = start .args in
     let site = siteIn (a .settings) (a .site) (a .memory .now) in
-    let read = c .before .before .before .before .before .before .before .before .before .before .before .counter-at in
+    let read = at-counter-at .counter-at in
     count-above (a .settings) site (counterOf (read .result)) (search needs)
     ∙ ap (counterConsistent (a .settings) site) (read .ensures)
 
@@ -54,10 +63,17 @@ cast-result c = search needs
 
 returns-5 : tie.Need-returns-5
 returns-5 c =
-    let a = c .before .before .before .before .before .before .before .before .before .before .before .before .before .before .before .before .args in
+    let at-if4 = c .before .before .before in
+    let at-if3 = at-if4 .before .before .before in
+    let at-if2 = at-if3 .before .before .before in
+    let at-if1 = at-if2 .before .before in
+    let at-counter-at = at-if1 .before .before .before in
+    let start = at-counter-at .before .before in
+    let a = start .args in
     let site = siteIn (a .settings) (a .site) (a .memory .now) in
-    let read = c .before .before .before .before .before .before .before .before .before .before .before .before .before .before .counter-at in
-    counter-passes (a .settings) site (counterOf (read .result)) (omega arith) (omega arith) (omega arith)
+    let read = at-counter-at .counter-at in
+    counter-passes (a .settings) site (counterOf (read .result)) (at-if1 .if1 .left)
+    (omega (arith, at-if2 .if2 .left, at-if3 .if3 .left)) (at-if4 .if4 .left)
     ∙ ap (counterConsistent (a .settings) site) (read .ensures)
 
 pub counter-consistent-spec : {M : Type 1} → statement M

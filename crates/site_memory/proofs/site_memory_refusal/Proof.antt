@@ -13,36 +13,60 @@ test-settings-requires c κs = search needs
 
 returns : tie.Need-returns
 returns c =
-    let a = c .before .before .before .args in
-    settings-refused (a .settings) (a .site) (a .memory .now) (c .before .test-settings .result) (c .before .test-settings .ensures) (c .if1 .taken)
+    let at-test-settings = c .before in
+    let start = at-test-settings .before .before in
+    let a = start .args in
+    settings-refused (a .settings) (a .site) (a .memory .now)
+    (at-test-settings .test-settings .result) (at-test-settings .test-settings .ensures)
+    (c .if1 .taken)
 
 site-words-requires : tie.Need-site-words-requires
 site-words-requires c κs = sym (c .before .test-settings .ensures) ∙ c .if1 .left
 
 returns-2 : tie.Need-returns-2
 returns-2 c =
-    let a = c .before .before .before .before .before .args in
-    memory-short (a .settings) (a .site) (a .memory .now) (sym (c .before .before .before .test-settings .ensures) ∙ c .before .before .if1 .left) (omega arith)
+    let at-if1 = c .before .before in
+    let at-test-settings = at-if1 .before in
+    let start = at-test-settings .before .before in
+    let a = start .args in
+    memory-short (a .settings) (a .site) (a .memory .now)
+    (sym (at-test-settings .test-settings .ensures) ∙ at-if1 .if1 .left) (omega arith)
 
 site-consistent-requires : tie.Need-site-consistent-requires
-site-consistent-requires c κs = record {
-  settings-accepted = sym (c .before .before .before .test-settings .ensures) ∙ c .before .before .if1 .left;
-  long-enough = omega (arith, c .before .site-words .ensures);
-}
+site-consistent-requires c κs =
+    let at-site-words = c .before in
+    let at-if1 = at-site-words .before in
+    let at-test-settings = at-if1 .before in
+    record {
+      settings-accepted = sym (at-test-settings .test-settings .ensures) ∙ at-if1 .if1 .left;
+      long-enough = omega (arith, at-site-words .site-words .ensures);
+    }
 
 returns-3 : tie.Need-returns-3
 returns-3 c =
-    let a = c .before .before .before .before .before .before .before .args in
-    let tested = memory-tested (a .settings) (a .site) (a .memory .now) (sym (c .before .before .before .before .before .test-settings .ensures) ∙ c .before .before .before .before .if1 .left) (omega arith) in
+    let at-site-consistent = c .before in
+    let at-if1 = at-site-consistent .before .before .before in
+    let at-test-settings = at-if1 .before in
+    let start = at-test-settings .before .before in
+    let a = start .args in
+    let tested =
+    memory-tested (a .settings) (a .site) (a .memory .now)
+    (sym (at-test-settings .test-settings .ensures) ∙ at-if1 .if1 .left) (omega arith) in
     sym (ap (λ (test : Bool). when (not test) memoryInconsistent orElse accepted)
-    (sym (c .before .site-consistent .ensures) ∙ c .if3 .taken)) ∙ tested
+    (sym (at-site-consistent .site-consistent .ensures) ∙ c .if3 .taken)) ∙ tested
 
 returns-4 : tie.Need-returns-4
 returns-4 c =
-    let a = c .before .before .before .before .before .before .before .args in
-    let tested = memory-tested (a .settings) (a .site) (a .memory .now) (sym (c .before .before .before .before .before .test-settings .ensures) ∙ c .before .before .before .before .if1 .left) (omega arith) in
+    let at-site-consistent = c .before in
+    let at-if1 = at-site-consistent .before .before .before in
+    let at-test-settings = at-if1 .before in
+    let start = at-test-settings .before .before in
+    let a = start .args in
+    let tested =
+    memory-tested (a .settings) (a .site) (a .memory .now)
+    (sym (at-test-settings .test-settings .ensures) ∙ at-if1 .if1 .left) (omega arith) in
     sym (ap (λ (test : Bool). when (not test) memoryInconsistent orElse accepted)
-    (sym (c .before .site-consistent .ensures) ∙ c .if3 .left)) ∙ tested
+    (sym (at-site-consistent .site-consistent .ensures) ∙ c .if3 .left)) ∙ tested
 
 pub site-memory-refusal-spec : {M : Type 1} → statement M
 site-memory-refusal-spec =

@@ -1,5 +1,4 @@
 -- `site_memory::site_words` meets its contract: the histogram has 1024 places.
-use mathlib.Core.Path.{sym}
 use native.Mathlib.Omega.{arith}
 use borrow.Author.Needs.{needs}
 use Rattle.model.proofs.SettingsLaws.{settled}
@@ -11,10 +10,14 @@ cast-result : tie.Need-cast-result
 cast-result c = search needs
 
 mul-result : tie.Need-mul-result
-mul-result c = omega (arith, settled (c .before .args .settings) (c .before .pre) .capacity .at-most)
+mul-result c =
+    let start = c .before in
+    omega (arith, settled (start .args .settings) (start .pre) .capacity .at-most)
 
 add-result : tie.Need-add-result
-add-result c = omega (arith, settled (c .before .args .settings) (c .before .pre) .capacity .at-most)
+add-result c =
+    let start = c .before in
+    omega (arith, settled (start .args .settings) (start .pre) .capacity .at-most)
 
 returns : tie.Need-returns
 returns c = omega (arith, valueCount-is)

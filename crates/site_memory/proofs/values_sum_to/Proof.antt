@@ -1,7 +1,7 @@
--- `site_memory::values_sum_to` meets its contract. The loop's invariant: the first i counts were taken off
--- the total. The measure is the number of counts left.
+-- `site_memory::values_sum_to` meets its contract. The loop's invariant: the first i counts were
+-- taken off the total. The measure is the number of counts left.
 use Prim.Native.Nat.{_-_, _+_}
-use mathlib.Core.Path.{_≡_, _∙_, sym, subst}
+use mathlib.Core.Path.{_≡_, sym}
 use native.Mathlib.Omega.{arith}
 use lib.ListN.{getD}
 use borrow.Author.Needs.{needs}
@@ -28,14 +28,19 @@ shared-slice-read-count : tie.Need-shared-slice-read-count Inv-loop μ-loop
 shared-slice-read-count c = omega (arith, valueCount-is)
 
 cast-count : tie.Need-cast-count Inv-loop μ-loop
-cast-count c = omega (arith, c .shared-slice-known .given (c .before .before .before .args .from + c .before .before .loop .i))
+cast-count c =
+    let at-loop = c .before .before in
+    let start = at-loop .before in
+    omega (arith, c .shared-slice-known .given (start .args .from + at-loop .loop .i))
 
 returns : tie.Need-returns Inv-loop μ-loop
 returns c =
-    let a = c .before .before .before .before .args in
-    let at-loop = c .before .before .before .loop in
-    sym (taken-short (a .memory .now) (a .from) (c .before .before .before .before .pre) (a .total) (at-loop .left) (at-loop .i)
-    (at-loop .inv) (search needs) (search needs))
+    let at-loop = c .before .before .before in
+    let start = at-loop .before in
+    let a = start .args in
+    let loop = at-loop .loop in
+    sym (taken-short (a .memory .now) (a .from) (start .pre) (a .total) (loop .left) (loop .i)
+    (loop .inv) (search needs) (search needs))
 
 add-i : tie.Need-add-i Inv-loop μ-loop
 add-i c = search needs
@@ -45,19 +50,23 @@ loop-less c = search needs
 
 loop-again : tie.Need-loop-again Inv-loop μ-loop
 loop-again c =
-    let a = c .before .before .before .before .args in
-    let at-loop = c .before .before .before .loop in
-    let count = getD (a .memory .now) (a .from + at-loop .i) 0 in
-    let same : at-loop .left ≡ count + (at-loop .left - count) = omega arith in
-    taken-on (a .memory .now) (a .from) (c .before .before .before .before .pre) (a .total) (at-loop .left - count) (at-loop .i)
-    (rw same at (at-loop .inv)) (search needs)
+    let at-loop = c .before .before .before in
+    let start = at-loop .before in
+    let a = start .args in
+    let loop = at-loop .loop in
+    let count = getD (a .memory .now) (a .from + loop .i) 0 in
+    let same : loop .left ≡ count + (loop .left - count) = omega arith in
+    taken-on (a .memory .now) (a .from) (start .pre) (a .total) (loop .left - count) (loop .i)
+    (rw same at (loop .inv)) (search needs)
 
 returns-2 : tie.Need-returns-2 Inv-loop μ-loop
 returns-2 c =
-    let a = c .before .before .args in
-    let at-loop = c .before .loop in
-    sym (taken-end (a .memory .now) (a .from) (c .before .before .pre) (a .total) (at-loop .left) (at-loop .i)
-    (at-loop .inv) (search needs))
+    let at-loop = c .before in
+    let start = at-loop .before in
+    let a = start .args in
+    let loop = at-loop .loop in
+    sym (taken-end (a .memory .now) (a .from) (start .pre) (a .total) (loop .left) (loop .i)
+    (loop .inv) (search needs))
 
 pub values-sum-to-spec : {M : Type 1} → statement M
 values-sum-to-spec =

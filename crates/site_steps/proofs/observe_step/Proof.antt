@@ -1,5 +1,4 @@
 -- `site_steps::observe_step` meets its contract: the arrival stored, and the messages gathered.
-use native.Mathlib.Omega.{arith}
 use borrow.Author.Needs.{needs}
 use Rattle.site_steps.proofs.StoreLaws.{observed-step}
 use Rattle.site_steps.proofs.observe_step.Statement.{statement}
@@ -33,18 +32,29 @@ gather-requires : tie.Need-gather-requires
 gather-requires c κs = search needs
 
 same-length : tie.Need-same-length
-same-length c = c .before .before .before .before .before .before .before .before .before .before .before .store-arrival .kept .1 .1 .1 .0
+same-length c =
+    let earlier = c .before .before .before .before .before .before .before in
+    let at-store-arrival = earlier .before .before .before .before in
+    at-store-arrival .store-arrival .kept .1 .1 .1 .0
 
 returns : tie.Need-returns
 returns c =
-    let a = c .before .before .before .before .before .before .before .before .before .before .before .before .before .before .args in
-    let stored = c .before .before .before .before .before .before .before .before .before .before .before .store-arrival in
+    let at-make-message2 = c .before in
+    let at-make-message = at-make-message2 .before in
+    let at-pending-after = at-make-message .before .before in
+    let at-value-reported = at-pending-after .before .before in
+    let at-store-arrival = at-value-reported .before .before .before .before .before in
+    let start = at-store-arrival .before .before .before in
+    let a = start .args in
+    let stored = at-store-arrival .store-arrival in
     observed-step (a .settings) (a .site) (a .arrival) (a .memory .now) (stored .last .1 .1 .1 .0)
     (stored .result) (stored .ensures)
-    (c .before .before .before .before .pending-after .result) (c .before .before .before .before .before .before .value-reported .result)
-    (c .before .before .before .before .pending-after .ensures) (c .before .before .before .before .before .before .value-reported .ensures)
-    (c .before .before .make-message .result) (c .before .make-message2 .result) (c .gather .result)
-    (c .before .before .make-message .ensures) (c .before .make-message2 .ensures) (c .gather .ensures)
+    (at-pending-after .pending-after .result) (at-value-reported .value-reported .result)
+    (at-pending-after .pending-after .ensures) (at-value-reported .value-reported .ensures)
+    (at-make-message .make-message .result) (at-make-message2 .make-message2 .result)
+    (c .gather .result)
+    (at-make-message .make-message .ensures) (at-make-message2 .make-message2 .ensures)
+    (c .gather .ensures)
 
 pub observe-step-spec : {M : Type 1} → statement M
 observe-step-spec =

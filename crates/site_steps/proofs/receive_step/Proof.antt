@@ -15,8 +15,10 @@ make-message-requires c κs = search needs
 
 returns : tie.Need-returns
 returns c =
-    let a = c .before .before .before .before .args in
-    let poll = eq-eqb (a .message .kind) 3 (c .before .if1 .taken) in
+    let at-if1 = c .before in
+    let start = at-if1 .before .before .before in
+    let a = start .args in
+    let poll = eq-eqb (a .message .kind) 3 (at-if1 .if1 .taken) in
     record {
       refusal = refl;
       site = rw poll (record-with (a .site) (a .memory .now) 0 (a .site .threshold));
@@ -28,13 +30,21 @@ cast-from : tie.Need-cast-from
 cast-from c = search needs
 
 mul-from : tie.Need-mul-from
-mul-from c = omega (arith, settled (c .before .before .before .before .before .before .args .settings) (c .before .before .before .before .before .before .pre .ready .settings-accepted) .capacity .at-most)
+mul-from c =
+    let start = c .before .before .before .before .before .before in
+    omega (
+      arith,
+      settled (start .args .settings)
+          (start .pre .ready .settings-accepted) .capacity .at-most,
+    )
 
 count-up-to-requires : tie.Need-count-up-to-requires
 count-up-to-requires c κs =
-    let a = c .before .before .before .before .before .before .args in
-    let asks = c .before .before .before .before .before .before .pre in
-    let probe = eq-eqb (a .message .kind) 5 (c .before .if2 .taken) in
+    let at-if2 = c .before in
+    let start = at-if2 .before .before .before .before .before in
+    let a = start .args in
+    let asks = start .pre in
+    let probe = eq-eqb (a .message .kind) 5 (at-if2 .if2 .taken) in
     record {
       long-enough = asks .ready .long-enough;
       value-within = omega (arith, asks .value-known probe, valueCount-is);
@@ -50,9 +60,13 @@ make-message-requires-2 c κs = search needs
 
 returns-2 : tie.Need-returns-2
 returns-2 c =
-    let a = c .before .before .before .before .before .before .before .before .args in
-    let not-poll = ne-eqb (a .message .kind) 3 (c .before .before .before .before .before .if1 .left) in
-    let probe = eq-eqb (a .message .kind) 5 (c .before .before .before .if2 .taken) in
+    let at-count-up-to = c .before in
+    let at-if2 = at-count-up-to .before .before in
+    let at-if1 = at-if2 .before .before in
+    let start = at-if1 .before .before .before in
+    let a = start .args in
+    let not-poll = ne-eqb (a .message .kind) 3 (at-if1 .if1 .left) in
+    let probe = eq-eqb (a .message .kind) 5 (at-if2 .if2 .taken) in
     record {
       refusal = refl;
       site = rw (not-poll, probe)
@@ -60,7 +74,8 @@ returns-2 c =
       count = rw (not-poll, probe);
       reply = rw (not-poll, probe)
           (c .make-message2 .ensures
-          ∙ ap (message 6 (a .message .site) (a .message .a)) (c .before .count-up-to .ensures));
+          ∙ ap (message 6 (a .message .site) (a .message .a))
+          (at-count-up-to .count-up-to .ensures));
     }
 
 make-message-requires-3 : tie.Need-make-message-requires-3
@@ -68,9 +83,12 @@ make-message-requires-3 c κs = search needs
 
 returns-3 : tie.Need-returns-3
 returns-3 c =
-    let a = c .before .before .before .before .before .before .args in
-    let not-poll = ne-eqb (a .message .kind) 3 (c .before .before .before .if1 .left) in
-    let not-probe = ne-eqb (a .message .kind) 5 (c .before .if2 .left) in
+    let at-if2 = c .before in
+    let at-if1 = at-if2 .before .before in
+    let start = at-if1 .before .before .before in
+    let a = start .args in
+    let not-poll = ne-eqb (a .message .kind) 3 (at-if1 .if1 .left) in
+    let not-probe = ne-eqb (a .message .kind) 5 (at-if2 .if2 .left) in
     record {
       refusal = refl;
       site = rw (not-poll, not-probe)

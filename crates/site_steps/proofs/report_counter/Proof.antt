@@ -1,6 +1,6 @@
--- `site_steps::report_counter` meets its contract: the threshold fits, as it is at most a number of memory.
-use Prim.Native.Nat.{_+_, _-_}
-use native.Mathlib.Omega.{arith}
+-- `site_steps::report_counter` meets its contract: the threshold fits, as it is at most a number of
+-- memory.
+use Prim.Native.Nat.{_-_}
 use borrow.Author.Tests.{le-leb, lt-leb}
 use borrow.Author.Needs.{needs}
 use Rattle.site_steps.proofs.report_counter.Statement.{statement}
@@ -38,10 +38,12 @@ same-length c = search needs
 
 returns : tie.Need-returns
 returns c =
-    let a = c .before .before .before .before .args in
+    let at-if1 = c .before in
+    let start = at-if1 .before .before .before in
+    let a = start .args in
     let counter = a .counter in
     let unreported = counter .count - counter .overestimate - counter .reported in
-    let due = le-leb (a .threshold) unreported (c .before .if1 .taken) in
+    let due = le-leb (a .threshold) unreported (at-if1 .if1 .taken) in
     record { due-is = rw due; memory = rw due }
 
 returns-2 : tie.Need-returns-2

@@ -1,6 +1,5 @@
 -- `site_steps::store_arrival` meets its contract: its three calls by the laws of StoreLaws.
 use mathlib.Core.Path.{_≡_}
-use native.Mathlib.Omega.{arith}
 use lib.ListN.{length}
 use borrow.Author.Needs.{needs}
 use Rattle.site_steps.proofs.StoreLaws.{count-asks, report-asks, value-place, value-small, stored-arrival}
@@ -12,14 +11,18 @@ cast-capacity c = search needs
 
 count-item-requires : tie.Need-count-item-requires
 count-item-requires c κs =
-    let a = c .before .before .before .args in
-    count-asks (a .settings) (a .site) (a .arrival) (a .memory .now) (c .before .before .before .pre)
+    let start = c .before .before .before in
+    let a = start .args in
+    count-asks (a .settings) (a .site) (a .arrival) (a .memory .now) (start .pre)
 
 report-counter-requires : tie.Need-report-counter-requires
 report-counter-requires c κs =
-    let a = c .before .before .before .before .before .before .before .args in
-    let counted = c .before .before .before .count-item in
-    report-asks (a .settings) (a .site) (a .arrival) (a .memory .now) (c .before .before .before .before .before .before .before .pre) (counted .last .0)
+    let at-count-item = c .before .before .before in
+    let start = at-count-item .before .before .before .before in
+    let a = start .args in
+    let counted = at-count-item .count-item in
+    report-asks (a .settings) (a .site) (a .arrival) (a .memory .now) (start .pre)
+    (counted .last .0)
     (counted .result) (counted .ensures) (search needs)
 
 mul-value-place : tie.Need-mul-value-place
@@ -33,15 +36,20 @@ add-value-place c = search needs
 
 count-value-requires : tie.Need-count-value-requires
 count-value-requires c κs =
-    let a = c .before .before .before .before .before .before .before .before .before .before .before .before .args in
-    let counted = c .before .before .before .before .before .before .before .before .count-item in
-    let report = c .before .before .before .before .report-counter in
+    let at-report-counter = c .before .before .before .before in
+    let at-count-item = at-report-counter .before .before .before .before in
+    let start = at-count-item .before .before .before .before in
+    let a = start .args in
+    let counted = at-count-item .count-item in
+    let report = at-report-counter .report-counter in
     let same-stored : length (counted .last .0) ≡ length (a .memory .now) = search needs in
     let same-reported : length (report .last .0) ≡ length (counted .last .0) = search needs in (
-      value-place (a .settings) (a .site) (a .arrival) (a .memory .now) (c .before .before .before .before .before .before .before .before .before .before .before .before .pre) (counted .last .0)
+      value-place (a .settings) (a .site) (a .arrival) (a .memory .now) (start .pre)
+          (counted .last .0)
           (counted .result) (counted .ensures) same-stored (report .last .0) (report .result)
           (report .ensures) same-reported,
-      value-small (a .settings) (a .site) (a .arrival) (a .memory .now) (c .before .before .before .before .before .before .before .before .before .before .before .before .pre) (counted .last .0)
+      value-small (a .settings) (a .site) (a .arrival) (a .memory .now) (start .pre)
+          (counted .last .0)
           (counted .result) (counted .ensures) same-stored (report .last .0) (report .result)
           (report .ensures) same-reported,
     )
@@ -51,11 +59,16 @@ same-length c = search needs
 
 returns : tie.Need-returns
 returns c =
-    let a = c .before .before .before .before .before .before .before .before .before .before .before .before .before .before .before .args in
-    let counted = c .before .before .before .before .before .before .before .before .before .before .before .count-item in
-    let report = c .before .before .before .before .before .before .before .report-counter in
-    let value = c .before .before .count-value in
-    stored-arrival (a .settings) (a .site) (a .arrival) (a .memory .now) (c .before .before .before .before .before .before .before .before .before .before .before .before .before .before .before .pre) (counted .last .0)
+    let at-count-value = c .before .before in
+    let at-report-counter = at-count-value .before .before .before .before .before in
+    let at-count-item = at-report-counter .before .before .before .before in
+    let start = at-count-item .before .before .before .before in
+    let a = start .args in
+    let counted = at-count-item .count-item in
+    let report = at-report-counter .report-counter in
+    let value = at-count-value .count-value in
+    stored-arrival (a .settings) (a .site) (a .arrival) (a .memory .now) (start .pre)
+    (counted .last .0)
     (counted .result) (counted .ensures) (search needs) (report .last .0) (report .result)
     (report .ensures) (search needs) (value .last .0) (value .ensures)
 

@@ -63,6 +63,7 @@ pub two-thirds-of-div : (a b : ℕ) → 1 ≤ b → 2 ≤ a / b → 2 * a ≤ 3 
 two-thirds-of-div a b positive two =
     omega (arith, lt-div-mul-add {a = a} {b = b} positive, mul-le-mul-right b two)
 
+-- A larger dividend has no smaller quotient.
 pub div-mono : (a a′ b : ℕ) → 1 ≤ b → a ≤ a′ → a / b ≤ a′ / b
 div-mono a a′ b positive a≤a′ =
     le-div-iff-mul-le {k = b} positive .1 (omega (arith, div-mul-le-self a b))

@@ -15,18 +15,22 @@ use lib.Seq.{getD-set-same, getD-set-other, getD-append-seam}
 module _ {A : Type 0} where
   -- ---- One element added at the end
 
+  -- One element more.
   pub length-snoc : (xs : List A) (x : A) → length (xs ++ (x ∷ [])) ≡ length xs + 1
   length-snoc xs x = length-append xs (x ∷ [])
 
+  -- The elements before it stay at their places.
   pub getD-snoc-old : (default : A) (xs : List A) (x : A) (i : ℕ)
       → i < length xs
       → getD (xs ++ (x ∷ [])) i default ≡ getD xs i default
   getD-snoc-old default xs x i inside = List·getD-append xs (x ∷ []) default i inside
 
+  -- It stands last.
   pub getD-snoc-new : (default : A) (xs : List A) (x : A)
       → getD (xs ++ (x ∷ [])) (length xs) default ≡ x
   getD-snoc-new default xs x = getD-append-seam xs x [] default
 
+  -- Within the list and past its end the same element is read.
   pub getD-replicate-default : (default : A) (n i : ℕ)
       → getD (replicate n default) i default ≡ default
   getD-replicate-default default zero i = refl
@@ -48,6 +52,7 @@ module _ {A : Type 0} where
       by-place (yes here) = rw (here, getD-set-same xs i x default inside) new
       by-place (no elsewhere) = rw (getD-set-other xs i j x default elsewhere) (old elsewhere)
 
+  -- Of every place after one was set.
   pub all-set : (P : A → Type 0) (default : A) (xs : List A) (i : ℕ) (x : A)
       → i < length xs
       → P x
@@ -58,6 +63,7 @@ module _ {A : Type 0} where
       let was-inside : j < length xs = omega (arith, length-set xs i x) in
       at-set (λ _ y. P y) default xs i x inside new j (old j was-inside)
 
+  -- Of every place after one was added at the end.
   pub all-snoc : (P : A → Type 0) (default : A) (xs : List A) (x : A)
       → P x
       → ((j : ℕ) → j < length xs → P (getD xs j default))
@@ -71,6 +77,7 @@ module _ {A : Type 0} where
           let last : j ≡ length xs = omega (arith, length-snoc xs x) in
           rw (last, getD-snoc-new default xs x) new
 
+  -- Of every place after one was added in front.
   pub all-cons : (P : A → Type 0) (default : A) (x : A) (xs : List A)
       → P x
       → ((j : ℕ) → j < length xs → P (getD xs j default))

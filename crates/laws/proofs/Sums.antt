@@ -16,10 +16,12 @@ use lib.Seq.{getD-set-same, getD-set-other}
 
 -- ---- Over the numbers below k
 
+-- f 0 + .. + f (k - 1).
 abbrev pub sumBelow : (ℕ → ℕ) → ℕ → ℕ
 sumBelow f zero = 0
 sumBelow f (suc k) = sumBelow f k + f k
 
+-- Functions that agree below k have the same sum.
 pub sumBelow-same : (f g : ℕ → ℕ) (k : ℕ)
     → ((i : ℕ) → i < k → f i ≡ g i)
     → sumBelow f k ≡ sumBelow g k
@@ -28,6 +30,7 @@ sumBelow-same f g (suc k) same =
     let front : sumBelow f k ≡ sumBelow g k = sumBelow-same f g k (λ i i<k. same i (omega arith)) in
     omega (arith, same k (omega arith))
 
+-- A function that is nowhere larger has no larger sum.
 pub sumBelow-le : (f g : ℕ → ℕ) (k : ℕ)
     → ((i : ℕ) → i < k → f i ≤ g i)
     → sumBelow f k ≤ sumBelow g k
@@ -36,19 +39,23 @@ sumBelow-le f g (suc k) less =
     let front : sumBelow f k ≤ sumBelow g k = sumBelow-le f g k (λ i i<k. less i (omega arith)) in
     omega (arith, less k (omega arith))
 
+-- The same number k times.
 pub sumBelow-const : (c k : ℕ) → sumBelow (λ i. c) k ≡ k * c
 sumBelow-const c zero = omega arith
 sumBelow-const c (suc k) = omega (arith, sumBelow-const c k)
 
+-- A function that is 0 below k.
 pub sumBelow-zero : (f : ℕ → ℕ) (k : ℕ) → ((i : ℕ) → i < k → f i ≡ 0) → sumBelow f k ≡ 0
 sumBelow-zero f k zeros =
     omega (arith, sumBelow-same f (λ i. 0) k zeros, sumBelow-const 0 k)
 
+-- The sum of two functions.
 pub sumBelow-add : (f g : ℕ → ℕ) (k : ℕ)
     → sumBelow (λ i. f i + g i) k ≡ sumBelow f k + sumBelow g k
 sumBelow-add f g zero = refl
 sumBelow-add f g (suc k) = omega (arith, sumBelow-add f g k)
 
+-- A common factor.
 pub sumBelow-mul : (m : ℕ) (f : ℕ → ℕ) (k : ℕ) → sumBelow (λ i. m * f i) k ≡ m * sumBelow f k
 sumBelow-mul m f zero = omega arith
 sumBelow-mul m f (suc k) = omega (arith, sumBelow-mul m f k)
@@ -87,18 +94,22 @@ module _ {A : Type 0} where
 
   -- ---- Over the elements of a list
 
+  -- f of each element, summed.
   pub sumOf : (A → ℕ) → List A → ℕ
   sumOf f [] = 0
   sumOf f (x ∷ xs) = f x + sumOf f xs
 
+  -- No element.
   pub sumOf-nil : (f : A → ℕ) → sumOf f [] ≡ 0
   unfolding sumOf
   sumOf-nil f = refl
 
+  -- One element in front.
   pub sumOf-cons : (f : A → ℕ) (x : A) (xs : List A) → sumOf f (x ∷ xs) ≡ f x + sumOf f xs
   unfolding sumOf
   sumOf-cons f x xs = refl
 
+  -- One element set, without minus.
   pub sumOf-set : (f : A → ℕ) (default : A) (xs : List A) (i : ℕ) (x : A)
       → i < length xs
       → sumOf f (set xs i x) + f (getD xs i default) ≡ sumOf f xs + f x
@@ -108,11 +119,13 @@ module _ {A : Type 0} where
   sumOf-set f default (y ∷ ys) (suc i) x inside =
       omega (arith, sumOf-set f default ys i x (omega arith))
 
+  -- One element added at the end.
   pub sumOf-snoc : (f : A → ℕ) (xs : List A) (x : A) → sumOf f (xs ++ (x ∷ [])) ≡ sumOf f xs + f x
   unfolding sumOf
   sumOf-snoc f [] x = omega arith
   sumOf-snoc f (y ∷ ys) x = omega (arith, sumOf-snoc f ys x)
 
+  -- If no element is below the least, the sum is at least as many times the least.
   pub sumOf-least : (f : A → ℕ) (default : A) (xs : List A) (least : ℕ)
       → ((j : ℕ) → j < length xs → least ≤ f (getD xs j default))
       → length xs * least ≤ sumOf f xs

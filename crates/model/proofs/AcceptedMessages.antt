@@ -4,15 +4,12 @@
 --   itemReport-accepted, countReport-accepted    kinds 1 and 2 at an idle coordinator
 --   pollAnswer-accepted, probeAnswer-accepted    kinds 4 and 6 from the site that the phase names
 --   poll-accepted, probe-accepted, announcement-accepted   kinds 3, 5 and 7 at their site
-use mathlib.Core.Path.{_≡_, refl, sym, ap, _∙_}
-use mathlib.Core.Bool.{Bool, true, false, _&&_, _||_, not}
-use Prim.Native.Nat.{ℕ, _+_, _≤_, _<_}
-use native.Mathlib.Omega.{arith}
+use mathlib.Core.Path.{_≡_, refl}
+use Prim.Native.Nat.{ℕ, _≤_, _<_}
 use native.Mathlib.Decide.{ℕ-discrete}
-use lib.Dec.{eqb, ltb, leb}
 use borrow.Author.Tests.{le-ltb, lt-leb, eq-eqb, ne-eqb}
 use Rattle.model.specs.declared.Settings.{Settings}
-use Rattle.model.specs.declared.Phase.the-variants.{Idle, Collecting, Probing, Announcing}
+use Rattle.model.specs.declared.Phase.the-variants.{Idle, Collecting, Probing}
 use Rattle.model.specs.Refusals.{accepted}
 use Rattle.model.specs.Limits.{topValue, siteLimit}
 use Rattle.model.specs.Messages.{itemReport, countReport, poll, pollAnswer, probe, probeAnswer, announcement}

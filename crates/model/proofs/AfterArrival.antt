@@ -1,21 +1,20 @@
--- An arrival with full delivery, in closed form: the four cases of `afterArrival`, for every network
--- whose coordinator is idle, arisen or not, with any list of sites. PROOF.md section 4.
+-- An arrival with full delivery, in closed form: the four cases of `afterArrival`, for every
+-- network whose coordinator is idle, arisen or not, with any list of sites. PROOF.md section 4.
 --
 --   after-arrival     the network and the messages, in each of the four cases
 --   delivers-after    the same as a delivery: it comes to rest there, and more fuel changes nothing
 -- The cases and the names of their parts are in ArrivalParts.antt.
-use mathlib.Core.Path.{_≡_, refl, sym, ap, _∙_, subst}
+use mathlib.Core.Path.{_≡_, refl, sym, ap, subst}
 use mathlib.Core.Bool.{Bool, true, false}
 use mathlib.Core.List.{List, [], _∷_, _++_, append-nil, append-assoc}
-use Prim.Native.Nat.{ℕ, zero, suc, _+_, _*_, _≤_, _<_}
+use Prim.Native.Nat.{ℕ, _+_, _*_, _≤_}
 use native.Mathlib.Omega.{arith}
 use lib.Dec.{eqb}
 use borrow.Author.Tests.{eq-eqb, ne-eqb}
 use Rattle.model.specs.declared.Settings.{Settings}
 use Rattle.model.specs.declared.Arrival.{Arrival}
 use Rattle.model.specs.declared.Message.{Message}
-use Rattle.model.specs.declared.Phase.{Phase}
-use Rattle.model.specs.declared.Phase.the-variants.{Idle, Collecting, Probing, Announcing}
+use Rattle.model.specs.declared.Phase.the-variants.{Idle, Collecting}
 use Rattle.model.specs.Choice.{if_then_else_}
 use Rattle.model.specs.Messages.{itemReport, countReport, poll}
 use Rattle.model.specs.Site.{Site, reportsItem, reportsCount, reportedValue}

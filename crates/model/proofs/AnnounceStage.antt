@@ -6,29 +6,26 @@
 use mathlib.Core.Path.{_≡_, refl, sym, ap, _∙_, subst}
 use mathlib.Core.Bool.{Bool, true, false, false≢true}
 use mathlib.Core.List.{List, [], _∷_, _++_, append-nil}
-use Prim.Native.Nat.{ℕ, zero, suc, _+_, _-_, _*_, _≤_, _<_}
+use Prim.Native.Nat.{ℕ, zero, suc, _+_, _-_, _≤_, _<_}
 use native.Mathlib.Omega.{arith}
-use native.Mathlib.Numerals.{add-one}
-use native.Mathlib.Decide.{decLt, ℕ-discrete}
 use lib.Dec.{ltb}
-use borrow.Author.Tests.{lt-ltb, le-ltb, ltb-true, ltb-false}
+use borrow.Author.Tests.{ltb-true}
 use Rattle.model.specs.declared.Settings.{Settings}
 use Rattle.model.specs.declared.Message.{Message}
-use Rattle.model.specs.declared.Phase.{Phase}
-use Rattle.model.specs.declared.Phase.the-variants.{Idle, Collecting, Probing, Announcing}
+use Rattle.model.specs.declared.Phase.the-variants.{Idle, Announcing}
 use Rattle.model.specs.Limits.{siteLimit}
 use Rattle.model.specs.Messages.{announcement}
-use Rattle.model.specs.Site.{Site}
-use Rattle.model.specs.Coordinator.{Coordinator, CoordinatorStep, step, withPhase, atRest, isAnnouncing, announced}
-use Rattle.model.specs.Network.{Network, siteAt, withSite, withCoordinator, askAnnouncement}
+use Rattle.model.specs.Coordinator.{Coordinator, withPhase, atRest, isAnnouncing, announced}
+use Rattle.model.specs.Network.{Network, siteAt, withCoordinator}
 use Rattle.model.specs.SoundNetwork.{SoundSite, SoundNumbers}
 use Rattle.model.proofs.SettingsLaws.{Settled}
 use Rattle.model.proofs.DeliveryLoops.{told}
 use Rattle.model.proofs.DeliveryMessages.{announcements}
 use Rattle.model.proofs.SoundSites.{sound-told}
 use Rattle.model.proofs.CoordinatorSound.{numbers-phase, numbers-rest}
-use Rattle.model.proofs.Together.{Together, threshold-bounded, together-site, together-coordinator}
+use Rattle.model.proofs.Together.{threshold-bounded, together-site, together-coordinator}
 use Rattle.model.proofs.AcceptedMessages.{announcement-accepted}
+use Rattle.model.proofs.PhaseSteps.{announced-next}
 use Rattle.model.proofs.Stages.{Announces, announcingAt, signalsAt, Stage, StageAfter, announcing, HandedOn, AskedOn}
 
 -- ---- An announcement handed over
@@ -112,16 +109,6 @@ announcements-snoc t base i (suc w) =
     rw same
     (ap {B = List Message} (λ ms. announcement i t base ∷ ms) (announcements-snoc t base (suc i) w))
 
--- What an announcing coordinator hands out; after the last it is at rest.
-hands-out : (settings : Settings) (c : Coordinator) (j : ℕ) (more : Bool)
-    → c .phase ≡ Announcing j
-    → ltb (j + 1) (settings .sites) ≡ more
-    → announced settings c
-    ≡ step (elim more [ true ↦ withPhase c (Announcing (j + 1)) | false ↦ atRest c ])
-    (announcement j (c .threshold) (c .base) ∷ [])
-hands-out settings c j true phase-is goes-on = rw (phase-is, goes-on)
-hands-out settings c j false phase-is last = rw (phase-is, last)
-
 module _ {settings : Settings} {network : Network} {waiting : List Message} {left : ℕ}
     (a : Announces settings network waiting left)
     (phase-is : network .coordinator .phase ≡ Announcing (a .j))
@@ -177,13 +164,13 @@ module _ {settings : Settings} {network : Network} {waiting : List Message} {lef
           (announced settings (network .coordinator))
       by-last true goes-on =
           subst (StageAfter settings network waiting (left - 1))
-          (sym (hands-out settings (network .coordinator) (a .j) true phase-is goes-on))
+          (sym (announced-next settings (network .coordinator) (a .j) true phase-is goes-on))
           (asked-stage (withPhase (network .coordinator) (Announcing (a .j + 1)))
           (numbers-phase (a .together .numbers) (Announcing (a .j + 1))) refl refl refl
           (rw goes-on) (rw goes-on all-signals))
       by-last false last =
           subst (StageAfter settings network waiting (left - 1))
-          (sym (hands-out settings (network .coordinator) (a .j) false phase-is last))
+          (sym (announced-next settings (network .coordinator) (a .j) false phase-is last))
           (asked-stage (atRest (network .coordinator)) (numbers-rest (a .together .numbers))
           refl refl refl (rw last) (rw last))
 

@@ -20,10 +20,12 @@ use Rattle.model.specs.Claims.{oneIf, counted, countOf, below, above}
 
 -- ---- Tests as numbers
 
+-- A test counts 0 or 1.
 pub oneIf-le : (test : Bool) → oneIf test ≤ 1
 oneIf-le true = omega arith
 oneIf-le false = omega arith
 
+-- Equality as a test is symmetric.
 pub eqb-sym : (a b : ℕ) → eqb a b ≡ eqb b a
 eqb-sym a b = by-order (ℕ-discrete a b)
   where
@@ -33,22 +35,26 @@ eqb-sym a b = by-order (ℕ-discrete a b)
 
 -- ---- One more arrival
 
+-- One more arrival is one more.
 pub counted-snoc : (arrivals : List Arrival) (arrival : Arrival)
     → counted (arrivals ++ (arrival ∷ [])) ≡ counted arrivals + 1
 counted-snoc arrivals arrival = length-snoc arrivals arrival
 
+-- It counts for its item alone.
 pub countOf-snoc : (item : ℕ) (arrivals : List Arrival) (arrival : Arrival)
     → countOf item (arrivals ++ (arrival ∷ []))
     ≡ countOf item arrivals + oneIf (eqb (arrival .item) item)
 countOf-snoc item [] arrival = omega arith
 countOf-snoc item (first ∷ arrivals) arrival = omega (arith, countOf-snoc item arrivals arrival)
 
+-- It is below every larger value.
 pub below-snoc : (value : ℕ) (arrivals : List Arrival) (arrival : Arrival)
     → below value (arrivals ++ (arrival ∷ []))
     ≡ below value arrivals + oneIf (ltb (arrival .value) value)
 below-snoc value [] arrival = omega arith
 below-snoc value (first ∷ arrivals) arrival = omega (arith, below-snoc value arrivals arrival)
 
+-- It is above every smaller value.
 pub above-snoc : (value : ℕ) (arrivals : List Arrival) (arrival : Arrival)
     → above value (arrivals ++ (arrival ∷ []))
     ≡ above value arrivals + oneIf (ltb value (arrival .value))
@@ -57,11 +63,13 @@ above-snoc value (first ∷ arrivals) arrival = omega (arith, above-snoc value a
 
 -- ---- Below and above
 
+-- No value is below 0.
 pub below-zero : (arrivals : List Arrival) → below 0 arrivals ≡ 0
 below-zero [] = refl
 below-zero (arrival ∷ arrivals) =
     rw (le-ltb (arrival .value) 0 (omega arith)) (omega (arith, below-zero arrivals))
 
+-- What is below a value is below a larger one.
 pub below-mono : (v w : ℕ) (arrivals : List Arrival) → v ≤ w → below v arrivals ≤ below w arrivals
 below-mono v w [] v≤w = omega arith
 below-mono v w (arrival ∷ arrivals) v≤w =
@@ -75,6 +83,7 @@ below-mono v w (arrival ∷ arrivals) v≤w =
     by-value (no more) others =
         rw (le-ltb (arrival .value) v (omega arith)) (omega arith)
 
+-- An arrival is at or below a value, or above it.
 pub below-above : (value : ℕ) (arrivals : List Arrival)
     → below (value + 1) arrivals + above value arrivals ≡ counted arrivals
 below-above value [] = refl
@@ -98,12 +107,14 @@ below-above value (arrival ∷ arrivals) =
 
 -- ---- Histograms
 
+-- A histogram of zeros counts nothing.
 pub upTo-zeros : (value n : ℕ) → upTo value (replicate n 0) ≡ 0
 upTo-zeros zero zero = refl
 upTo-zeros zero (suc n) = refl
 upTo-zeros (suc value) zero = refl
 upTo-zeros (suc value) (suc n) = omega (arith, upTo-zeros value n)
 
+-- One more arrival in a histogram counts from its value on.
 pub upTo-oneMore : (w : ℕ) (histogram : List ℕ) (value : ℕ)
     → value < length histogram
     → upTo w (oneMoreAt histogram value) ≡ upTo w histogram + oneIf (ltb value (w + 1))

@@ -112,8 +112,8 @@ closedMoreAfter settings network arrival =
 
 -- ---- The four cases
 
--- No kind 2 goes out; it goes out and is not the k-th signal; it is, and the round is closed, with a
--- new threshold of 1, or of 2 and more.
+-- No kind 2 goes out; it goes out and is not the k-th signal; it is, and the round is closed, with
+-- a new threshold of 1, or of 2 and more.
 pub data ArrivalCase (settings : Settings) (network : Network) (arrival : Arrival) : Type 0 where
   noCountReport : reportsCount (siteAt network (arrival .site)) ≡ false
       → ArrivalCase settings network arrival

@@ -3,16 +3,17 @@
 --
 --   closedSite t site       a site after a close
 --   getD-sitesClosed        place by place
+--   sitesClosed-keeps       a part of a site that a close does not touch
 --   sitesClosed-map         the list as a whole, where it has at most k sites
 --   sumBelow-allPending, sumBelow-allArrivals   sums by place are the sums along the list
 --   baseOf-allPending       the new base, where it has k sites: the total with all pendings
 use mathlib.Core.Path.{_≡_, refl, sym, ap, _∙_}
-use mathlib.Core.List.{List, [], _∷_, _++_, map}
-use Prim.Native.Nat.{ℕ, zero, suc, _+_, _≤_, _<_}
+use mathlib.Core.List.{List, [], _∷_, map}
+use Prim.Native.Nat.{ℕ, _+_, _≤_, _<_}
 use native.Mathlib.Omega.{arith}
 use lib.ListN.{length, getD, length-map}
 use Rattle.laws.proofs.Sums.{sumBelow}
-use Rattle.laws.proofs.Updates.{changeFirst, length-changeFirst, getD-changeFirst-before, changeFirst-all, sumBelow-length}
+use Rattle.laws.proofs.Updates.{changeFirst, length-changeFirst, getD-changeFirst-before, changeFirst-keeps, changeFirst-all, sumBelow-length}
 use Rattle.model.specs.declared.Settings.{Settings}
 use Rattle.model.specs.Site.{Site, freshSite}
 use Rattle.model.specs.NetworkMemory.{allPending, allArrivals}
@@ -37,6 +38,17 @@ getD-sitesClosed settings sites t i below inside =
     getD-changeFirst-before freshSite (told t) (settings .sites) i (sitesPolled settings sites)
     below (omega (arith, length-changeFirst freshSite polled (settings .sites) sites))
     ∙ ap (told t) (getD-changeFirst-before freshSite polled (settings .sites) i sites below inside)
+
+-- A part that neither polls nor announcements touch is as it was, at every place.
+pub sitesClosed-keeps : {B : Type 0} (part : Site → B)
+    → ((site : Site) → part (polled site) ≡ part site)
+    → ((t : ℕ) (site : Site) → part (told t site) ≡ part site)
+    → (settings : Settings) (sites : List Site) (t i : ℕ)
+    → part (getD (sitesClosed settings sites t) i freshSite) ≡ part (getD sites i freshSite)
+sitesClosed-keeps part polled-keeps told-keeps settings sites t i =
+    changeFirst-keeps freshSite (told t) part (told-keeps t) (settings .sites) i
+    (sitesPolled settings sites)
+    ∙ changeFirst-keeps freshSite polled part polled-keeps (settings .sites) i sites
 
 pub sitesClosed-map : (settings : Settings) (sites : List Site) (t : ℕ)
     → length sites ≤ settings .sites

@@ -1,18 +1,17 @@
--- The coordinator's numbers stay sound whichever message it takes, for a coordinator of any content.
--- PROOF.md section 7, "phase by phase".
+-- The coordinator's numbers stay sound whichever message it takes, for a coordinator of any
+-- content. PROOF.md section 7, "phase by phase".
 --
 --   numbers-fresh, numbers-phase, numbers-rest     a fresh one; another phase; at rest again
 --   numbers-item, numbers-count                    kinds 1 and 2
 --   numbers-total, numbers-base, numbers-quantile  kinds 4 and 6
-use mathlib.Core.Path.{_≡_, refl, sym, ap, _∙_}
+use mathlib.Core.Path.{_≡_, refl, sym, _∙_}
 use mathlib.Core.Bool.{Bool, true, false}
 use mathlib.Core.List.{List}
-use Prim.Native.Nat.{ℕ, zero, suc, _+_, _≤_, _<_}
+use Prim.Native.Nat.{ℕ, _+_, _≤_, _<_}
 use native.Mathlib.Omega.{arith}
-use native.Mathlib.Decide.{ℕ-discrete}
 use lib.Dec.{eqb}
 use lib.ListN.{length, getD, set, length-set, length-replicate}
-use borrow.Author.Tests.{eq-eqb, ne-eqb}
+use borrow.Author.Tests.{eq-eqb}
 use Rattle.model.specs.declared.Settings.{Settings}
 use Rattle.model.specs.declared.Phase.{Phase}
 use Rattle.model.specs.Limits.{topValue, valueCount}
@@ -22,7 +21,7 @@ use Rattle.model.specs.Site.{oneMoreAt}
 use Rattle.model.specs.SiteMemory.{sum}
 use Rattle.model.specs.Coordinator.{Coordinator, freshCoordinator, withPhase, withTotal, withBase, withQuantile, atRest}
 use Rattle.model.specs.SoundNetwork.{SoundNumbers}
-use Rattle.model.proofs.Threshold.{threshold-positive, threshold-mono, threshold-of-zero}
+use Rattle.model.proofs.Threshold.{threshold-mono, threshold-of-zero}
 use Rattle.model.proofs.SoundSites.{sum-zeros, sum-oneMore, value-counted}
 
 pub numbers-fresh : (settings : Settings) → SoundNumbers settings (freshCoordinator settings)

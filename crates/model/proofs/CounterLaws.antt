@@ -16,6 +16,7 @@ use Rattle.model.specs.Counters.{Counter, noCounter, counterAt, find, pr
 
 -- ---- Where an item is
 
+-- The lowest place that holds the item, or the number of counters.
 pub record Found (item : ℕ) (counters : List Counter) (place : ℕ) : Type 0 where
   pub within : place ≤ length counters
   pub holds : place < length counters → counterAt counters place .item ≡ item
@@ -35,6 +36,7 @@ found-later item counter counters place differs later = record {
     not-before zero before same = eqb-false (counter .item) item differs same
     not-before (suc j) before same = later .lowest j (omega arith) same
 
+-- `find` answers it.
 pub find-is : (item : ℕ) (counters : List Counter) → Found item counters (find item counters)
 find-is item [] = record {
   within = omega arith;
@@ -57,6 +59,7 @@ find-is item (counter ∷ counters) =
 
 -- ---- Where the least count is
 
+-- No counter has a smaller count than the one at this place.
 pub record LeastAt (counters : List Counter) (place : ℕ) : Type 0 where
   pub inside : place < length counters
   pub least : (j : ℕ) → j < length counters
@@ -148,6 +151,7 @@ leastFrom-is place best least (counter ∷ counters) =
     by-order false later if-taken if-not =
         rw (later, leastFrom) (passed-over _ (count-of-not-precedes counter least later) if-not)
 
+-- `leastPlace` answers such a place, of at least one counter.
 pub leastPlace-is : (counters : List Counter)
     → 1 ≤ length counters
     → LeastAt counters (leastPlace counters)

@@ -22,6 +22,7 @@ use Rattle.model.proofs.Replacement.{saved-replaced}
 
 -- ---- Placements
 
+-- What each placement of an item tells of the counters.
 pub data Placed (capacity : ℕ) (counters : List Counter) (item : ℕ) : Placement → Type 0 where
   in-own : (place : ℕ)
       → place < length counters
@@ -36,6 +37,7 @@ pub data Placed (capacity : ℕ) (counters : List Counter) (item : ℕ) : Placem
       → capacity ≤ length counters
       → Placed capacity counters item (replaced place)
 
+-- The placement that the model chooses is one of the three.
 pub placementFor-is : (capacity : ℕ) (counters : List Counter) (item : ℕ)
     → 1 ≤ capacity
     → Placed capacity counters item (placementFor capacity counters item)
@@ -118,6 +120,7 @@ module _ {arrived reported : ℕ → ℕ} {capacity n item : ℕ} {counters : Li
       counted-set place (unreported (counterAt counters place))
       (replacing (counterAt counters place) item) (least-at .inside) refl (omega arith)
 
+-- In each of the three, what the counters say stays right.
 pub saved-placed : {arrived arrived′ reported : ℕ → ℕ} {capacity n item : ℕ}
     {counters : List Counter} {placement : Placement}
     → GrowsAt item 1 arrived arrived′

@@ -4,30 +4,29 @@
 --   baseOf settings sites total       the total with all pendings: the new base
 --   quantileFound settings sites base what the ten halvings leave
 --   sitesClosed settings sites t      the sites: pendings 0, threshold t
---   closeOne, closeMore               the delivery of a close whose new threshold is 1, or 2 and more
+--   closeOne, closeMore               the delivery of a close: new threshold 1, or 2 and more
 --   closeMessagesOne, closeMessagesMore   their messages, 3 * k and 23 * k of them
 -- Letters: k the sites, l the last of them, t a threshold.
-use mathlib.Core.Path.{_≡_, refl, sym, ap, _∙_, subst}
-use mathlib.Core.Bool.{Bool, true, false}
+use mathlib.Core.Path.{_≡_, refl, ap, subst}
+use mathlib.Core.Bool.{Bool}
 use mathlib.Core.List.{List, [], _∷_, _++_}
-use Prim.Native.Nat.{ℕ, zero, suc, _+_, _*_, _^_, _≤_, _<_}
+use Prim.Native.Nat.{ℕ, suc, _+_, _*_, _≤_, _<_}
 use native.Mathlib.Omega.{arith}
-use lib.ListN.{length, getD, set, length-append}
+use lib.ListN.{length, length-append}
 use Rattle.laws.proofs.Sums.{sumBelow, sumBelow-same}
 use Rattle.laws.proofs.Updates.{changeFirst, changeFirst-keeps}
 use Rattle.model.specs.declared.Settings.{Settings}
 use Rattle.model.specs.declared.Message.{Message}
-use Rattle.model.specs.declared.Phase.{Phase}
-use Rattle.model.specs.declared.Phase.the-variants.{Idle, Collecting, Probing, Announcing}
+use Rattle.model.specs.declared.Phase.the-variants.{Idle, Collecting, Announcing}
 use Rattle.model.specs.Limits.{topValue}
 use Rattle.model.specs.Settings.{thresholdOf}
-use Rattle.model.specs.Messages.{poll, pollAnswer, probe}
+use Rattle.model.specs.Messages.{poll, pollAnswer}
 use Rattle.model.specs.Site.{Site, freshSite, upTo}
-use Rattle.model.specs.Coordinator.{Coordinator, withPhase, withTotal, withBase, withQuantile, atRest, middle, enough}
+use Rattle.model.specs.Coordinator.{Coordinator, withPhase, withTotal, withBase, withQuantile, atRest, enough}
 use Rattle.model.specs.Network.{Network}
 use Rattle.model.proofs.Halving.{halve}
 use Rattle.model.proofs.DeliverySteps.{Delivers, more-steps}
-use Rattle.model.proofs.DeliveryMessages.{pendingAt, upToAt, exchanges, length-exchanges, pollMessages, halvingMessages, length-halvingMessages, announcements, length-announcements}
+use Rattle.model.proofs.DeliveryMessages.{pendingAt, upToAt, length-exchanges, pollMessages, halvingMessages, length-halvingMessages, announcements, length-announcements}
 use Rattle.model.proofs.DeliveryLoops.{networkOf, polled, told, polls, poll-last-one, poll-last-more, pending-unpolled, announces}
 use Rattle.model.proofs.DeliveryHalvings.{countUpTo, halvings-end}
 

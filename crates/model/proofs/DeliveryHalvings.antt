@@ -1,28 +1,26 @@
--- The halvings of a close: each asks every site in turn and narrows the interval, until one value is
--- left. For a free number of halvings, and any interval. PROOF.md sections 4 and 5.
+-- The halvings of a close: each asks every site in turn and narrows the interval, until one value
+-- is left. For a free number of halvings, and any interval. PROOF.md sections 4 and 5.
 --
 --   countUpTo settings sites value   the arrivals at or below a value, summed over the sites
 --   probes                           from any site on, to the probe of the last site
 --   halvings-end                     all halvings, from any interval of at most 2 ^ h values
 -- Letters: k the sites, l the last of them, j the site that is asked, r the sites after it, h
 -- halvings, n steps of the delivery that follows.
-use mathlib.Core.Path.{_≡_, refl, sym, ap, _∙_, subst}
+use mathlib.Core.Path.{_≡_, refl, ap, _∙_, subst}
 use mathlib.Core.Bool.{Bool, true, false}
 use mathlib.Core.List.{List, [], _∷_, _++_, append-assoc}
 use Prim.Native.Nat.{ℕ, zero, suc, _+_, _*_, _^_, _≤_, _<_}
 use native.Mathlib.Omega.{arith}
 use native.Mathlib.Numerals.{add-one}
-use lib.Dec.{eqb, ltb, leb}
-use lib.ListN.{getD, set}
+use lib.Dec.{eqb, ltb}
 use lib.Seq.{set-getD}
 use borrow.Author.Tests.{lt-ltb, le-ltb, eqb-true, eqb-false, eq-eqb, ne-eqb}
 use Rattle.laws.proofs.Sums.{sumBelow}
 use Rattle.model.specs.declared.Settings.{Settings}
 use Rattle.model.specs.declared.Message.{Message}
-use Rattle.model.specs.declared.Phase.{Phase}
-use Rattle.model.specs.declared.Phase.the-variants.{Idle, Collecting, Probing, Announcing}
+use Rattle.model.specs.declared.Phase.the-variants.{Probing, Announcing}
 use Rattle.model.specs.Messages.{probe, probeAnswer}
-use Rattle.model.specs.Site.{Site, freshSite, upTo}
+use Rattle.model.specs.Site.{Site, freshSite}
 use Rattle.model.specs.Coordinator.{Coordinator, withPhase, withQuantile, middle, enough, narrowed}
 use Rattle.model.specs.Network.{Network}
 use Rattle.model.proofs.Halving.{halve, halve-done, halve-lower, halve-upper}

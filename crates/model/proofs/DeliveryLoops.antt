@@ -9,31 +9,28 @@
 --   announces               all announcements, to the end
 -- Letters: k the sites, l the last of them, j the site that is asked, r the sites after it, h
 -- halvings, n steps of the delivery that follows.
-use mathlib.Core.Path.{_≡_, refl, sym, ap, _∙_, subst}
-use mathlib.Core.Bool.{Bool, true, false}
-use mathlib.Core.List.{List, [], _∷_, _++_, append-assoc}
-use Prim.Native.Nat.{ℕ, zero, suc, _+_, _*_, _^_, _≤_, _<_}
+use mathlib.Core.Path.{_≡_, refl, ap}
+use mathlib.Core.Bool.{true, false}
+use mathlib.Core.List.{List, [], _∷_, _++_}
+use Prim.Native.Nat.{ℕ, zero, suc, _+_, _*_, _≤_, _<_}
 use native.Mathlib.Omega.{arith}
 use native.Mathlib.Numerals.{add-one}
-use lib.Dec.{eqb, ltb, leb}
+use lib.Dec.{ltb, leb}
 use lib.ListN.{getD, set}
-use lib.Seq.{set-getD}
-use borrow.Author.Tests.{lt-ltb, le-ltb, le-leb, lt-leb, eq-eqb, ne-eqb}
+use borrow.Author.Tests.{lt-ltb, le-ltb, le-leb, lt-leb}
 use Rattle.laws.proofs.Sums.{sumBelow}
 use Rattle.laws.proofs.Updates.{changeFirst, getD-changeFirst-after}
 use Rattle.model.specs.declared.Settings.{Settings}
 use Rattle.model.specs.declared.Message.{Message}
-use Rattle.model.specs.declared.Phase.{Phase}
-use Rattle.model.specs.declared.Phase.the-variants.{Idle, Collecting, Probing, Announcing}
+use Rattle.model.specs.declared.Phase.the-variants.{Collecting, Probing, Announcing}
 use Rattle.model.specs.Limits.{topValue}
 use Rattle.model.specs.Settings.{thresholdOf}
-use Rattle.model.specs.Messages.{poll, pollAnswer, probe, probeAnswer, announcement}
-use Rattle.model.specs.Site.{Site, freshSite, upTo, withPending, withThreshold}
-use Rattle.model.specs.Coordinator.{Coordinator, withPhase, withTotal, withBase, withQuantile, atRest, middle, enough}
+use Rattle.model.specs.Messages.{poll, pollAnswer, probe, announcement}
+use Rattle.model.specs.Site.{Site, freshSite, withPending, withThreshold}
+use Rattle.model.specs.Coordinator.{Coordinator, withPhase, withTotal, withBase, atRest, middle}
 use Rattle.model.specs.Network.{Network}
-use Rattle.model.proofs.Halving.{halve, halve-done, halve-lower, halve-upper}
 use Rattle.model.proofs.DeliverySteps.{Delivers, hands, asks, rests, more-steps}
-use Rattle.model.proofs.DeliveryMessages.{pendingAt, upToAt, pollMessages, probeMessages, halvingMessages, halvingMessages-done, halvingMessages-lower, halvingMessages-upper, announcements}
+use Rattle.model.proofs.DeliveryMessages.{pendingAt, pollMessages, announcements}
 
 abbrev pub networkOf : List Site → Coordinator → Network
 networkOf sites c = record { sites = sites; coordinator = c }

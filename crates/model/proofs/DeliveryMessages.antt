@@ -5,10 +5,10 @@
 --   halvingMessages sites k test h low high  kinds 5 and 6 of up to h halvings at k sites
 --   announcements threshold base j n         kind 7 for n sites from site j on
 --   length-*                                 their numbers: 2 * n, 2 * n, 2 * k a halving, n
-use mathlib.Core.Path.{_≡_, refl, sym, ap, _∙_}
+use mathlib.Core.Path.{_≡_, refl}
 use mathlib.Core.Bool.{Bool, true, false}
 use mathlib.Core.List.{List, [], _∷_, _++_}
-use Prim.Native.Nat.{ℕ, zero, suc, _+_, _*_, _^_, _≤_, _<_}
+use Prim.Native.Nat.{ℕ, zero, suc, _+_, _*_, _^_, _<_}
 use native.Mathlib.Omega.{arith}
 use lib.Dec.{eqb}
 use lib.ListN.{length, getD, length-append}

@@ -2,19 +2,18 @@
 -- Both from the closed form of a delivery, case by case. PROOF.md section 4.
 use mathlib.Core.Path.{_≡_, refl, sym, ap, _∙_}
 use mathlib.Core.Bool.{Bool, true, false}
-use mathlib.Core.List.{List, [], _∷_, _++_}
+use mathlib.Core.List.{[]}
 use Prim.Native.Nat.{ℕ, _+_, _*_, _≤_}
 use native.Mathlib.Omega.{arith}
 use lib.ListN.{length}
 use Rattle.model.specs.declared.Settings.{Settings}
 use Rattle.model.specs.declared.Arrival.{Arrival}
-use Rattle.model.specs.declared.Message.{Message}
 use Rattle.model.specs.declared.Phase.the-variants.{Idle}
 use Rattle.model.specs.Refusals.{when}
 use Rattle.model.specs.Limits.{mostMessages}
 use Rattle.model.specs.Site.{reportsItem, reportsCount}
 use Rattle.model.specs.Network.{Network, siteAt, deliveryFuel, afterArrival}
-use Rattle.model.specs.DeliveryClaims.{Delivery, delivery, deliverySteps, outcome, deliveryOf, Resting, DeliveryClaims}
+use Rattle.model.specs.DeliveryClaims.{delivery, deliverySteps, outcome, deliveryOf, Resting, DeliveryClaims}
 use Rattle.model.proofs.DeliverySteps.{delivered-is-steps}
 use Rattle.model.proofs.ArrivalParts.{firstMessages, ArrivalCase, noCountReport, countReported, closesOne, closesMore, arrival-case, networkThen, messagesThen, closeCount, length-firstMessages, length-messagesThen}
 use Rattle.model.proofs.AfterArrival.{delivers-after, after-arrival}

@@ -16,9 +16,11 @@ use lib.Seq.{getD-set-same, getD-set-other}
 use Rattle.laws.proofs.Lists.{length-snoc, getD-snoc-old, getD-snoc-new}
 use Rattle.model.specs.Counters.{Counter, noCounter, counterAt}
 
+-- No counter holds the item.
 pub record Absent (item : ℕ) (counters : List Counter) : Type 0 where
   pub nowhere : (j : ℕ) → j < length counters → counterAt counters j .item ≡ item → ⊥
 
+-- No two counters hold the same item.
 pub record Apart (counters : List Counter) : Type 0 where
   pub same-place : (i j : ℕ)
       → i < length counters
@@ -42,6 +44,7 @@ module _ (counters : List Counter) (place : ℕ) (counter : Counter)
   there : (j : ℕ) → (j ≡ place → ⊥) → counterAt changed j ≡ counterAt counters j
   there j other = getD-set-other counters place j counter noCounter other
 
+  -- Items stay apart if the new counter's item is nowhere else.
   pub apart-set : Apart counters
       → ((j : ℕ) → j < length counters → (j ≡ place → ⊥)
       → counterAt counters j .item ≡ counter .item → ⊥)
@@ -74,6 +77,7 @@ module _ (counters : List Counter) (place : ℕ) (counter : Counter)
     pub not-elsewhere : (j : ℕ) → j < length counters → (j ≡ place → ⊥)
         → counterAt counters j .item ≡ item → ⊥
 
+  -- An item that is absent now was neither the new one nor elsewhere.
   pub absent-of-set : (item : ℕ) → Absent item changed → AbsentSet item
   absent-of-set item absent = record {
     not-new = λ same. absent .nowhere place (omega (arith, same-length)) (cc here);
@@ -111,10 +115,12 @@ module _ (counters : List Counter) (counter : Counter) where
   new-place : counterAt extended (length counters) ≡ counter
   new-place = getD-snoc-new noCounter counters counter
 
+  -- What an item that is absent after a counter was added was before it.
   pub record AbsentSnoc (item : ℕ) : Type 0 where
     pub not-new : counter .item ≡ item → ⊥
     pub absent-before : Absent item counters
 
+  -- An item that is absent now was absent before, and is not the new one.
   pub absent-of-snoc : (item : ℕ) → Absent item extended → AbsentSnoc item
   absent-of-snoc item absent = record {
     not-new = λ same. absent .nowhere (length counters) (omega (arith, longer)) (cc new-place);
@@ -123,6 +129,7 @@ module _ (counters : List Counter) (counter : Counter) where
     };
   }
 
+  -- Items stay apart if the new counter's item was absent.
   pub apart-snoc : Apart counters → Absent (counter .item) counters → Apart extended
   apart-snoc apart new = record { same-place = by-places }
     where

@@ -27,6 +27,7 @@ use Rattle.model.proofs.DeliveryMessages.{pendingAt}
 use Rattle.model.proofs.SitesInvariant.{arrivalsAt}
 use Rattle.model.proofs.NetworkInvariant.{NetworkOk}
 
+-- What holds of a network at rest, of the one that a run ends with.
 abbrev pub RunOk : Settings → Run → Type 0
 RunOk settings run = NetworkOk settings (run .network) (run .accepted) (run .messages)
 
@@ -60,9 +61,11 @@ module _ {settings : Settings} {run : Run} (fit : Settled settings) (ok : RunOk 
   threshold-splits : t ≡ w + 1
   threshold-splits = omega (arith, ok .account .threshold-positive)
 
+  -- k × t, split into what may be pending and k.
   pub times-threshold : k * t ≡ k * w + k
   times-threshold = omega (arith, ap (λ (z : ℕ). k * z) threshold-splits)
 
+  -- Each of k sites has at most w pending.
   pub pending-few : pending ≤ k * w
   pending-few =
       omega (
@@ -76,6 +79,7 @@ module _ {settings : Settings} {run : Run} (fit : Settled settings) (ok : RunOk 
   pub all-counted : n ≡ total + pending
   all-counted = omega (arith, ok .total-is, ok .account .arrivals-are)
 
+  -- The total never falls below the base.
   pub base-le-total : base ≤ total
   base-le-total = omega (arith, ok .total-is)
 
@@ -192,6 +196,7 @@ module _ {settings : Settings} {run : Run} (fit : Settled settings) (ok : RunOk 
           mul-le-mul-right (e * n) small,
         )
 
+  -- All bounds on estimates and total.
   pub estimates-of-ok : Estimates settings run
   estimates-of-ok = record {
     estimate-le = estimate-le;

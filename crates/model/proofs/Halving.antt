@@ -15,6 +15,7 @@ use lib.Pow.{pow-pos}
 use borrow.Author.Tests.{eqb-true, eqb-false, eq-eqb, ne-eqb}
 use Rattle.model.specs.Coordinator.{middle}
 
+-- Stops early where low = high; otherwise the half in which the test begins to hold.
 pub halve : (ℕ → Bool) → ℕ → ℕ → ℕ → ℕ
 halve test zero low high = low
 halve test (suc h) low high =
@@ -26,6 +27,7 @@ halve test (suc h) low high =
       ]
     ]
 
+-- Counts the steps of `halve`.
 pub halvings : (ℕ → Bool) → ℕ → ℕ → ℕ → ℕ
 halvings test zero low high = 0
 halvings test (suc h) low high =
@@ -39,11 +41,13 @@ halvings test (suc h) low high =
 
 -- ---- One halving
 
+-- An interval of one value is that value.
 pub halve-done : (test : ℕ → Bool) (h low high : ℕ) → low ≡ high → halve test h low high ≡ low
 unfolding halve
 halve-done test zero low high done = refl
 halve-done test (suc h) low high done = rw (eq-eqb low high done, halve)
 
+-- The test holds at the middle: the lower half is left.
 pub halve-lower : (test : ℕ → Bool) (h low high : ℕ)
     → low < high
     → test (middle low high) ≡ true
@@ -52,6 +56,7 @@ unfolding halve
 halve-lower test h low high wide holds =
     rw (ne-eqb low high (λ done. omega arith), halve, holds, halve)
 
+-- It fails there: the upper half is left.
 pub halve-upper : (test : ℕ → Bool) (h low high : ℕ)
     → low < high
     → test (middle low high) ≡ false
@@ -60,11 +65,13 @@ unfolding halve
 halve-upper test h low high wide fails =
     rw (ne-eqb low high (λ done. omega arith), halve, fails, halve)
 
+-- An interval of one value takes none.
 pub halvings-done : (test : ℕ → Bool) (h low high : ℕ) → low ≡ high → halvings test h low high ≡ 0
 unfolding halvings
 halvings-done test zero low high done = refl
 halvings-done test (suc h) low high done = rw (eq-eqb low high done, halvings)
 
+-- One step to the lower half, and those that follow.
 pub halvings-lower : (test : ℕ → Bool) (h low high : ℕ)
     → low < high
     → test (middle low high) ≡ true
@@ -73,6 +80,7 @@ unfolding halvings
 halvings-lower test h low high wide holds =
     rw (ne-eqb low high (λ done. omega arith), halvings, holds, halvings)
 
+-- One step to the upper half, and those that follow.
 pub halvings-upper : (test : ℕ → Bool) (h low high : ℕ)
     → low < high
     → test (middle low high) ≡ false

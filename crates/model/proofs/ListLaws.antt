@@ -147,6 +147,7 @@ module _ (settings : Settings) (c : Coordinator) where
       let unlisted : isListed settings c first ≡ false = unlisted-at first none in
       rw unlisted (among-none none more (first + 1))
 
+  -- The three laws of the list, of every coordinator.
   pub list-law : ListLaw settings c
   list-law = record {
     listed-exactly = listed-exactly;

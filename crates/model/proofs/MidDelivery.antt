@@ -1,27 +1,25 @@
--- A delivery in mid-way, whatever it has done so far: each step keeps a stage, and finishing it in the
--- model's order comes to the same network and the same messages. PROOF.md sections 4 and 7.
+-- A delivery in mid-way, whatever it has done so far: each step keeps a stage, and finishing it in
+-- the model's order comes to the same network and the same messages. PROOF.md sections 4 and 7.
 --
 --   hand-on, ask-on         the head of the queue is accepted; the two steps keep a stage
 --   Finishes                finishing from here ends there, with all these messages
 --   ask-early               a kind 7 asked for while others wait: the same as in the model's order
 --   MidDelivery             a stage from which the delivery finishes as it should
 --   mid-handed, mid-asked   kept by both steps
-use mathlib.Core.Path.{_≡_, refl, sym, ap, _∙_, subst}
+use mathlib.Core.Path.{_≡_, refl, sym, _∙_}
 use mathlib.Core.Bool.{Bool, true, false, false≢true}
-use mathlib.Core.List.{List, [], _∷_, _++_, append-nil}
-use Prim.Native.Nat.{ℕ, zero, suc, _+_, _-_, _*_, _≤_, _<_}
+use mathlib.Core.List.{List, [], _∷_, append-nil}
+use Prim.Native.Nat.{ℕ, zero, suc, _-_, _≤_, _<_}
 use native.Mathlib.Omega.{arith}
 use lib.Dec.{ltb}
 use borrow.Author.Tests.{ltb-true}
 use Rattle.model.specs.declared.Settings.{Settings}
 use Rattle.model.specs.declared.Message.{Message}
-use Rattle.model.specs.declared.Phase.{Phase}
-use Rattle.model.specs.declared.Phase.the-variants.{Idle, Collecting, Probing, Announcing}
-use Rattle.model.specs.Refusals.{accepted}
+use Rattle.model.specs.declared.Phase.the-variants.{Idle}
 use Rattle.model.specs.Messages.{announcement}
 use Rattle.model.specs.Coordinator.{isAnnouncing}
 use Rattle.model.specs.Network.{Network, handOver, askAnnouncement}
-use Rattle.model.specs.DeliveryClaims.{Delivery, delivery, joining, deliverySteps, messageRefusal}
+use Rattle.model.specs.DeliveryClaims.{Delivery, delivery, joining, deliverySteps}
 use Rattle.model.proofs.SettingsLaws.{Settled}
 use Rattle.model.proofs.DeliverySteps.{steps-asked}
 use Rattle.model.proofs.DeliveryMessages.{announcements}

@@ -56,15 +56,19 @@ module _ {settings : Settings} {network : Network}
   abbrev sites : List Site
   sites = observedSites settings network arrival
 
+  -- The arrivals accepted, with this one.
   abbrev pub acceptedWith : List Arrival
   acceptedWith = accepted ++ (arrival ∷ [])
 
+  -- All messages, with the arrival's own.
   abbrev pub messagesWith : List Message
   messagesWith = messages ++ firstMessages settings network arrival
 
+  -- Each site's arrivals of each item, with this one.
   abbrev pub arrivedWith : ℕ → ℕ → ℕ
   arrivedWith = growAt (ok .arrived) (arrival .site) (arrival .item) 1
 
+  -- Each site's reports of each item, with this one's report, if one is due.
   abbrev pub reportedWith : ℕ → ℕ → ℕ
   reportedWith =
       growAt (ok .reported) (arrival .site) (arrival .item)
@@ -86,9 +90,11 @@ module _ {settings : Settings} {network : Network}
       site arrival (fit .capacity .at-least) (ok .account .threshold-positive) value-inside
       (ok .sites-ok .each-ok (arrival .site) (known .site-known))
 
+  -- The sites when the arrival is observed.
   pub sites-then : SitesOk settings threshold sites arrivedWith reportedWith acceptedWith
   sites-then = sites-arrival (ok .sites-ok) (known .site-known) (known .value-known) observed-here
 
+  -- N3 after the item report, if one is due.
   pub estimates-then : (item : ℕ)
       → getD (afterItemReport settings network arrival .estimates) item 0
       ≡ sumBelow (λ j. reportedWith j item) (settings .sites)
@@ -110,6 +116,7 @@ module _ {settings : Settings} {network : Network}
             (settings .sites) item (known .site-known),
       )
 
+  -- There is still an estimate for each item.
   pub estimates-long-then : length (afterItemReport settings network arrival .estimates)
       ≡ settings .universe
   estimates-long-then =
@@ -139,6 +146,7 @@ module _ {settings : Settings} {network : Network}
     messages = length messagesWith;
   }
 
+  -- The account after the arrival's own messages.
   pub account-then : (countDue : Bool) → reportsCount site ≡ countDue
       → Account (settings .sites) (settings .epsilon) probingMessages
       (figuresWith (network .coordinator .signals + when countDue 1))
@@ -181,6 +189,7 @@ module _ {settings : Settings} {network : Network}
       (early-arrival (network .coordinator .histogram) accepted arrival value-inside
       (ok .early-values one))
 
+  -- No count report goes out.
   pub kept-silent : reportsCount site ≡ false
       → NetworkOk settings (networkOf sites (afterItemReport settings network arrival))
       acceptedWith messagesWith
@@ -207,10 +216,12 @@ module _ {settings : Settings} {network : Network}
       no-more : network .coordinator .signals + when false 1 ≡ network .coordinator .signals
       no-more = omega arith
 
+  -- N2 after the count report.
   pub total-then : network .coordinator .total + site .threshold
       ≡ network .coordinator .base + (network .coordinator .signals + 1) * threshold
   total-then = omega (arith, ok .total-is, same-threshold)
 
+  -- A count report goes out, and it is not the k-th.
   pub kept-signal : reportsCount site ≡ true
       → (network .coordinator .signals + 1 ≡ settings .sites → ⊥)
       → NetworkOk settings (networkOf sites (afterCountReport settings network arrival Idle))

@@ -15,20 +15,22 @@ use Rattle.laws.proofs.Sums.{sumBelow, sumBelow-const, sumOf}
 use Rattle.model.specs.declared.Settings.{Settings}
 use Rattle.model.specs.declared.Arrival.{Arrival}
 use Rattle.model.specs.declared.Message.{Message}
+use Rattle.model.specs.declared.Phase.the-variants.{Idle}
 use Rattle.model.specs.Limits.{topValue}
 use Rattle.model.specs.Settings.{thresholdOf}
 use Rattle.model.specs.Counters.{unreported}
 use Rattle.model.specs.Site.{Site, reportsCount}
-use Rattle.model.specs.Coordinator.{enough}
+use Rattle.model.specs.Coordinator.{withBase, withQuantile, atRest, enough}
 use Rattle.model.specs.Network.{Network, siteAt, afterArrival}
 use Rattle.model.specs.Claims.{counted, below}
 use Rattle.model.proofs.SettingsLaws.{Settled}
 use Rattle.model.proofs.Threshold.{threshold-positive, threshold-mono, threshold-low, threshold-high, base-of-threshold-one}
 use Rattle.model.proofs.Rounds.{Figures, Account, CloseIn, account-close-quiet, account-close-probing}
+use Rattle.model.proofs.DeliveryLoops.{networkOf}
 use Rattle.model.proofs.DeliveryMessages.{pendingAt}
 use Rattle.model.proofs.DeliveryHalvings.{countUpTo}
 use Rattle.model.proofs.DeliveryClose.{enoughAt, quantileFound, sitesClosed, closeMessagesOne, closeMessagesMore, length-closeMessagesOne, length-closeMessagesMore}
-use Rattle.model.proofs.ArrivalParts.{observedSites, firstMessages, baseAfter, closedOneAfter, closedMoreAfter, ArrivalCase, noCountReport, countReported, closesOne, closesMore, arrival-case, networkThen, messagesThen}
+use Rattle.model.proofs.ArrivalParts.{observedSites, firstMessages, afterCountReport, baseAfter, closedOneAfter, closedMoreAfter, ArrivalCase, noCountReport, countReported, closesOne, closesMore, arrival-case, networkThen, messagesThen}
 use Rattle.model.proofs.AfterArrival.{after-arrival}
 use Rattle.model.proofs.SitesInvariant.{SitesOk, unreportedAt, few-pending, sum-closed, sites-close}
 use Rattle.model.proofs.QuantileLaws.{LateQuantile, late-of-halving}
@@ -160,42 +162,49 @@ module _ {settings : Settings} {network : Network}
 
   -- ---- The network after the close
 
+  -- With this quantile and these messages of the close.
+  kept-close : (quantile : ℕ) (closing : List Message)
+      → (threshold′ ≡ 1 → network .coordinator .threshold ≡ 1)
+      → (2 ≤ threshold′ → LateQuantile (settings .rank) quantile base accepted′)
+      → Account k (settings .epsilon) probingMessages (figuresClosed closing)
+      → NetworkOk settings
+      (networkOf (sitesClosed settings sites threshold′)
+      (atRest (withQuantile
+      (withBase (afterCountReport settings network arrival Idle) base threshold′ Idle)
+      quantile Idle)))
+      accepted′ (messages ++ (first ++ closing))
+  kept-close quantile closing was-one late account = record {
+    arrived = arrivedWith fit ok arrival known;
+    reported = reportedWith fit ok arrival known;
+    idle = refl;
+    few-signals = fit .sites .at-least;
+    threshold-is = refl;
+    sites-ok = closed-ok;
+    total-is = omega arith;
+    estimates-long = estimates-long-then fit ok arrival known;
+    estimates-are = estimates-then fit ok arrival known;
+    early-values = λ one. early-then fit ok arrival known due (was-one one);
+    late-quantile = late;
+    account = account;
+  }
+
+  -- The round is closed, and the threshold is still 1.
   pub kept-close-one : threshold′ < 2
       → NetworkOk settings (closedOneAfter settings network arrival) accepted′
       (messages ++ (first ++ closeMessagesOne settings sites base))
-  kept-close-one less = record {
-    arrived = arrivedWith fit ok arrival known;
-    reported = reportedWith fit ok arrival known;
-    idle = refl;
-    few-signals = fit .sites .at-least;
-    threshold-is = refl;
-    sites-ok = closed-ok;
-    total-is = omega arith;
-    estimates-long = estimates-long-then fit ok arrival known;
-    estimates-are = estimates-then fit ok arrival known;
-    early-values = λ one. early-then fit ok arrival known due
-        (omega (arith, rises, ok .account .threshold-positive));
-    late-quantile = λ two. absurd (omega arith);
-    account = account-one (omega (arith, threshold-positive settings base));
-  }
+  kept-close-one less =
+      kept-close (network .coordinator .quantile) (closeMessagesOne settings sites base)
+      (λ one. omega (arith, rises, ok .account .threshold-positive))
+      (λ two. absurd (omega arith))
+      (account-one (omega (arith, threshold-positive settings base)))
 
+  -- The round is closed, and the quantile was probed for.
   pub kept-close-more : 2 ≤ threshold′
       → NetworkOk settings (closedMoreAfter settings network arrival) accepted′
       (messages ++ (first ++ closeMessagesMore settings sites base))
-  kept-close-more two = record {
-    arrived = arrivedWith fit ok arrival known;
-    reported = reportedWith fit ok arrival known;
-    idle = refl;
-    few-signals = fit .sites .at-least;
-    threshold-is = refl;
-    sites-ok = closed-ok;
-    total-is = omega arith;
-    estimates-long = estimates-long-then fit ok arrival known;
-    estimates-are = estimates-then fit ok arrival known;
-    early-values = λ one. absurd (omega arith);
-    late-quantile = λ _. late-found;
-    account = account-more two;
-  }
+  kept-close-more two =
+      kept-close (quantileFound settings sites base) (closeMessagesMore settings sites base)
+      (λ one. absurd (omega arith)) (λ _. late-found) (account-more two)
 
 -- ---- Every accepted arrival
 
@@ -216,6 +225,7 @@ kept-case fit ok arrival known (closesOne due last one) =
 kept-case fit ok arrival known (closesMore due last more) =
     kept-close-more fit ok arrival known due last more
 
+-- Whichever case it is: an accepted arrival with full delivery.
 pub network-ok-arrival : {settings : Settings} {network : Network}
     {accepted : List Arrival} {messages : List Message}
     → Settled settings

@@ -28,7 +28,7 @@ use Rattle.model.specs.Claims.{counted}
 use Rattle.model.proofs.RefusalLaws.{passed, both-accepted}
 use Rattle.model.proofs.SettingsLaws.{Settled}
 use Rattle.model.proofs.Threshold.{threshold-of-zero}
-use Rattle.model.proofs.Rounds.{Figures, Account, account-fresh}
+use Rattle.model.proofs.Rounds.{Figures, Account, freshFigures, account-fresh}
 use Rattle.model.proofs.ArrivalLaws.{upTo-zeros}
 use Rattle.model.proofs.SiteInvariant.{site-fresh}
 use Rattle.model.proofs.DeliveryMessages.{pendingAt}
@@ -41,6 +41,7 @@ use Rattle.model.proofs.QuantileLaws.{EarlyValues, early-fresh, LateQua
 abbrev pub probingMessages : ℕ
 probingMessages = 20
 
+-- The numbers of a network that the account speaks of.
 abbrev pub figuresOf : Settings → Network → List Arrival → List Message → Figures
 figuresOf settings network accepted messages = record {
   threshold = network .coordinator .threshold;
@@ -52,6 +53,7 @@ figuresOf settings network accepted messages = record {
   messages = length messages;
 }
 
+-- What holds of a network at rest, with the arrivals accepted and all messages so far.
 pub record NetworkOk (settings : Settings) (network : Network)
     (accepted : List Arrival) (messages : List Message) : Type 0 where
   -- of each site and item: its arrivals there, and the sum of its item reports from there
@@ -108,21 +110,14 @@ module _ (settings : Settings) (fit : Settled settings) where
     values-known = refl;
   }
 
-  figures-fresh : figuresOf settings fresh [] [] ≡ record {
-    threshold = 1;
-    base = 0;
-    arrivals = 0;
-    pending = 0;
-    signals = 0;
-    unreported = 0;
-    messages = 0;
-  }
+  figures-fresh : figuresOf settings fresh [] [] ≡ freshFigures
   figures-fresh =
       cc (
         sum-fresh (λ site. site .pending) refl,
         sum-fresh (λ site. sumOf unreported (site .counters)) (sumOf-nil unreported),
       )
 
+  -- It holds of a fresh network.
   pub network-fresh : NetworkOk settings (freshNetwork settings) [] []
   network-fresh = record {
     arrived = λ j item. 0;
@@ -145,11 +140,13 @@ module _ (settings : Settings) (fit : Settled settings) where
 
 -- ---- Arrivals that are accepted
 
+-- Site, item and value of an arrival are within their ranges.
 pub record ArrivalKnown (settings : Settings) (arrival : Arrival) : Type 0 where
   pub site-known : arrival .site < settings .sites
   pub item-known : arrival .item < settings .universe
   pub value-known : arrival .value ≤ topValue
 
+-- Of an arrival that is not refused, they are.
 pub known-of-no-refusal : (settings : Settings) (site : Site) (arrival : Arrival)
     → arrivalRefusal settings site arrival ≡ accepted
     → ArrivalKnown settings arrival

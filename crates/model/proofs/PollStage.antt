@@ -2,26 +2,24 @@
 -- the last site closes the round.
 --
 --   handed-polls   the head of the queue in this stage
-use mathlib.Core.Path.{_≡_, refl, sym, ap, _∙_, subst}
+use mathlib.Core.Path.{_≡_, refl, sym, subst}
 use mathlib.Core.Bool.{Bool, true, false}
-use mathlib.Core.List.{List, [], _∷_, _++_}
-use Prim.Native.Nat.{ℕ, zero, suc, _+_, _-_, _*_, _≤_, _<_}
+use mathlib.Core.List.{List, [], _∷_}
+use Prim.Native.Nat.{ℕ, _+_, _-_, _*_, _≤_, _<_}
 use native.Mathlib.Omega.{arith}
 use native.Mathlib.Decide.{decLt}
-use lib.Dec.{ltb, leb}
-use borrow.Author.Tests.{lt-ltb, le-ltb, le-leb, lt-leb}
+use lib.Dec.{ltb}
+use borrow.Author.Tests.{lt-ltb}
 use Rattle.model.specs.declared.Settings.{Settings}
 use Rattle.model.specs.declared.Message.{Message}
 use Rattle.model.specs.declared.Phase.{Phase}
-use Rattle.model.specs.declared.Phase.the-variants.{Idle, Collecting, Probing, Announcing}
-use Rattle.model.specs.Choice.{if_then_else_}
-use Rattle.model.specs.Limits.{topValue, siteLimit}
+use Rattle.model.specs.declared.Phase.the-variants.{Collecting, Probing, Announcing}
+use Rattle.model.specs.Limits.{topValue}
 use Rattle.model.specs.Settings.{thresholdOf}
 use Rattle.model.specs.Messages.{poll, pollAnswer, probe}
-use Rattle.model.specs.Site.{Site}
-use Rattle.model.specs.Coordinator.{Coordinator, CoordinatorStep, step, withTotal, withBase, middle, closed, takesPollAnswer, coordinatorReceives}
-use Rattle.model.specs.Network.{Network, siteAt, withSite, withCoordinator, handOver}
-use Rattle.model.specs.SoundNetwork.{SoundSite, ClosingAt}
+use Rattle.model.specs.Coordinator.{Coordinator, withTotal, withBase, middle, coordinatorReceives}
+use Rattle.model.specs.Network.{Network, siteAt, withCoordinator}
+use Rattle.model.specs.SoundNetwork.{SoundSite}
 use Rattle.model.proofs.SettingsLaws.{Settled}
 use Rattle.model.proofs.Threshold.{threshold-mono}
 use Rattle.model.proofs.DeliveryLoops.{polled}
@@ -29,52 +27,8 @@ use Rattle.model.proofs.SoundSites.{sound-polled}
 use Rattle.model.proofs.CoordinatorSound.{numbers-total, numbers-base}
 use Rattle.model.proofs.Together.{Together, together-site, together-coordinator}
 use Rattle.model.proofs.AcceptedMessages.{poll-accepted, pollAnswer-accepted}
-use Rattle.model.proofs.Stages.{Polls, Probes, Announces, Stage, StageAfter, polling, halving, announcing, HandedOn}
-
--- ---- What a collecting coordinator does
-
-takes-answer : (settings : Settings) (c : Coordinator) (j amount : ℕ)
-    → c .phase ≡ Collecting j
-    → coordinatorReceives settings c (pollAnswer j amount)
-    ≡ takesPollAnswer settings c j (pollAnswer j amount)
-takes-answer settings c j amount phase-is = rw phase-is
-
-takes-next : (settings : Settings) (c : Coordinator) (j amount : ℕ)
-    → c .phase ≡ Collecting j
-    → j + 1 < settings .sites
-    → coordinatorReceives settings c (pollAnswer j amount)
-    ≡ step (withTotal c (c .total + amount) (Collecting (j + 1))) (poll (j + 1) ∷ [])
-takes-next settings c j amount phase-is more =
-    takes-answer settings c j amount phase-is
-    ∙ rw (lt-ltb (j + 1) (settings .sites) more)
-
-takes-last-one : (settings : Settings) (c : Coordinator) (j amount : ℕ)
-    → c .phase ≡ Collecting j
-    → settings .sites ≤ j + 1
-    → thresholdOf settings (c .total + amount) < 2
-    → coordinatorReceives settings c (pollAnswer j amount)
-    ≡ step (withBase c (c .total + amount) (thresholdOf settings (c .total + amount))
-    (Announcing 0)) []
-takes-last-one settings c j amount phase-is last one =
-    takes-answer settings c j amount phase-is
-    ∙ rw (
-      le-ltb (j + 1) (settings .sites) last,
-      lt-leb 2 (thresholdOf settings (c .total + amount)) one,
-    )
-
-takes-last-more : (settings : Settings) (c : Coordinator) (j amount : ℕ)
-    → c .phase ≡ Collecting j
-    → settings .sites ≤ j + 1
-    → 2 ≤ thresholdOf settings (c .total + amount)
-    → coordinatorReceives settings c (pollAnswer j amount)
-    ≡ step (withBase c (c .total + amount) (thresholdOf settings (c .total + amount))
-    (Probing 0 0 topValue 0)) (probe 0 (middle 0 topValue) ∷ [])
-takes-last-more settings c j amount phase-is last more =
-    takes-answer settings c j amount phase-is
-    ∙ rw (
-      le-ltb (j + 1) (settings .sites) last,
-      le-leb 2 (thresholdOf settings (c .total + amount)) more,
-    )
+use Rattle.model.proofs.PhaseSteps.{poll-answer-next, poll-answer-last-one, poll-answer-last-more}
+use Rattle.model.proofs.Stages.{Polls, Stage, StageAfter, polling, halving, announcing, HandedOn}
 
 -- ---- Each message handed over
 
@@ -221,14 +175,16 @@ module _ {settings : Settings} {network : Network} {waiting : List Message} {lef
             (coordinatorReceives settings c (pollAnswer (p .j) (p .amount)))
         by-site (yes more) _ =
             subst (StageAfter settings network [] (left - 1))
-            (sym (takes-next settings c (p .j) (p .amount) (p .phase-is) more)) (next-poll more)
+            (sym (poll-answer-next settings c (p .j) (p .amount) (p .phase-is) more))
+            (next-poll more)
         by-site (no last) (yes one) =
             subst (StageAfter settings network [] (left - 1))
-            (sym (takes-last-one settings c (p .j) (p .amount) (p .phase-is) (omega arith) one))
+            (sym (poll-answer-last-one settings c (p .j) (p .amount) (p .phase-is) (omega arith)
+            one))
             close-one
         by-site (no last) (no more) =
             subst (StageAfter settings network [] (left - 1))
-            (sym (takes-last-more settings c (p .j) (p .amount) (p .phase-is) (omega arith)
+            (sym (poll-answer-last-more settings c (p .j) (p .amount) (p .phase-is) (omega arith)
             (omega arith)))
             close-more
 

@@ -2,139 +2,30 @@
 -- answer of the last site narrows the interval, until one value is left.
 --
 --   handed-probes   the head of the queue in this stage
-use mathlib.Core.Path.{_≡_, refl, sym, ap, _∙_, subst}
+use mathlib.Core.Path.{_≡_, refl, sym, subst}
 use mathlib.Core.Bool.{Bool, true, false}
-use mathlib.Core.List.{List, [], _∷_, _++_}
+use mathlib.Core.List.{List, [], _∷_}
 use Prim.Native.Nat.{ℕ, zero, suc, _+_, _-_, _*_, _^_, _≤_, _<_}
 use native.Mathlib.Nat.{mul-le-mul-left}
 use native.Mathlib.Omega.{arith}
 use native.Mathlib.Decide.{decLt}
-use lib.Dec.{eqb, ltb, leb}
-use borrow.Author.Tests.{lt-ltb, le-ltb, eqb-true, eqb-false, eq-eqb, ne-eqb}
 use Rattle.model.specs.declared.Settings.{Settings}
 use Rattle.model.specs.declared.Message.{Message}
-use Rattle.model.specs.declared.Phase.{Phase}
-use Rattle.model.specs.declared.Phase.the-variants.{Idle, Collecting, Probing, Announcing}
-use Rattle.model.specs.Limits.{topValue, siteLimit}
+use Rattle.model.specs.declared.Phase.the-variants.{Probing}
+use Rattle.model.specs.Limits.{topValue}
 use Rattle.model.specs.Messages.{probe, probeAnswer}
-use Rattle.model.specs.Site.{Site, upTo}
-use Rattle.model.specs.Coordinator.{Coordinator, step, withPhase, withQuantile, middle, enough, narrowed, halved, takesProbeAnswer, coordinatorReceives}
-use Rattle.model.specs.Network.{Network, siteAt, withSite, withCoordinator}
-use Rattle.model.specs.SoundNetwork.{SoundSite, SoundNumbers, ClosingAt, Interval, HalvingAt}
+use Rattle.model.specs.Site.{upTo}
+use Rattle.model.specs.Coordinator.{withPhase, middle, enough, narrowed, coordinatorReceives}
+use Rattle.model.specs.Network.{Network, siteAt, withCoordinator}
+use Rattle.model.specs.SoundNetwork.{SoundSite}
 use Rattle.model.proofs.SettingsLaws.{Settled}
 use Rattle.model.proofs.SoundSites.{upTo-within}
-use Rattle.model.proofs.CoordinatorSound.{numbers-phase, numbers-quantile}
-use Rattle.model.proofs.Together.{Together, together-site, together-coordinator}
+use Rattle.model.proofs.CoordinatorSound.{numbers-phase}
+use Rattle.model.proofs.Together.{together-site}
 use Rattle.model.proofs.AcceptedMessages.{probe-accepted, probeAnswer-accepted}
-use Rattle.model.proofs.Stages.{Probes, Announces, Stage, StageAfter, halving, announcing, HandedOn}
-
--- ---- What a probing coordinator does
-
-module _ (settings : Settings) (c : Coordinator) (j low high sum count : ℕ)
-    (phase-is : c .phase ≡ Probing j low high sum) where
-  takes-answer : coordinatorReceives settings c (probeAnswer j (middle low high) count)
-      ≡ takesProbeAnswer settings c j low high sum (probeAnswer j (middle low high) count)
-  takes-answer = rw phase-is
-
-  takes-next : j + 1 < settings .sites
-      → coordinatorReceives settings c (probeAnswer j (middle low high) count)
-      ≡ step (withPhase c (Probing (j + 1) low high (sum + count)))
-      (probe (j + 1) (middle low high) ∷ [])
-  takes-next more = takes-answer ∙ rw (lt-ltb (j + 1) (settings .sites) more)
-
-  takes-last : (lower : Bool)
-      → settings .sites ≤ j + 1
-      → enough (settings .rank) (c .base) (sum + count) ≡ lower
-      → coordinatorReceives settings c (probeAnswer j (middle low high) count)
-      ≡ elim lower [
-        | true ↦ narrowed c low (middle low high)
-        | false ↦ narrowed c (middle low high + 1) high
-      ]
-  takes-last true last holds =
-      takes-answer ∙ rw (le-ltb (j + 1) (settings .sites) last, holds)
-  takes-last false last fails =
-      takes-answer ∙ rw (le-ltb (j + 1) (settings .sites) last, fails)
-
--- ---- A narrowed interval
-
-module _ {settings : Settings} {network : Network}
-    (fit : Settled settings)
-    (together : Together settings network 0 0)
-    (all-signals : network .coordinator .signals ≡ settings .sites) where
-  abbrev c : Coordinator
-  c = network .coordinator
-
-  -- The coordinator's phase, or its quantile with it, is all that changes.
-  same-together : (c′ : Coordinator)
-      → SoundNumbers settings c′
-      → c .threshold ≤ c′ .threshold
-      → c′ .total ≡ c .total
-      → Together settings (withCoordinator network c′) 0 0
-  same-together c′ numbers rises same =
-      together-coordinator together c′ 0 0 numbers rises (λ j none. absurd (omega arith))
-      (omega arith)
-
-  narrowed-stage : (left h low high : ℕ)
-      → low ≤ high
-      → high ≤ topValue
-      → high < low + 2 ^ h
-      → 2 * (settings .sites * h) + 2 * settings .sites ≤ left
-      → StageAfter settings network [] left (narrowed c low high)
-  narrowed-stage left h low high ordered within narrow steps = by-width (eqb low high) refl
-    where
-      some : ltb 0 (settings .sites) ≡ true
-      some = lt-ltb 0 (settings .sites) (omega (arith, fit .sites .at-least))
-
-      one-value : Stage settings (withCoordinator network (withQuantile c low (Announcing 0))) []
-          left
-      one-value = announcing (record {
-        i = 0;
-        w = 0;
-        j = 0;
-        waits = refl;
-        reached = refl;
-        within = omega arith;
-        phase-is = rw some;
-        signals-are = rw some all-signals;
-        together = same-together _
-            (numbers-quantile (together .numbers) low (Announcing 0) (omega arith)) (omega arith)
-            refl;
-        steps-left = omega arith;
-      })
-
-      more-values : low < high
-          → Stage settings (withCoordinator network (withPhase c (Probing 0 low high 0)))
-          (probe 0 (middle low high) ∷ []) left
-      more-values wide = halving (record {
-        answered = false;
-        j = 0;
-        low = low;
-        high = high;
-        sum = 0;
-        count = 0;
-        h = h;
-        waits = refl;
-        phase-is = refl;
-        halving = record {
-          closing = record {
-            all-signals = all-signals;
-            site-known = omega (arith, fit .sites .at-least);
-          };
-          interval = record { low-below = wide; high-within = within };
-        };
-        narrow = narrow;
-        count-within = omega arith;
-        sum-within = omega arith;
-        together = same-together _ (numbers-phase (together .numbers) (Probing 0 low high 0))
-            (omega arith) refl;
-        steps-left = omega arith;
-      })
-
-      by-width : (done : Bool) → eqb low high ≡ done
-          → StageAfter settings network [] left (narrowed c low high)
-      by-width true same = rw same one-value
-      by-width false differ =
-          rw differ (more-values (omega (arith, eqb-false low high differ)))
+use Rattle.model.proofs.PhaseSteps.{probe-answer-next, probe-answer-last}
+use Rattle.model.proofs.NarrowedStage.{same-together, narrowed-stage}
+use Rattle.model.proofs.Stages.{Probes, Stage, StageAfter, halving, HandedOn}
 
 -- ---- Each message handed over
 
@@ -199,7 +90,8 @@ module _ {settings : Settings} {network : Network} {waiting : List Message} {lef
     next-probe : p .j + 1 < settings .sites
         → Stage settings
         (withCoordinator network
-        (withPhase (network .coordinator) (Probing (p .j + 1) (p .low) (p .high) (p .sum + p .count))))
+        (withPhase (network .coordinator)
+        (Probing (p .j + 1) (p .low) (p .high) (p .sum + p .count))))
         (probe (p .j + 1) asked ∷ []) (left - 1)
     next-probe more = halving (record {
       answered = false;
@@ -259,13 +151,13 @@ module _ {settings : Settings} {network : Network} {waiting : List Message} {lef
             (probeAnswer (p .j) asked (p .count)))
         by-site (yes more) =
             subst (StageAfter settings network [] (left - 1))
-            (sym (takes-next settings (network .coordinator) (p .j) (p .low) (p .high) (p .sum)
-            (p .count) (p .phase-is) more))
+            (sym (probe-answer-next settings (network .coordinator) (p .j) (p .low) (p .high)
+            (p .sum) (p .count) (p .phase-is) more))
             (next-probe more)
         by-site (no last) =
             subst (StageAfter settings network [] (left - 1))
-            (sym (takes-last settings (network .coordinator) (p .j) (p .low) (p .high) (p .sum)
-            (p .count) (p .phase-is)
+            (sym (probe-answer-last settings (network .coordinator) (p .j) (p .low) (p .high)
+            (p .sum) (p .count) (p .phase-is)
             (enough (settings .rank) (network .coordinator .base) (p .sum + p .count))
             (omega arith) refl))
             (halved-stage (p .h) (p .narrow) (omega arith) steps

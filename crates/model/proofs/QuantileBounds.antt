@@ -177,6 +177,7 @@ module _ {settings : Settings} {run : Run} (fit : Settled settings) (ok : RunOk 
       by-count (no none) =
           absurd (value-or-nothing answer value is-value (no-answer (omega arith)))
 
+  -- The promise: nothing exactly at the start, and few below and above.
   pub quantile-of-ok : QuantilePromise settings run
   quantile-of-ok = record {
     nothing-at-start = no-answer;

@@ -27,16 +27,19 @@ use Rattle.model.proofs.ArrivalLaws.{oneIf-le, counted-snoc, below-snoc
 
 -- ---- While the threshold is 1
 
+-- N4: the coordinator counts every value, as often as it arrived.
 pub record EarlyValues (histogram : List ℕ) (accepted : List Arrival) : Type 0 where
   pub long : length histogram ≡ valueCount
   pub counts : (value : ℕ) → upTo value histogram ≡ below (value + 1) accepted
 
+-- No arrival, no count.
 pub early-fresh : EarlyValues (replicate valueCount 0) []
 early-fresh = record {
   long = length-replicate {A = ℕ} valueCount 0;
   counts = λ value. upTo-zeros value valueCount;
 }
 
+-- An arrival whose value is counted keeps it.
 pub early-arrival : (histogram : List ℕ) (accepted : List Arrival) (arrival : Arrival)
     → arrival .value < valueCount
     → EarlyValues histogram accepted
@@ -104,6 +107,7 @@ module _ (rank total top : ℕ) (accepted : List Arrival)
           rw (not-found, leastValueFrom)
           (next (leb-false (rank * total) (1000 * (before + count)) not-found))
 
+  -- The least value of a true histogram, once there is an arrival.
   pub leastValue-is : (histogram : List ℕ)
       → EarlyValues histogram accepted
       → 1 ≤ rank * total

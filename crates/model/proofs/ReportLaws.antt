@@ -19,10 +19,12 @@ use Rattle.model.specs.Limits.{topValue, valueCount}
 
 -- ---- Choices as numbers
 
+-- A report's amount, if it is due.
 pub when-times : (due : Bool) (amount : ℕ) → when due 1 * amount ≡ (if due then amount else 0)
 when-times true amount = omega arith
 when-times false amount = omega arith
 
+-- At most one report.
 pub when-le : (due : Bool) → when due 1 ≤ 1
 when-le true = omega arith
 when-le false = omega arith
@@ -60,6 +62,7 @@ estimates-reported estimates item amount x false inside = by-test (eqb x item)
     by-test true = omega arith
     by-test false = omega arith
 
+-- No item is added to the estimates, and none removed.
 pub length-reported : (estimates : List ℕ) (item amount : ℕ) (due : Bool)
     → length (if due then set estimates item amount else estimates) ≡ length estimates
 length-reported estimates item amount true = length-set estimates item amount

@@ -1,45 +1,29 @@
--- The arrival's own messages, handed over: an item report adds to an estimate, a count report to the
--- total, and the k-th count report begins the polls.
+-- The arrival's own messages, handed over: an item report adds to an estimate, a count report to
+-- the total, and the k-th count report begins the polls.
 --
 --   handed-reports   the head of the queue in this stage
-use mathlib.Core.Path.{_≡_, refl, sym, ap, _∙_, subst}
+use mathlib.Core.Path.{_≡_, refl, sym, subst}
 use mathlib.Core.Bool.{Bool, true, false}
-use mathlib.Core.List.{List, [], _∷_, _++_, append-nil}
-use Prim.Native.Nat.{ℕ, zero, suc, _+_, _-_, _*_, _≤_, _<_}
+use mathlib.Core.List.{List, [], _∷_, append-nil}
+use Prim.Native.Nat.{ℕ, _+_, _-_, _*_, _≤_}
 use native.Mathlib.Omega.{arith}
 use native.Mathlib.Decide.{ℕ-discrete}
 use lib.Dec.{eqb}
-use lib.ListN.{getD, set}
 use borrow.Author.Tests.{eq-eqb, ne-eqb}
 use Rattle.model.specs.declared.Settings.{Settings}
 use Rattle.model.specs.declared.Message.{Message}
 use Rattle.model.specs.declared.Phase.{Phase}
-use Rattle.model.specs.declared.Phase.the-variants.{Idle, Collecting, Probing, Announcing}
+use Rattle.model.specs.declared.Phase.the-variants.{Idle, Collecting}
 use Rattle.model.specs.Choice.{if_then_else_}
 use Rattle.model.specs.Messages.{itemReport, countReport, poll}
-use Rattle.model.specs.Coordinator.{Coordinator, step, takesItemReport, takesCountReport, coordinatorReceives}
+use Rattle.model.specs.Coordinator.{Coordinator, step, coordinatorReceives}
 use Rattle.model.specs.Network.{Network, withCoordinator}
 use Rattle.model.proofs.CoordinatorSound.{numbers-item, numbers-count}
 use Rattle.model.proofs.ArrivalParts.{withCountReport}
 use Rattle.model.proofs.Together.{Together, together-coordinator}
 use Rattle.model.proofs.AcceptedMessages.{itemReport-accepted, countReport-accepted}
-use Rattle.model.proofs.Stages.{Reports, Polls, Stage, StageAfter, reporting, polling, HandedOn, itemWaiting, countWaiting}
-
--- ---- What an idle coordinator does
-
-takes-item : (settings : Settings) (c : Coordinator) (j item amount : ℕ)
-    → c .phase ≡ Idle
-    → coordinatorReceives settings c (itemReport j item amount)
-    ≡ takesItemReport c (itemReport j item amount)
-takes-item settings c j item amount idle = rw idle
-
-takes-count : (settings : Settings) (c : Coordinator) (j amount value : ℕ) (closes : Bool)
-    → c .phase ≡ Idle
-    → eqb (c .signals + 1) (settings .sites) ≡ closes
-    → coordinatorReceives settings c (countReport j amount value)
-    ≡ step (withCountReport c amount value (if closes then Collecting 0 else Idle))
-    (if closes then poll 0 ∷ [] else [])
-takes-count settings c j amount value closes idle is = rw (idle, is)
+use Rattle.model.proofs.PhaseSteps.{received-item, received-count}
+use Rattle.model.proofs.Stages.{Reports, Stage, StageAfter, reporting, polling, HandedOn, countWaiting}
 
 -- ---- Each message handed over
 
@@ -62,7 +46,7 @@ module _ {settings : Settings} {network : Network} {waiting : List Message} {lef
         next = subst
             (StageAfter settings network
             (countWaiting (r .countDue) (r .site) (c .threshold) (r .value)) (left - 1))
-            (sym (takes-item settings c (r .site) (r .item) (c .threshold) (r .idle)))
+            (sym (received-item settings c (r .site) (r .item) (c .threshold) (r .idle)))
             (rw append-nil (reporting (record {
               itemDue = false;
               countDue = r .countDue;
@@ -155,7 +139,7 @@ module _ {settings : Settings} {network : Network} {waiting : List Message} {lef
             (withCountReport c (c .threshold) (r .value) (if closes then Collecting 0 else Idle))
             (if closes then poll 0 ∷ [] else [])
         taken closes is =
-            takes-count settings c (r .site) (c .threshold) (r .value) closes (r .idle) is
+            received-count settings c (r .site) (c .threshold) (r .value) closes (r .idle) is
 
         by-signals : Dec (c .signals + 1 ≡ settings .sites)
             → StageAfter settings network [] (left - 1)

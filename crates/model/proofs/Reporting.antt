@@ -84,6 +84,7 @@ module _ {arrived reported reported′ : ℕ → ℕ} {capacity n threshold item
         none-arrived = λ room. ok .none-arrived (omega (arith, length-set counters place after));
       }
 
+  -- The report moves an amount from unreported to reported; nothing else moves.
   pub saved-report : Saved arrived reported′ capacity n (reportAt threshold place counters)
   saved-report = record {
     within = omega (arith, length-set counters place after);
@@ -95,6 +96,7 @@ module _ {arrived reported reported′ : ℕ → ℕ} {capacity n threshold item
     not-held = others-not-held;
   }
 
+  -- All unreported are below the threshold again.
   pub below-report : (j : ℕ) → j < length (reportAt threshold place counters)
       → unreported (counterAt (reportAt threshold place counters) j) < threshold
   below-report =

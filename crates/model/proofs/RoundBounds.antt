@@ -9,7 +9,8 @@ use native.Mathlib.Nat.{mul-le-mul-left, mul-le-mul-right, le-of-mul-le-mul-righ
 use native.Mathlib.Omega.{arith}
 use Rattle.model.specs.Settings.{digits}
 use Rattle.model.proofs.Digits.{digits-le}
-use Rattle.model.proofs.Rounds.{Figures, Stage, early, late, Account}
+use Rattle.model.proofs.Growth.{Growth, early, late}
+use Rattle.model.proofs.Rounds.{Figures, Account}
 
 module _ {k e ρ : ℕ} {x : Figures}
     (e-le : e ≤ 1000) (account : Account k e ρ x)
@@ -32,7 +33,7 @@ module _ {k e ρ : ℕ} {x : Figures}
       omega (arith, mul-le-mul-left ρ probing)
 
   -- M5 at the end: e × closes that probed ≤ 5500 × (g + 1), and g + 3 ≤ digits.
-  probing-few : Stage k e (x .threshold) (x .base) (account .closesProbing)
+  probing-few : Growth k e (x .threshold) (x .base) (account .closesProbing)
       → e * account .closesProbing ≤ 5500 * digits (x .arrivals)
   probing-few (early _ none) = omega (arith, ap (λ (z : ℕ). e * z) none)
   probing-few (late a g two top some a≤b b<2a long paid) =
@@ -45,7 +46,7 @@ module _ {k e ρ : ℕ} {x : Figures}
   pub messages-few : e * x .messages ≤ (40000 + 5500 * ρ) * (k * (digits (x .arrivals) + 1))
   messages-few =
       let few : e * account .closesProbing ≤ 5500 * digits (x .arrivals) =
-      probing-few (account .stage) in
+      probing-few (account .growth) in
       omega (
         arith,
         ap (λ (z : ℕ). e * z) (account .messages-are),

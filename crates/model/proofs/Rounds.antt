@@ -10,13 +10,11 @@
 --   account-close-quiet        kept by a close that leaves threshold 1
 --   account-close-probing      kept by a close that leaves threshold 2 or more
 use mathlib.Core.Path.{_≡_, refl, ap}
-use Prim.Native.Nat.{ℕ, suc, _+_, _*_, _≤_, _<_}
-use native.Mathlib.Nat.{mul-le-mul-left, mul-le-mul-right, mul-le-mul, le-of-mul-le-mul-right, le-of-mul-le-mul-left}
+use Prim.Native.Nat.{ℕ, _+_, _*_, _≤_, _<_}
+use native.Mathlib.Nat.{mul-le-mul-left, le-of-mul-le-mul-left}
 use native.Mathlib.Omega.{arith}
-use native.Mathlib.Decide.{decLt}
 use Rattle.laws.proofs.Arithmetic.{bound-of-larger}
-use Rattle.model.specs.Settings.{digits}
-use Rattle.model.proofs.Digits.{digits-le, digits-twice}
+use Rattle.model.proofs.Growth.{Growth, early, late, growth-first, growth-next}
 
 -- ---- The account
 
@@ -31,20 +29,7 @@ pub record Figures : Type 0 where
   pub unreported : ℕ
   pub messages : ℕ
 
--- M4 and M5: while the threshold is 1 no close has probed. Later there is an anchor a, a base from
--- which the base has not yet doubled, and g, how often it doubled before.
-pub data Stage (k e threshold base closesProbing : ℕ) : Type 0 where
-  early : threshold ≡ 1 → closesProbing ≡ 0 → Stage k e threshold base closesProbing
-  late : (a g : ℕ)
-      → 2 ≤ threshold
-      → e * base ≤ 4500 * (k * threshold)
-      → 1 ≤ a
-      → a ≤ base
-      → base < 2 * a
-      → g + 3 ≤ digits a
-      → e * (closesProbing * a) + 4500 * a ≤ (5500 * g + e) * a + 4500 * base
-      → Stage k e threshold base closesProbing
-
+-- M1 to M5, with k sites, epsilon e, and ρ × k messages for a close that probes.
 pub record Account (k e ρ : ℕ) (x : Figures) : Type 0 where
   -- the item reports so far, the closes that left threshold 1, and those that probed
   pub itemReports : ℕ
@@ -63,18 +48,21 @@ pub record Account (k e ρ : ℕ) (x : Figures) : Type 0 where
   pub closes-le-base : k * (closesQuiet + closesProbing) ≤ x .base
   -- M4
   pub few-quiet : e * closesQuiet ≤ 6000
-  pub stage : Stage k e (x .threshold) (x .base) closesProbing
+  pub growth : Growth k e (x .threshold) (x .base) closesProbing
 
-pub account-fresh : (k e ρ : ℕ)
-    → Account k e ρ (record {
-      threshold = 1;
-      base = 0;
-      arrivals = 0;
-      pending = 0;
-      signals = 0;
-      unreported = 0;
-      messages = 0;
-    })
+-- The figures of a fresh network.
+abbrev pub freshFigures : Figures
+freshFigures = record {
+  threshold = 1;
+  base = 0;
+  arrivals = 0;
+  pending = 0;
+  signals = 0;
+  unreported = 0;
+  messages = 0;
+}
+
+pub account-fresh : (k e ρ : ℕ) → Account k e ρ freshFigures
 account-fresh k e ρ = record {
   itemReports = 0;
   closesQuiet = 0;
@@ -86,7 +74,7 @@ account-fresh k e ρ = record {
   reports-le-arrivals = omega arith;
   closes-le-base = omega arith;
   few-quiet = omega arith;
-  stage = early refl refl;
+  growth = early refl refl;
 }
 
 -- ---- An arrival
@@ -118,7 +106,7 @@ account-arrival {k} {e} {ρ} {x} {items} {counts} {y} before step = record {
   reports-le-arrivals = omega arith;
   closes-le-base = omega arith;
   few-quiet = before .few-quiet;
-  stage = rw (step .same-threshold, step .same-base) (before .stage);
+  growth = rw (step .same-threshold, step .same-base) (before .growth);
 }
 
 -- ---- A close
@@ -134,47 +122,6 @@ pub record CloseIn (k cost : ℕ) (x y : Figures) : Type 0 where
   pub no-signals : y .signals ≡ 0
   pub same-unreported : y .unreported ≡ x .unreported
   pub messages-move : y .messages ≡ x .messages + cost
-
--- The first close with a threshold above 1: 6000 × k ≤ 3000 × k × t ≤ e × b, so b ≥ 6, which has
--- three digits.
-stage-first : (k e t b : ℕ)
-    → 1 ≤ k
-    → e ≤ 1000
-    → 2 ≤ t
-    → 3000 * (k * t) ≤ e * b
-    → e * b ≤ 4500 * (k * t)
-    → Stage k e t b 1
-stage-first k e t b some-site e-le two low high =
-    let six : 6 ≤ b = omega (arith, mul-le-mul some-site two, mul-le-mul-right b e-le) in
-    late b 0 two high (omega arith) (omega arith) (omega arith) (digits-le {m = 6} {n = b} six)
-    (omega arith)
-
--- A later close, from base b to base n with 4500 × (n - b) ≥ 4500 × k × t ≥ e × b ≥ e × a. While
--- n < 2 × a the anchor stays; otherwise n is the new anchor, with one doubling more.
-stage-next : {k e t b closes : ℕ} (t′ n : ℕ)
-    → e ≤ 1000
-    → b + k * t ≤ n
-    → 2 ≤ t′
-    → e * n ≤ 4500 * (k * t′)
-    → 2 ≤ t
-    → Stage k e t b closes
-    → Stage k e t′ n (closes + 1)
-stage-next t′ n e-le grows two′ high two (early one none) = absurd (omega arith)
-stage-next {k} {e} {t} {b} {closes} t′ n e-le grows two′ high two
-    (late a g _ top some a≤b b<2a long paid) =
-    by-anchor (decLt n (2 * a))
-  where
-    few : e * closes ≤ 5500 * g + e + 4500
-    few = le-of-mul-le-mul-right {k = a} (omega arith) some
-
-    by-anchor : Dec (n < 2 * a) → Stage k e t′ n (closes + 1)
-    by-anchor (yes below) =
-        late a g two′ high some (omega arith) below long (omega (arith, mul-le-mul-left e a≤b))
-    by-anchor (no doubled) =
-        let longer : suc (digits a) ≤ digits n =
-        digits-twice {n = n} some (omega arith) in
-        late n (g + 1) two′ high (omega arith) (omega arith) (omega arith) (omega arith)
-        (omega (arith, mul-le-mul-right n few, mul-le-mul-right n e-le))
 
 module _ {k e ρ cost : ℕ} {x y : Figures}
     (some-site : 1 ≤ k) (e-le : e ≤ 1000)
@@ -207,11 +154,11 @@ module _ {k e ρ cost : ℕ} {x y : Figures}
       → y .threshold ≡ 1
       → e * x .arrivals < 6000 * k
       → Account k e ρ y
-  account-close-quiet cost-is one under = by-stage (before .stage)
+  account-close-quiet cost-is one under = by-growth (before .growth)
     where
-      by-stage : Stage k e (x .threshold) (x .base) (before .closesProbing) → Account k e ρ y
-      by-stage (late a g two _ _ _ _ _ _) = absurd (omega arith)
-      by-stage (early was-one none) = record {
+      by-growth : Growth k e (x .threshold) (x .base) (before .closesProbing) → Account k e ρ y
+      by-growth (late a g two _ _ _ _ _ _) = absurd (omega arith)
+      by-growth (early was-one none) = record {
         itemReports = before .itemReports;
         closesQuiet = before .closesQuiet + 1;
         closesProbing = before .closesProbing;
@@ -223,7 +170,7 @@ module _ {k e ρ cost : ℕ} {x y : Figures}
         closes-le-base = omega (arith, closes-fit);
         few-quiet =
             le-of-mul-le-mul-left {k = k} (omega (arith, mul-le-mul-left e closes-fit)) some-site;
-        stage = early one none;
+        growth = early one none;
       }
 
   -- A close that probes.
@@ -243,13 +190,13 @@ module _ {k e ρ cost : ℕ} {x y : Figures}
     reports-le-arrivals = omega arith;
     closes-le-base = omega (arith, closes-fit);
     few-quiet = before .few-quiet;
-    stage = rw (step .base-is-arrivals) (by-stage (before .stage));
+    growth = rw (step .base-is-arrivals) (by-growth (before .growth));
   }
     where
-      by-stage : Stage k e (x .threshold) (x .base) (before .closesProbing)
-          → Stage k e (y .threshold) (x .arrivals) (before .closesProbing + 1)
-      by-stage (early one none) =
-          rw none (stage-first k e (y .threshold) (x .arrivals) some-site e-le two low high)
-      by-stage (late a g was-two top some a≤b b<2a long paid) =
-          stage-next (y .threshold) (x .arrivals) e-le (omega (arith, signals-cost)) two high
+      by-growth : Growth k e (x .threshold) (x .base) (before .closesProbing)
+          → Growth k e (y .threshold) (x .arrivals) (before .closesProbing + 1)
+      by-growth (early one none) =
+          rw none (growth-first k e (y .threshold) (x .arrivals) some-site e-le two low high)
+      by-growth (late a g was-two top some a≤b b<2a long paid) =
+          growth-next (y .threshold) (x .arrivals) e-le (omega (arith, signals-cost)) two high
           was-two (late a g was-two top some a≤b b<2a long paid)

@@ -48,6 +48,7 @@ module _ {settings : Settings} (fit : Settled settings) where
   run-ok-from run (arrival ∷ arrivals) ok =
       run-ok-from (runOne settings run arrival) arrivals (run-ok-one run arrival ok)
 
+  -- From a fresh start, after every list of arrivals.
   pub run-ok : (arrivals : List Arrival) → RunOk settings (runOf settings arrivals)
   run-ok arrivals = run-ok-from (freshRun settings) arrivals (network-fresh settings fit)
 
@@ -65,6 +66,7 @@ module _ {settings : Settings} {run : Run} (fit : Settled settings) (ok : RunOk 
         messages-few (fit .epsilon .at-most) (ok .account) signals-le (few-pending (ok .sites-ok)),
       )
 
+  -- The three bounds on messages.
   pub messages-of-ok : FewMessages settings run
   messages-of-ok = record {
     within-digits = omega (arith, times-epsilon);

@@ -23,6 +23,7 @@ use Rattle.model.specs.Claims.{Cuts}
 abbrev accepts : Settings → Run → Arrival → Bool
 accepts settings run arrival = isZero (refusalIn settings (run .network) arrival)
 
+-- Those of the arrivals that the run accepts, one after another.
 pub newlyAccepted : Settings → Run → List Arrival → List Arrival
 newlyAccepted settings run [] = []
 newlyAccepted settings run (arrival ∷ arrivals) =
@@ -30,6 +31,7 @@ newlyAccepted settings run (arrival ∷ arrivals) =
     ++ newlyAccepted settings (runOne settings run arrival) arrivals
 
 module _ (settings : Settings) where
+  -- A run over two lists goes on where the first ended.
   pub runFrom-append : (run : Run) (front later : List Arrival)
       → runFrom settings run (front ++ later)
       ≡ runFrom settings (runFrom settings run front) later
@@ -39,6 +41,7 @@ module _ (settings : Settings) where
 
   -- ---- What was accepted and sent stays
 
+  -- All that was accepted and sent stays, in front.
   pub record Extends (run after : Run) : Type 0 where
     pub later-accepted : List Arrival
     pub later-messages : List Message
@@ -83,6 +86,7 @@ module _ (settings : Settings) where
         ∙ append-assoc (run .messages) (first .later-messages) (second .later-messages));
   }
 
+  -- A run extends the run that it started from.
   pub runFrom-extends : (run : Run) (later : List Arrival)
       → Extends run (runFrom settings run later)
   runFrom-extends run [] = extends-self run
@@ -113,6 +117,7 @@ module _ (settings : Settings) where
           rw taken (rw taken at later ∙ append-assoc (run .accepted) (arrival ∷ []) _)
       by-test false refused later = rw refused (rw refused at later)
 
+  -- A run over what it accepts is the same run.
   pub runFrom-accepted : (run : Run) (arrivals : List Arrival)
       → runFrom settings run (newlyAccepted settings run arrivals)
       ≡ runFrom settings run arrivals
@@ -172,6 +177,7 @@ module _ (settings : Settings) where
 
   -- ---- The claims
 
+  -- The claims on cuts, of every list of arrivals.
   pub runs-cut : (arrivals : List Arrival) → Cuts settings arrivals
   runs-cut arrivals = record {
     in-parts = λ later. runFrom-append (freshRun settings) arrivals later;

@@ -29,15 +29,18 @@ use Rattle.model.proofs.ArrivalLaws.{upTo-oneMore}
 
 -- ---- Functions that grow at one item
 
+-- f, larger by the amount at the item.
 abbrev pub grow : (ℕ → ℕ) → ℕ → ℕ → ℕ → ℕ
 grow f item amount x = f x + (if eqb x item then amount else 0)
 
+-- It grows there, and is the same elsewhere.
 pub grow-grows : (f : ℕ → ℕ) (item amount : ℕ) → GrowsAt item amount f (grow f item amount)
 grow-grows f item amount = record {
   grown = rw (eq-eqb item item refl);
   same = λ other differs. rw (ne-eqb other item differs) (omega arith);
 }
 
+-- Growing by 0 changes nothing.
 pub grow-zero : (f : ℕ → ℕ) (item : ℕ) → grow f item 0 ≡ f
 grow-zero f item = fun-ext (λ x. no-more x (eqb x item))
   where
@@ -57,6 +60,7 @@ pub record SiteOk (settings : Settings) (threshold : ℕ)
   pub threshold-same : site .threshold ≡ threshold
   pub histogram-long : length (site .histogram) ≡ valueCount
 
+-- A fresh site, at threshold 1.
 pub site-fresh : (settings : Settings) → SiteOk settings 1 (λ item. 0) (λ item. 0) freshSite
 site-fresh settings = record {
   saved = saved-fresh (settings .capacity);
@@ -202,6 +206,7 @@ module _ (settings : Settings) (arrived reported : ℕ → ℕ) (site : Site) (a
         upTo-oneMore w (site .histogram) (arrival .value) (omega (arith, ok .histogram-long));
   }
 
+-- An arrival keeps what holds of a site; its amounts move by 1 in all.
 pub observed-ok : (settings : Settings) (threshold : ℕ) (arrived reported : ℕ → ℕ)
     (site : Site) (arrival : Arrival)
     → 1 ≤ settings .capacity

@@ -31,9 +31,11 @@ use Rattle.model.proofs.ClosedSites.{closedSite, length-sitesClosed, ge
 
 -- ---- A family of functions, one of them changed
 
+-- Of a family of functions, f j larger by the amount at the item.
 abbrev pub growAt : (ℕ → ℕ → ℕ) → ℕ → ℕ → ℕ → ℕ → ℕ → ℕ
 growAt f j item amount i = if eqb i j then grow (f j) item amount else f i
 
+-- A sum over the family grows by the amount, at the item.
 pub sum-growAt : (f : ℕ → ℕ → ℕ) (j item amount k x : ℕ)
     → j < k
     → sumBelow (λ i. growAt f j item amount i x) k
@@ -51,12 +53,15 @@ sum-growAt f j item amount k x j<k =
 
 -- ---- What holds of the sites
 
+-- The arrivals of site j.
 abbrev pub arrivalsAt : List Site → ℕ → ℕ
 arrivalsAt sites j = getD sites j freshSite .arrivals
 
+-- The unreported arrivals of site j, over all its counters.
 abbrev pub unreportedAt : List Site → ℕ → ℕ
 unreportedAt sites j = sumOf unreported (getD sites j freshSite .counters)
 
+-- Each site is right, and together they have the accepted arrivals.
 pub record SitesOk (settings : Settings) (threshold : ℕ) (sites : List Site)
     (arrived reported : ℕ → ℕ → ℕ) (accepted : List Arrival) : Type 0 where
   pub all-sites : length sites ≡ settings .sites
@@ -95,6 +100,7 @@ module _ {settings : Settings} {threshold : ℕ} {sites : List Site}
       ≡ sumBelow (λ i. f (getD sites i freshSite)) k + f after
   sum-moves f = sumBelow-set f freshSite sites j k after inside site-known
 
+  -- An arrival at one site keeps it.
   pub sites-arrival : SitesOk settings threshold (set sites j after)
       (growAt arrived j (arrival .item) 1)
       (growAt reported j (arrival .item) (if itemDue then threshold else 0))
@@ -154,6 +160,7 @@ module _ {settings : Settings} {threshold : ℕ} {sites : List Site}
             ok .values-add-up value,
           ))
 
+  -- S7 over all sites.
   pub unreported-arrival : sumBelow (unreportedAt (set sites j after)) k
       + (if itemDue then threshold else 0) + lost
       ≡ sumBelow (unreportedAt sites) k + 1
@@ -164,6 +171,7 @@ module _ {settings : Settings} {threshold : ℕ} {sites : List Site}
         observed-here .unreported-moves,
       )
 
+  -- A count report takes the threshold from what is pending.
   pub pending-arrival : sumBelow (pendingAt (set sites j after)) k
       + (if countDue then threshold else 0)
       ≡ sumBelow (pendingAt sites) k + 1
@@ -175,6 +183,7 @@ module _ {settings : Settings} {threshold : ℕ} {sites : List Site}
 module _ {settings : Settings} {threshold : ℕ} {sites : List Site}
     {arrived reported : ℕ → ℕ → ℕ} {accepted : List Arrival}
     (ok : SitesOk settings threshold sites arrived reported accepted) where
+  -- Each site pends less than the threshold.
   pub few-pending : sumBelow (pendingAt sites) (settings .sites) ≤ settings .sites * threshold
   few-pending =
       omega (
@@ -190,6 +199,7 @@ module _ {settings : Settings} {threshold : ℕ} {sites : List Site}
   closed-at threshold′ j j<k =
       getD-sitesClosed settings sites threshold′ j j<k (omega (arith, ok .all-sites))
 
+  -- A sum over the sites after a close is the sum over each closed site.
   pub sum-closed : (f : Site → ℕ) (threshold′ : ℕ)
       → sumBelow (λ j. f (getD (sitesClosed settings sites threshold′) j freshSite))
       (settings .sites)
@@ -197,6 +207,7 @@ module _ {settings : Settings} {threshold : ℕ} {sites : List Site}
   sum-closed f threshold′ =
       sumBelow-same _ _ (settings .sites) (λ j j<k. ap f (closed-at threshold′ j j<k))
 
+  -- A close keeps it, at the new threshold.
   pub sites-close : (threshold′ : ℕ)
       → threshold ≤ threshold′
       → SitesOk settings threshold′ (sitesClosed settings sites threshold′)

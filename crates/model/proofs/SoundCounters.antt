@@ -1,28 +1,28 @@
--- The counters of a sound site, kept by an arrival: they stay within document 01's bounds whether they
--- arose or not. PROOF.md S2 (its bounds) and S7, for counters of any items, equal ones included.
+-- The counters of a sound site, kept by an arrival: they stay within document 01's bounds whether
+-- they arose or not. PROOF.md S2 (its bounds) and S7, for counters of any items, equal ones
+-- included.
 --
 --   CountersSound            few counters, each within the bounds
 --   counted-sound            an arrival counted: one counter may have reached the threshold
 --   reported-sound           its report, if it has: all are below the threshold again
 --   unreported-observed      S7: an arrival adds one unreported, but for what is reported or lost
 -- Letters: u the universe, c the capacity, n the site's arrivals, t its threshold.
-use mathlib.Core.Path.{_≡_, refl, sym, ap, _∙_}
+use mathlib.Core.Path.{_≡_}
 use mathlib.Core.Bool.{Bool, true, false}
 use mathlib.Core.List.{List, [], _∷_, _++_}
-use Prim.Native.Nat.{ℕ, zero, suc, _+_, _-_, _≤_, _<_}
+use Prim.Native.Nat.{ℕ, _+_, _≤_, _<_}
 use native.Mathlib.Omega.{arith}
 use native.Mathlib.Decide.{ℕ-discrete}
 use lib.Dec.{leb}
-use lib.ListN.{length, getD, set, length-set}
+use lib.ListN.{length, set, length-set}
 use lib.Seq.{getD-set-same, getD-set-other}
 use borrow.Author.Tests.{leb-true, leb-false}
 use Rattle.laws.proofs.Lists.{length-snoc, getD-snoc-old, getD-snoc-new, all-set}
 use Rattle.laws.proofs.Sums.{sumOf, sumOf-set, sumOf-snoc}
 use Rattle.model.specs.Choice.{if_then_else_}
-use Rattle.model.specs.Counters.{Counter, noCounter, counterAt, unreported, Placement, own, unused, replaced, placeOf, oneMoreOf, firstOf, replacing, countersAfter, lostBy, afterReport}
+use Rattle.model.specs.Counters.{Counter, noCounter, counterAt, unreported, Placement, placeOf, oneMoreOf, firstOf, replacing, countersAfter, lostBy, afterReport}
 use Rattle.model.specs.Site.{reportAt}
 use Rattle.model.specs.SoundNetwork.{SoundCounter}
-use Rattle.model.proofs.CounterLaws.{LeastAt}
 use Rattle.model.proofs.Counting.{Placed, in-own, in-unused, in-replaced}
 
 -- ---- Counters within bounds
@@ -46,8 +46,8 @@ counter-wider {x = x} more larger sound = record {
 
 -- ---- An arrival counted
 
--- All counters are within the bounds with one arrival more, but the one that took it may have reached
--- the threshold; the unreported arrivals are one more, but for those lost.
+-- All counters are within the bounds with one arrival more, but the one that took it may have
+-- reached the threshold; the unreported arrivals are one more, but for those lost.
 pub record CountedSound (u c n t place lost : ℕ) (before after : List Counter) : Type 0 where
   pub inside : place < length after
   pub few : length after ≤ c

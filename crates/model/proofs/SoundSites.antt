@@ -6,29 +6,29 @@
 --   sound-observed         an arrival; what moves then: pending-moves, unreported-moves
 --   sound-polled           kind 3; sound-told kind 7 (kind 5 changes nothing)
 --   upTo-within            kind 6 never counts more than the site's arrivals
-use mathlib.Core.Path.{_≡_, refl, sym, ap, _∙_}
+use mathlib.Core.Path.{_≡_, refl, ap, _∙_}
 use mathlib.Core.Bool.{Bool, true, false}
-use mathlib.Core.List.{List, [], _∷_, _++_}
-use Prim.Native.Nat.{ℕ, zero, suc, _+_, _-_, _≤_, _<_}
+use mathlib.Core.List.{List, [], _∷_}
+use Prim.Native.Nat.{ℕ, zero, suc, _+_, _≤_, _<_}
 use native.Mathlib.Omega.{arith}
-use lib.Dec.{leb, ltb, eqb}
-use lib.ListN.{length, getD, set, replicate, length-set, length-replicate}
+use lib.Dec.{leb}
+use lib.ListN.{length, replicate, length-set, length-replicate}
 use borrow.Author.Tests.{leb-true, leb-false}
 use Rattle.laws.proofs.Sums.{sumOf}
 use Rattle.model.specs.declared.Settings.{Settings}
 use Rattle.model.specs.declared.Arrival.{Arrival}
 use Rattle.model.specs.Choice.{if_then_else_}
-use Rattle.model.specs.Refusals.{accepted, siteFull, when, _orElse_}
+use Rattle.model.specs.Refusals.{accepted, siteFull}
 use Rattle.model.specs.Limits.{topValue, valueCount, siteLimit}
-use Rattle.model.specs.Counters.{Counter, counterAt, unreported, lostBy}
+use Rattle.model.specs.Counters.{Counter, unreported, lostBy}
 use Rattle.model.specs.Site.{Site, freshSite, addressRefusal, arrivalRefusal, oneMoreAt, placementIn, placeFor, countersWith, reportsItem, reportsCount, observed, upTo}
 use Rattle.model.specs.SiteMemory.{sum}
-use Rattle.model.specs.SoundNetwork.{SoundCounter, SoundSite}
+use Rattle.model.specs.SoundNetwork.{SoundSite}
 use Rattle.model.proofs.RefusalLaws.{both-accepted, passed}
 use Rattle.model.proofs.Counting.{placementFor-is}
 use Rattle.model.proofs.NetworkInvariant.{ArrivalKnown, known-of-no-refusal}
 use Rattle.model.proofs.DeliveryLoops.{polled, told}
-use Rattle.model.proofs.SoundCounters.{CountersSound, counter-wider, CountedSound, counted-sound, reported-sound, unreported-observed}
+use Rattle.model.proofs.SoundCounters.{counter-wider, CountedSound, counted-sound, reported-sound, unreported-observed}
 
 -- ---- Lists of numbers
 

@@ -1,38 +1,31 @@
--- From rest into a delivery and back: a sound network with an accepted arrival is at the first stage;
--- a stage with nothing left to do is a sound network; and at every stage the sites and the
--- coordinator are sound by themselves. PROOF.md section 7.
+-- From rest into a delivery and back: a sound network with an accepted arrival is at the first
+-- stage, and a stage with nothing left to do is a sound network. PROOF.md section 7.
 --
 --   together-of-sound, sound-of-together   a sound network as `Together`
 --   start-stage                            the stage that an arrival begins
 --   sound-at-rest                          the stage that a delivery ends with
---   stage-sites, stage-coordinator         each by itself
 use mathlib.Core.Path.{_≡_, refl, sym, ap, _∙_, subst}
 use mathlib.Core.Bool.{Bool, true, false, false≢true}
-use mathlib.Core.List.{List, [], _∷_, _++_}
-use Prim.Native.Nat.{ℕ, zero, suc, _+_, _-_, _*_, _≤_, _<_}
+use mathlib.Core.List.{[], _∷_, _++_}
+use Prim.Native.Nat.{ℕ, zero, suc, _+_, _*_, _≤_, _<_}
 use native.Mathlib.Omega.{arith}
-use native.Mathlib.Decide.{ℕ-discrete}
 use lib.Dec.{eqb, ltb}
-use lib.ListN.{getD}
-use borrow.Author.Tests.{ltb-true, ltb-false, eq-eqb, ne-eqb}
-use Rattle.laws.proofs.Sums.{sumBelow}
+use borrow.Author.Tests.{ltb-false, ne-eqb}
 use Rattle.model.specs.declared.Settings.{Settings}
 use Rattle.model.specs.declared.Arrival.{Arrival}
-use Rattle.model.specs.declared.Message.{Message}
-use Rattle.model.specs.declared.Phase.{Phase}
-use Rattle.model.specs.declared.Phase.the-variants.{Idle, Collecting, Probing, Announcing}
+use Rattle.model.specs.declared.Phase.the-variants.{Idle, Announcing}
 use Rattle.model.specs.Choice.{if_then_else_}
 use Rattle.model.specs.Limits.{topValue}
 use Rattle.model.specs.Site.{Site, observed, reportsItem, reportsCount, reportedValue}
 use Rattle.model.specs.Coordinator.{isAnnouncing}
 use Rattle.model.specs.Network.{Network, siteAt, withSite, deliveryFuel}
-use Rattle.model.specs.SoundNetwork.{SoundSite, SoundPhase, SoundCoordinator, Sound}
+use Rattle.model.specs.SoundNetwork.{SoundSite, Sound}
 use Rattle.model.proofs.SettingsLaws.{Settled}
 use Rattle.model.proofs.ClosedSites.{sumBelow-allPending, sumBelow-allArrivals}
 use Rattle.model.proofs.ArrivalParts.{firstMessages}
 use Rattle.model.proofs.SoundSites.{ArrivalTaken, sound-observed, pending-moves}
 use Rattle.model.proofs.Together.{Together, together-site}
-use Rattle.model.proofs.Stages.{Reports, Polls, Probes, Announces, Stage, reporting, polling, halving, announcing, itemWaiting, countWaiting}
+use Rattle.model.proofs.Stages.{Reports, Announces, Stage, reporting, polling, halving, announcing, itemWaiting, countWaiting}
 
 -- ---- A network at rest
 
@@ -120,7 +113,8 @@ module _ {settings : Settings} {network : Network} {arrival : Arrival}
       let moves : (if reportsCount site then 0 else site .pending + 1)
       + (if reportsCount site then t else 0) ≡ site .pending + 1 =
       subst (λ (amount : ℕ).
-      (if reportsCount site then 0 else site .pending + 1) + (if reportsCount site then amount else 0)
+      (if reportsCount site then 0 else site .pending + 1)
+      + (if reportsCount site then amount else 0)
       ≡ site .pending + 1)
       same (pending-moves (fit .capacity .at-least) taken site-sound (reportsCount site) refl) in
       together-site (together-of-sound sound) (arrival .site)
@@ -221,50 +215,3 @@ sound-at-rest fit (halving p) silent =
     let impossible : _≡_ {A = ℕ} 0 1 = cc in
     absurd (omega arith)
 sound-at-rest fit (announcing a) silent = rest-announces fit a silent
-
--- ---- Each by itself, at every stage
-
-pub stage-sites : {settings : Settings} {network : Network} {waiting : List Message} {left : ℕ}
-    → Stage settings network waiting left
-    → (j : ℕ) → j < settings .sites
-    → SoundSite settings (siteAt network j)
-stage-sites (reporting r) = r .together .sites-sound
-stage-sites (polling p) = p .together .sites-sound
-stage-sites (halving p) = p .together .sites-sound
-stage-sites (announcing a) = a .together .sites-sound
-
-announces-phase : {settings : Settings} {network : Network} {waiting : List Message} {left : ℕ}
-    → Settled settings
-    → Announces settings network waiting left
-    → SoundPhase settings (network .coordinator .signals) (network .coordinator .phase)
-announces-phase {settings} {network} fit a = by-phase (ltb (a .j) (settings .sites)) refl
-  where
-    by-phase : (more : Bool) → ltb (a .j) (settings .sites) ≡ more
-        → SoundPhase settings (network .coordinator .signals) (network .coordinator .phase)
-    by-phase true more =
-        let announces : network .coordinator .phase ≡ Announcing (a .j) =
-        rw more at (a .phase-is) in
-        let signals : network .coordinator .signals ≡ settings .sites =
-        rw more at (a .signals-are) in
-        rw announces (record {
-          all-signals = signals;
-          site-known = ltb-true (a .j) (settings .sites) more;
-        })
-    by-phase false last =
-        let idle : network .coordinator .phase ≡ Idle = rw last at (a .phase-is) in
-        let signals : network .coordinator .signals ≡ 0 = rw last at (a .signals-are) in
-        rw idle (omega (arith, fit .sites .at-least))
-
-pub stage-coordinator : {settings : Settings} {network : Network} {waiting : List Message}
-    {left : ℕ}
-    → Settled settings
-    → Stage settings network waiting left
-    → SoundCoordinator settings (network .coordinator)
-stage-coordinator fit (reporting r) =
-    record { numbers = r .together .numbers; phase-sound = rw (r .idle) (r .few-signals) }
-stage-coordinator fit (polling p) =
-    record { numbers = p .together .numbers; phase-sound = rw (p .phase-is) (p .closing) }
-stage-coordinator fit (halving p) =
-    record { numbers = p .together .numbers; phase-sound = rw (p .phase-is) (p .halving) }
-stage-coordinator fit (announcing a) =
-    record { numbers = a .together .numbers; phase-sound = announces-phase fit a }

@@ -1,12 +1,12 @@
 -- Every sound network stays sound, and its deliveries may be done by any caller: the claims of
--- specs/SoundClaims.antt. Each step of a delivery keeps a stage from which it finishes as the model's
--- does; where it ends, the network is sound again. PROOF.md section 7.
+-- specs/SoundClaims.antt. Each step of a delivery keeps a stage from which it finishes as the
+-- model's does; where it ends, the network is sound again. PROOF.md section 7.
 use mathlib.Core.Path.{_≡_, refl, sym, ap, _∙_, subst}
 use mathlib.Core.Bool.{Bool, true, false}
-use mathlib.Core.List.{List, [], _∷_, _++_}
-use Prim.Native.Nat.{ℕ, zero, suc, _+_, _-_, _*_, _≤_, _<_}
+use mathlib.Core.List.{List, [], _∷_}
+use Prim.Native.Nat.{ℕ, zero, suc, _+_, _-_, _≤_}
 use native.Mathlib.Omega.{arith}
-use lib.ListN.{length, getD, replicate, length-replicate, getD-replicate}
+use lib.ListN.{replicate, length-replicate, getD-replicate}
 use Rattle.model.specs.declared.Settings.{Settings}
 use Rattle.model.specs.declared.Arrival.{Arrival}
 use Rattle.model.specs.declared.Message.{Message}
@@ -17,13 +17,12 @@ use Rattle.model.specs.Site.{Site, freshSite}
 use Rattle.model.specs.Coordinator.{isAnnouncing}
 use Rattle.model.specs.Network.{Network, Delivered, freshNetwork, siteAt, deliveryFuel, afterArrival}
 use Rattle.model.specs.NetworkMemory.{allPending, allArrivals}
-use Rattle.model.specs.Runs.{refusalIn}
-use Rattle.model.specs.SoundNetwork.{SoundSite, Sound}
-use Rattle.model.specs.DeliveryClaims.{Delivery, delivery, deliveryStep, deliverySteps, outcome, deliveryOf, messageRefusal, Resting}
+use Rattle.model.specs.SoundNetwork.{Sound}
+use Rattle.model.specs.DeliveryClaims.{Delivery, delivery, deliveryStep, deliverySteps, outcome, deliveryOf, messageRefusal}
 use Rattle.model.specs.SoundClaims.{Reached, begun, handed, asked, InMidDelivery, SoundClaims}
 use Rattle.model.proofs.SettingsLaws.{Settled, settled}
-use Rattle.model.proofs.DeliverySteps.{steps-at-rest, steps-asked}
-use Rattle.model.proofs.ArrivalParts.{ArrivalCase, arrival-case, networkThen, messagesThen}
+use Rattle.model.proofs.DeliverySteps.{steps-at-rest}
+use Rattle.model.proofs.ArrivalParts.{ArrivalCase, arrival-case}
 use Rattle.model.proofs.AfterArrival.{delivers-after, after-arrival}
 use Rattle.model.proofs.DeliveryTheorem.{delivery-claims}
 use Rattle.model.proofs.SoundSites.{ArrivalTaken, taken-of-no-refusal, sound-fresh}
@@ -31,7 +30,9 @@ use Rattle.model.proofs.CoordinatorSound.{numbers-fresh}
 use Rattle.model.proofs.Together.{threshold-bounded}
 use Rattle.model.proofs.Stages.{Stage}
 use Rattle.model.proofs.MidDelivery.{hand-on, ask-on, Finishes, MidDelivery, mid-handed, mid-asked}
-use Rattle.model.proofs.SoundStages.{together-of-sound, start-stage, sound-at-rest, stage-sites, stage-coordinator}
+use Rattle.model.proofs.SoundStages.{together-of-sound, start-stage, sound-at-rest}
+use Rattle.model.proofs.StageFacts.{stage-sites, stage-coordinator, stage-total, stage-sum}
+use Rattle.model.proofs.NeverFalls.{NoLess, steps-no-less}
 
 -- ---- Started fresh
 
@@ -92,7 +93,9 @@ module _ (settings : Settings) (final : Network) (all : List Message) (fit : Set
       by-queue network (m ∷ waiting) log there′ =
           record { left = there′ .left - 1; mid = mid-handed fit (there′ .mid) }
 
-  somewhere-steps : (fuel : ℕ) (d : Delivery) → Somewhere d → Somewhere (deliverySteps fuel settings d)
+  somewhere-steps : (fuel : ℕ) (d : Delivery)
+      → Somewhere d
+      → Somewhere (deliverySteps fuel settings d)
   somewhere-steps zero d there = there
   somewhere-steps (suc fuel) d there =
       somewhere-steps fuel (deliveryStep settings d) (somewhere-step d there)
@@ -186,6 +189,14 @@ module _ (settings : Settings) (network : Network) (arrival : Arrival)
   head-of left d m waiting stage waits =
       hand-on {m = m} {waiting = waiting} fit (rw waits at stage) .head-accepted
 
+  -- Finishing from here lowers no number.
+  no-less-here : (left : ℕ) (d : Delivery)
+      → MidDelivery settings final all left d
+      → NoLess (d .network .coordinator) (final .coordinator)
+  no-less-here left d mid =
+      subst (λ (after : Delivery). NoLess (d .network .coordinator) (after .network .coordinator))
+      (mid .finishes .ends left (omega arith)) (steps-no-less left settings d)
+
   in-mid-delivery : (n : ℕ) (d : Delivery)
       → Reached settings start n d
       → InMidDelivery settings network arrival n d
@@ -196,6 +207,10 @@ module _ (settings : Settings) (network : Network) (arrival : Arrival)
             head-of (there .left) d m waiting (there .mid .stage) waits;
         sites-sound = stage-sites (there .mid .stage);
         coordinator-sound = stage-coordinator fit (there .mid .stage);
+        total-within = stage-total fit (there .mid .stage);
+        sum-within = stage-sum fit (there .mid .stage);
+        estimates-below = no-less-here (there .left) d (there .mid) .estimates;
+        values-below = no-less-here (there .left) d (there .mid) .values;
         few-steps = omega (arith, there .in-all);
         finishes = ap outcome
             (there .mid .finishes .ends (deliveryFuel settings) (omega (arith, there .in-all)));

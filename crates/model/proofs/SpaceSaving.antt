@@ -37,6 +37,7 @@ pub record NotHeld (arrived reported : ℕ → ℕ) (capacity : ℕ)
   pub arrived-le-counts : (j : ℕ) → j < length counters → arrived item ≤ counterAt counters j .count
   pub none-arrived : length counters < capacity → arrived item ≡ 0
 
+-- S1 to S4 of the counters of a site with n arrivals.
 pub record Saved (arrived reported : ℕ → ℕ) (capacity n : ℕ)
     (counters : List Counter) : Type 0 where
   pub within : length counters ≤ capacity
@@ -47,6 +48,7 @@ pub record Saved (arrived reported : ℕ → ℕ) (capacity n : ℕ)
   pub not-held : (item : ℕ) → Absent item counters
       → NotHeld arrived reported capacity counters item
 
+-- No counter, no arrival.
 pub saved-fresh : (capacity : ℕ) → Saved (λ item. 0) (λ item. 0) capacity 0 []
 saved-fresh capacity = record {
   within = omega arith;

@@ -1,6 +1,6 @@
--- Where a delivery may stand, step by step: the arrival's own messages, a poll or its answer, a probe
--- or its answer, the announcements. Each stage says which messages wait, that they carry what is
--- due, and how many steps are left at most. PROOF.md section 4 (the queue) and section 7.
+-- Where a delivery may stand, step by step: the arrival's own messages, a poll or its answer, a
+-- probe or its answer, the announcements. Each stage says which messages wait, that they carry
+-- what is due, and how many steps are left at most. PROOF.md section 4 (the queue) and section 7.
 --
 --   Reports      kinds 1 and 2 still wait, or nothing does
 --   Polls        kind 3 or its answer 4
@@ -14,7 +14,7 @@
 -- Letters: k the sites, j the site that the phase names, i the first site whose kind 7 waits, w how
 -- many wait, h halvings.
 use mathlib.Core.Path.{_≡_}
-use mathlib.Core.Bool.{Bool, true, false}
+use mathlib.Core.Bool.{Bool}
 use mathlib.Core.List.{List, [], _∷_, _++_}
 use Prim.Native.Nat.{ℕ, _+_, _-_, _*_, _^_, _≤_, _<_}
 use lib.Dec.{ltb}

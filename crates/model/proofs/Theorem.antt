@@ -1,12 +1,14 @@
 -- Demands 2 and 3 over every list of arrivals, put together from the invariant of runs.
 use mathlib.Core.Path.{_≡_}
 use mathlib.Core.List.{List}
+use Prim.Native.Nat.{ℕ}
+use lib.ListN.{take}
 use Rattle.model.specs.declared.Settings.{Settings}
 use Rattle.model.specs.declared.Arrival.{Arrival}
 use Rattle.model.specs.Refusals.{accepted}
 use Rattle.model.specs.Settings.{settingsRefusal}
 use Rattle.model.specs.Runs.{runOf}
-use Rattle.model.specs.Claims.{Estimates, Tracks, FewMessages, DemandsOverRuns}
+use Rattle.model.specs.Claims.{Estimates, Tracks, FewMessages, AfterEach, DemandsOverRuns}
 use Rattle.model.proofs.SettingsLaws.{Settled, settled}
 use Rattle.model.proofs.EstimateBounds.{RunOk, estimates-of-ok}
 use Rattle.model.proofs.HeavyHitters.{heavy-of-estimates, light-of-estimates}
@@ -37,6 +39,16 @@ module _ (settings : Settings) (arrivals : List Arrival)
   few-messages : FewMessages settings (runOf settings arrivals)
   few-messages = messages-of-ok fit holds
 
+after-each : (settings : Settings) (arrivals : List Arrival) (n : ℕ)
+    → settingsRefusal settings ≡ accepted
+    → AfterEach settings arrivals n
+after-each settings arrivals n passes = record {
+  those-accepted = runs-cut settings arrivals .fronts-accepted n;
+  tracks = tracks settings (take n (runOf settings arrivals .accepted)) passes;
+  few-messages = few-messages settings (take n (runOf settings arrivals .accepted)) passes;
+}
+
+-- The whole, for all settings that pass and all lists of arrivals.
 pub demands-over-runs : DemandsOverRuns
 demands-over-runs = record {
   tracks = tracks;
@@ -44,4 +56,5 @@ demands-over-runs = record {
   estimates-near = near;
   list-law = list-law;
   cuts = runs-cut;
+  after-each = after-each;
 }

@@ -17,9 +17,11 @@ use Rattle.model.specs.declared.Settings.{Settings}
 use Rattle.model.specs.Settings.{thresholdOf}
 
 module _ (settings : Settings) where
+  -- A threshold is at least 1, also at base 0.
   pub threshold-positive : (base : ℕ) → 1 ≤ thresholdOf settings base
   threshold-positive base = omega arith
 
+  -- A fresh coordinator has the threshold that its base gives.
   pub threshold-of-zero : thresholdOf settings 0 ≡ 1
   threshold-of-zero = rw (mul-zero, zero-div)
 
@@ -27,6 +29,7 @@ module _ (settings : Settings) where
     abbrev unrounded : ℕ → ℕ
     unrounded base = settings .epsilon * base / (3000 * settings .sites)
 
+    -- T1: rounded down, it is no larger than the unrounded quotient.
     pub threshold-low : (base : ℕ)
         → 2 ≤ thresholdOf settings base
         → 3000 * (settings .sites * thresholdOf settings base) ≤ settings .epsilon * base
@@ -37,6 +40,7 @@ module _ (settings : Settings) where
           rw quotient at (div-mul-le-self (settings .epsilon * base) (3000 * settings .sites)),
         )
 
+    -- T2: from 2 on, it is at least two thirds of the unrounded quotient.
     pub threshold-high : (base : ℕ)
         → 2 ≤ thresholdOf settings base
         → settings .epsilon * base ≤ 4500 * (settings .sites * thresholdOf settings base)
@@ -48,6 +52,7 @@ module _ (settings : Settings) where
         (omega arith) (omega arith) in
         omega (arith, rw quotient at near)
 
+    -- T3: a base that gives threshold 1 is small.
     pub base-of-threshold-one : (base : ℕ)
         → thresholdOf settings base ≡ 1
         → settings .epsilon * base < 6000 * settings .sites
@@ -59,6 +64,7 @@ module _ (settings : Settings) where
           mul-le-mul-right (settings .sites) quotient,
         )
 
+    -- T4: thresholds never fall while the base grows.
     pub threshold-mono : {base base′ : ℕ}
         → base ≤ base′
         → thresholdOf settings base ≤ thresholdOf settings base′

@@ -4,15 +4,13 @@
 --
 --   Together settings network informed flight   the first so many sites have the coordinator's
 --                                               threshold, and so much is on its way
---   total-bounded, threshold-bounded            the total is at most k * 10^9, three thresholds 10^9
+--   total-bounded, threshold-bounded            the total ≤ k × 10^9, three thresholds ≤ 10^9
 --   together-site, together-coordinator         one site or the coordinator is changed
 -- Letters: k the sites, j one of them.
-use mathlib.Core.Path.{_≡_, refl, sym, ap, _∙_}
-use mathlib.Core.List.{List, [], _∷_}
-use Prim.Native.Nat.{ℕ, zero, suc, _+_, _*_, _≤_, _<_}
+use mathlib.Core.Path.{_≡_, _∙_}
+use Prim.Native.Nat.{ℕ, _+_, _*_, _≤_, _<_}
 use native.Mathlib.Omega.{arith}
-use native.Mathlib.Decide.{ℕ-discrete}
-use lib.ListN.{length, getD, set, length-set}
+use lib.ListN.{length, length-set}
 use Rattle.laws.proofs.Lists.{at-set}
 use Rattle.laws.proofs.Sums.{sumBelow, sumBelow-le, sumBelow-const, sumBelow-set}
 use Rattle.model.specs.declared.Settings.{Settings}
@@ -44,7 +42,7 @@ module _ {settings : Settings} {network : Network} {informed flight : ℕ}
     (together : Together settings network informed flight) where
   -- ---- Bounds
 
-  arrivals-bounded : sumBelow (arrivalsAt (network .sites)) (settings .sites)
+  pub arrivals-bounded : sumBelow (arrivalsAt (network .sites)) (settings .sites)
       ≤ settings .sites * siteLimit
   arrivals-bounded =
       omega (
@@ -58,7 +56,8 @@ module _ {settings : Settings} {network : Network} {informed flight : ℕ}
   pub total-bounded : network .coordinator .total + flight ≤ settings .sites * siteLimit
   total-bounded = omega (arith, arrivals-bounded, together .all-counted)
 
-  -- A threshold that a base up to the total gives is at most a third of a site's limit: 333,333,333.
+  -- A threshold that a base up to the total gives is at most a third of a site's limit:
+  -- 333,333,333.
   pub threshold-of-total : Settled settings
       → (base : ℕ) → base ≤ network .coordinator .total + flight
       → 3 * thresholdOf settings base ≤ siteLimit

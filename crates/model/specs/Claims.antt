@@ -10,6 +10,7 @@
 --   Estimates settings run              how far estimates and total lag behind
 --   QuantilePromise settings run        all that is promised of the quantile
 --   Cuts settings arrivals              a run cut into parts, and a run of what was accepted
+--   AfterEach settings arrivals n       the demands after the first n accepted arrivals
 use mathlib.Core.Path.{_≡_}
 use mathlib.Core.Bool.{Bool, true, false, _&&_, _||_}
 use mathlib.Core.List.{List, [], _∷_, _++_}
@@ -29,6 +30,7 @@ use Rattle.model.specs.Runs.{Run, runFrom, runOf}
 
 -- ---- Arrivals counted
 
+-- A test as a number: 1 where it holds.
 abbrev pub oneIf : Bool → ℕ
 oneIf true = 1
 oneIf false = 0
@@ -37,6 +39,7 @@ oneIf false = 0
 abbrev pub counted : List Arrival → ℕ
 counted arrivals = length arrivals
 
+-- "its draws": the arrivals of an item.
 abbrev pub countOf : ℕ → List Arrival → ℕ
 countOf item [] = 0
 countOf item (arrival ∷ arrivals) = oneIf (eqb (arrival .item) item) + countOf item arrivals
@@ -70,13 +73,14 @@ pub record QuantilePromise (settings : Settings) (run : Run) : Type 0 where
       → 1000 * above value (run .accepted)
       ≤ (1000 - settings .rank + settings .epsilon) * counted (run .accepted)
 
+-- Demand 2 over runs: the list and the quantile are right.
 pub record Tracks (settings : Settings) (run : Run) : Type 0 where
-  -- once there is a draw, "each code with p thousandths is listed"
+  -- once there is a draw, a code with p thousandths of all draws, or more, is listed
   pub heavy-listed : (item : ℕ)
       → 1 ≤ counted (run .accepted)
       → settings .phi * counted (run .accepted) ≤ 1000 * countOf item (run .accepted)
       → isListed settings (run .network .coordinator) item ≡ true
-  -- "and none below p - e"
+  -- and none below p - e thousandths
   pub light-unlisted : (item : ℕ)
       → 1000 * countOf item (run .accepted)
       < (settings .phi - settings .epsilon) * counted (run .accepted)
@@ -93,6 +97,7 @@ abbrev pub contains : ℕ → List ℕ → Bool
 contains item [] = false
 contains item (x ∷ xs) = eqb item x || contains item xs
 
+-- Which items the list holds, and in which order; whatever the coordinator's numbers.
 pub record ListLaw (settings : Settings) (coordinator : Coordinator) : Type 0 where
   -- "A code is listed if ..": an item is in the list exactly if it is one and passes the rule
   pub listed-exactly : (item : ℕ)
@@ -109,6 +114,7 @@ pub record ListLaw (settings : Settings) (coordinator : Coordinator) : Type 0 wh
 
 -- ---- Messages
 
+-- Demand 3: the messages are few.
 pub record FewMessages (settings : Settings) (run : Run) : Type 0 where
   -- "e × messages ≤ 150,000 × k × (digits + 1)"
   pub within-digits : settings .epsilon * length (run .messages)
@@ -133,9 +139,10 @@ pub record Estimates (settings : Settings) (run : Run) : Type 0 where
   pub total-le : run .network .coordinator .total ≤ counted (run .accepted)
   pub total-near : 3000 * counted (run .accepted)
       ≤ 3000 * run .network .coordinator .total + settings .epsilon * counted (run .accepted)
+  -- it is positive once there is an arrival
   pub total-positive : 1 ≤ counted (run .accepted)
       → 1 ≤ run .network .coordinator .total
-  -- "for each listed code ..: 6000 × its draws ≥ (6p - 5e) × all draws"
+  -- a listed item has at least (6p - 5e) / 6000 of all arrivals
   pub listed-firm : (item : ℕ)
       → isListed settings (run .network .coordinator) item ≡ true
       → (6 * settings .phi - 5 * settings .epsilon) * counted (run .accepted)
@@ -143,6 +150,7 @@ pub record Estimates (settings : Settings) (run : Run) : Type 0 where
 
 -- ---- Runs cut into parts
 
+-- How a run over a list hangs together with runs over its parts.
 pub record Cuts (settings : Settings) (arrivals : List Arrival) : Type 0 where
   -- a run goes on where its front ended
   pub in-parts : (later : List Arrival)
@@ -164,21 +172,39 @@ pub record Cuts (settings : Settings) (arrivals : List Arrival) : Type 0 where
       → runOf settings (take n (runOf settings arrivals .accepted)) .accepted
       ≡ take n (runOf settings arrivals .accepted)
 
+-- Demands 2 and 3 "after each draw": of the run over the first n accepted arrivals, which are
+-- accepted again, one and all.
+pub record AfterEach (settings : Settings) (arrivals : List Arrival) (n : ℕ) : Type 0 where
+  pub those-accepted : runOf settings (take n (runOf settings arrivals .accepted)) .accepted
+      ≡ take n (runOf settings arrivals .accepted)
+  pub tracks : Tracks settings (runOf settings (take n (runOf settings arrivals .accepted)))
+  pub few-messages : FewMessages settings
+      (runOf settings (take n (runOf settings arrivals .accepted)))
+
 -- ---- The whole
 
 -- Demands 2 and 3 over runs: for all settings that pass their test and all lists of arrivals, each
--- list from a fresh start. As every front of a list is a list, they hold after each arrival.
+-- list from a fresh start.
 pub record DemandsOverRuns : Type 0 where
+  -- demand 2: list and class
   pub tracks : (settings : Settings) (arrivals : List Arrival)
       → settingsRefusal settings ≡ accepted
       → Tracks settings (runOf settings arrivals)
+  -- demand 3: the bounds on messages
   pub few-messages : (settings : Settings) (arrivals : List Arrival)
       → settingsRefusal settings ≡ accepted
       → FewMessages settings (runOf settings arrivals)
+  -- what both lean on
   pub estimates-near : (settings : Settings) (arrivals : List Arrival)
       → settingsRefusal settings ≡ accepted
       → Estimates settings (runOf settings arrivals)
+  -- the list as it is handed out
   pub list-law : (settings : Settings) (coordinator : Coordinator)
       → ListLaw settings coordinator
+  -- parts of a list, and refused arrivals
   pub cuts : (settings : Settings) (arrivals : List Arrival)
       → Cuts settings arrivals
+  -- both demands after each of the accepted arrivals
+  pub after-each : (settings : Settings) (arrivals : List Arrival) (n : ℕ)
+      → settingsRefusal settings ≡ accepted
+      → AfterEach settings arrivals n

@@ -8,9 +8,8 @@
 --   deliveryOf settings network arrival     the delivery that an arrival sets off, at its start
 --   messageRefusal settings network m       why it is refused by whom it is for, or accepted
 --   Resting delivery                        nothing waits, and the coordinator is idle
---   DeliveryClaims                          few messages, and a complete delivery, after each arrival
+--   DeliveryClaims                          few messages, and a complete delivery
 use mathlib.Core.Path.{_≡_}
-use mathlib.Core.Bool.{true, false}
 use mathlib.Core.List.{List, [], _∷_, _++_}
 use Prim.Native.Nat.{ℕ, zero, suc, _+_, _≤_}
 use lib.ListN.{length}

@@ -21,3 +21,4 @@ pub mod Instances
 pub mod SoundNetwork
 pub mod DeliveryClaims
 pub mod SoundClaims
+pub mod NumberClaims

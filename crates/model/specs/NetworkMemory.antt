@@ -84,9 +84,10 @@ sameThreshold threshold (site ∷ sites) =
 -- than all draws."
 abbrev pub atRestTogether : Network → Bool
 atRestTogether network =
-    isIdle (network .coordinator .phase)
-    && sameThreshold (network .coordinator .threshold) (network .sites)
-    && eqb (network .coordinator .total + allPending (network .sites)) (allArrivals (network .sites))
+    let coordinator = network .coordinator in
+    isIdle (coordinator .phase)
+    && sameThreshold (coordinator .threshold) (network .sites)
+    && eqb (coordinator .total + allPending (network .sites)) (allArrivals (network .sites))
 
 abbrev pub networkConsistent : Settings → Sites → CoordinatorRecord → List ℕ → List ℕ → Bool
 networkConsistent settings sites coordinator siteNumbers coordinatorNumbers =

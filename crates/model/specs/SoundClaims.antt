@@ -1,6 +1,6 @@
--- What is claimed of every sound network, arisen or not: it stays sound, and a delivery may be done
--- by any caller: each message is due and carries the right amount, and asking for kind 7 early comes
--- to the same. (Document 01, "Full delivery", "Refused" rows 5, 6, 7, 9, 10 and 11.)
+-- What is claimed of every sound network, arisen or not: it stays sound, and a delivery may be
+-- done by any caller: each message is due and carries the right amount, and asking for kind 7
+-- early comes to the same. (Document 01, "Full delivery", "Refused" rows 5, 6, 7, 9, 10 and 11.)
 --
 --   Reached settings start n d      a delivery after n steps: hand-overs of the head of the queue,
 --                                   and kinds 7 asked for at any time
@@ -9,16 +9,17 @@
 use mathlib.Core.Path.{_≡_}
 use mathlib.Core.Bool.{true, false}
 use mathlib.Core.List.{List, [], _∷_}
-use Prim.Native.Nat.{ℕ, zero, suc, _≤_, _<_}
+use Prim.Native.Nat.{ℕ, suc, _≤_, _<_}
 use Rattle.model.specs.declared.Settings.{Settings}
 use Rattle.model.specs.declared.Arrival.{Arrival}
 use Rattle.model.specs.declared.Message.{Message}
 use Rattle.model.specs.Refusals.{accepted}
+use Rattle.model.specs.Limits.{coordinatorLimit}
 use Rattle.model.specs.Settings.{settingsRefusal}
 use Rattle.model.specs.Coordinator.{isAnnouncing}
 use Rattle.model.specs.Network.{Network, freshNetwork, siteAt, handOver, askAnnouncement, deliveryFuel, afterArrival}
 use Rattle.model.specs.Runs.{refusalIn}
-use Rattle.model.specs.SoundNetwork.{SoundSite, SoundCoordinator, Sound}
+use Rattle.model.specs.SoundNetwork.{SoundSite, SoundCoordinator, sumOfPhase, estimateOf, countOfValue, Sound}
 use Rattle.model.specs.DeliveryClaims.{Delivery, delivery, joining, deliverySteps, outcome, deliveryOf, messageRefusal}
 
 -- ---- Deliveries that any caller may do
@@ -46,6 +47,16 @@ pub record InMidDelivery (settings : Settings) (network : Network) (arrival : Ar
   -- each site and the coordinator are sound by themselves: never 11, but for the limit
   pub sites-sound : (j : ℕ) → j < settings .sites → SoundSite settings (siteAt (d .network) j)
   pub coordinator-sound : SoundCoordinator settings (d .network .coordinator)
+  -- and of the limit: what is counted, and the sum of a halving, stay below it for every sound
+  -- network; no estimate or value count is above what it comes to
+  pub total-within : d .network .coordinator .total ≤ coordinatorLimit
+  pub sum-within : sumOfPhase (d .network .coordinator .phase) ≤ coordinatorLimit
+  pub estimates-below : (item : ℕ)
+      → estimateOf (d .network) item
+      ≤ estimateOf (afterArrival settings network arrival .network) item
+  pub values-below : (value : ℕ)
+      → countOfValue (d .network) value
+      ≤ countOfValue (afterArrival settings network arrival .network) value
   -- every delivery comes to its end: no order of steps has more than these
   pub few-steps : n ≤ deliveryFuel settings
   -- finished in the model's order, it comes to the model's network and messages

@@ -1,5 +1,5 @@
--- A sound network: what document 01's list "Inconsistent" denies, as facts of the model's values. It
--- is the meaning of refusal 11 but for the limits 10^11 and 10^14, which only memory that never
+-- A sound network: what document 01's list "Inconsistent" denies, as facts of the model's values.
+-- It is the meaning of refusal 11 but for the limits 10^11 and 10^14, which only memory that never
 -- arose can pass (a number may pass them within a call).
 --
 --   SoundCounter universe arrivals threshold counter   a counter in use
@@ -7,10 +7,12 @@
 --   SoundNumbers settings c                            the coordinator without its phase
 --   SoundPhase settings signals phase                  a phase with the signals that it goes with
 --   SoundCoordinator settings c                        the coordinator by itself
+--   sumOfPhase phase                                   the sum in a phase; 0 where it has none
+--   estimateOf network item, countOfValue network value
 --   Sound settings network                             a network at rest: what the batch call asks
 use mathlib.Core.Path.{_≡_}
 use Prim.Native.Nat.{ℕ, _+_, _≤_, _<_}
-use lib.ListN.{length}
+use lib.ListN.{length, getD}
 use Rattle.model.specs.declared.Settings.{Settings}
 use Rattle.model.specs.declared.Phase.{Phase}
 use Rattle.model.specs.declared.Phase.the-variants.{Idle, Collecting, Probing, Announcing}
@@ -33,8 +35,8 @@ pub record SoundCounter (universe arrivals threshold : ℕ) (counter : Counter) 
   pub count-within : counter .count ≤ arrivals
   pub unreported-below : unreported counter < threshold
 
--- "slots in use above c; .. a deck above its limit; class counts not summing to draws; .. pending not
--- below the threshold; a deck's threshold 0 or above 1,000,000,000"
+-- "slots in use above c; .. a deck above its limit; class counts not summing to draws; .. pending
+-- not below the threshold; a deck's threshold 0 or above 1,000,000,000"
 pub record SoundSite (settings : Settings) (site : Site) : Type 0 where
   pub few-counters : length (site .counters) ≤ settings .capacity
   pub counters-sound : (place : ℕ) → place < length (site .counters)
@@ -79,9 +81,23 @@ SoundPhase settings signals (Collecting site) = ClosingAt settings signals site
 SoundPhase settings signals (Probing site low high sum) = HalvingAt settings signals site low high
 SoundPhase settings signals (Announcing site) = ClosingAt settings signals site
 
+-- "the sum in its phase"; 0 in a phase that has none.
+abbrev pub sumOfPhase : Phase → ℕ
+sumOfPhase Idle = 0
+sumOfPhase (Collecting site) = 0
+sumOfPhase (Probing site low high sum) = sum
+sumOfPhase (Announcing site) = 0
+
 pub record SoundCoordinator (settings : Settings) (c : Coordinator) : Type 0 where
   pub numbers : SoundNumbers settings c
   pub phase-sound : SoundPhase settings (c .signals) (c .phase)
+
+-- Two numbers of its memory; 0 past the end.
+abbrev pub estimateOf : Network → ℕ → ℕ
+estimateOf network item = getD (network .coordinator .estimates) item 0
+
+abbrev pub countOfValue : Network → ℕ → ℕ
+countOfValue network value = getD (network .coordinator .histogram) value 0
 
 -- ---- The network at rest
 

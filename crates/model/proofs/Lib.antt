@@ -41,7 +41,6 @@ pub mod RunLaws
 pub mod RunInvariant
 pub mod Theorem
 pub mod Instances
-pub mod ReadBack
 pub mod SoundCounters
 pub mod SoundSites
 pub mod CoordinatorSound
@@ -64,4 +63,3 @@ pub mod NumberTheorem
 pub mod ConsistentSites
 pub mod ConsistentCoordinator
 pub mod ConsistentNetwork
-pub mod Instances

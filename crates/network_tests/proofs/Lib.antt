@@ -1,0 +1,3 @@
+-- Laws of the batch call's start test.
+pub mod RecordsLength
+pub mod SitesFrom

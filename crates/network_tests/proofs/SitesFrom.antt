@@ -101,37 +101,37 @@ module _
     (words j : ℕ)
     (is : words ≡ siteWords settings)
     (inside : j < settings .sites)
-    where
-  -- j × words + words ≤ k × words ≤ length
-  pub part-within : j * words + siteWords settings ≤ length memory
-  part-within =
-      let up-to : suc j * siteWords settings ≤ settings .sites * siteWords settings =
-      mul-le-mul-right (siteWords settings) (omega arith) in
-      let same : j * words ≡ j * siteWords settings = ap (λ (n : ℕ). j * n) is in
-      omega (arith, fits .long-enough)
+  where
+    -- j × words + words ≤ k × words ≤ length
+    pub part-within : j * words + siteWords settings ≤ length memory
+    part-within =
+        let up-to : suc j * siteWords settings ≤ settings .sites * siteWords settings =
+        mul-le-mul-right (siteWords settings) (omega arith) in
+        let same : j * words ≡ j * siteWords settings = ap (λ (n : ℕ). j * n) is in
+        omega (arith, fits .long-enough)
 
-  pub part-is : lentPart memory (j * words) ≡ drop (j * siteWords settings) memory
-  part-is =
-      take-all (length memory - j * words) (drop (j * words) memory)
-      (rw (length-drop (j * words) memory) (omega arith))
-      ∙ ap (λ (n : ℕ). drop (j * n) memory) is
+    pub part-is : lentPart memory (j * words) ≡ drop (j * siteWords settings) memory
+    part-is =
+        take-all (length memory - j * words) (drop (j * words) memory)
+        (rw (length-drop (j * words) memory) (omega arith))
+        ∙ ap (λ (n : ℕ). drop (j * n) memory) is
 
-  pub part-fits : MemoryFits settings (lentPart memory (j * words))
-  part-fits =
-      let same : j * words ≡ j * siteWords settings = ap (λ (n : ℕ). j * n) is in
-      record {
-        settings-accepted = fits .settings-accepted;
-        long-enough =
-            rw (part-is, length-drop (j * siteWords settings) memory) (omega (arith, part-within));
-      }
+    pub part-fits : MemoryFits settings (lentPart memory (j * words))
+    part-fits =
+        let same : j * words ≡ j * siteWords settings = ap (λ (n : ℕ). j * n) is in
+        record {
+          settings-accepted = fits .settings-accepted;
+          long-enough =
+              rw (part-is, length-drop (j * siteWords settings) memory) (omega (arith, part-within));
+        }
 
-  -- The answer of the test is that of the site's own part.
-  pub part-answer : (site : SiteRecord) (answer given : Bool)
-      → answer ≡ siteConsistent settings site (lentPart memory (j * words))
-      → answer ≡ given
-      → siteConsistent settings site (drop (j * siteWords settings) memory) ≡ given
-  part-answer site answer given ensures here =
-      ap (siteConsistent settings site) (sym part-is) ∙ sym ensures ∙ here
+    -- The answer of the test is that of the site's own part.
+    pub part-answer : (site : SiteRecord) (answer given : Bool)
+        → answer ≡ siteConsistent settings site (lentPart memory (j * words))
+        → answer ≡ given
+        → siteConsistent settings site (drop (j * siteWords settings) memory) ≡ given
+    part-answer site answer given ensures here =
+        ap (siteConsistent settings site) (sym part-is) ∙ sym ensures ∙ here
 
 -- ---- Each site by itself
 

@@ -18,6 +18,7 @@ use model::Phase;
 use model::Settings;
 use model::Sites;
 use model::VALUE_COUNT;
+use settings::test_settings;
 use site_memory::site_consistent;
 use site_memory::site_words;
 
@@ -73,4 +74,60 @@ fn is_idle(phase: Phase) -> bool
         Phase::Probing(_, _, _, _) => false,
         Phase::Announcing(_) => false,
     }
+}
+
+// Whether the network is consistent: each site, the coordinator, and all of them together.
+fn network_consistent(
+    settings: Settings,
+    sites: Sites,
+    coordinator: CoordinatorRecord,
+    site_memory: &[u32],
+    coordinator_memory: &[u64],
+) -> bool
+    requires { ⌜ NetworkFits settings (now «site_memory») (now «coordinator_memory») ⌝ }
+    ensures { λ r. ⌜ r ≡ networkConsistent settings sites coordinator (now («site_memory» .entry)) (now («coordinator_memory» .entry)) ⌝ }
+{
+    if sites_consistent(settings, sites, site_memory) {
+        if coordinator_consistent(settings, coordinator, coordinator_memory) {
+            let phase = coordinator.phase;
+            if is_idle(phase) {
+                if numbers_together(settings, sites, coordinator) {
+                    return sites.messages <= MESSAGE_LIMIT;
+                }
+            }
+        }
+    }
+    false
+}
+
+// What the batch call tests when it starts: 1, 2, 3; then 4, 11.
+pub fn network_refusal(
+    settings: Settings,
+    sites: Sites,
+    coordinator: CoordinatorRecord,
+    site_memory: &[u32],
+    coordinator_memory: &[u64],
+) -> u32
+    ensures { λ r. ⌜ r ≡ networkRefusal settings sites coordinator (now («site_memory» .entry)) (now («coordinator_memory» .entry)) ⌝ }
+{
+    let refusal = test_settings(settings);
+    if refusal != ACCEPTED {
+        return refusal;
+    }
+    if site_memory.len() < (settings.sites as usize) * site_words(settings) {
+        return MEMORY_TOO_SHORT;
+    }
+    if coordinator_memory.len() < (settings.universe as usize) + VALUE_COUNT {
+        return MEMORY_TOO_SHORT;
+    }
+    if network_consistent(
+        settings,
+        sites,
+        coordinator,
+        site_memory,
+        coordinator_memory,
+    ) {
+        return ACCEPTED;
+    }
+    MEMORY_INCONSISTENT
 }

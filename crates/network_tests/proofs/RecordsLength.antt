@@ -1,8 +1,12 @@
--- A declared array is a list to the logic; that it has its 32 places is told by what a function owns.
+-- A declared array is a list to the logic. That it has its 32 places is told by what a function
+-- owns at its entry, `c .good`.
 --
 --   records-length     the records of a `Sites` value are 32
+--   records-enough     so there is one for each site
 use mathlib.Core.Path.{_≡_, sym, _∙_}
 use mathlib.Core.List.{List}
+use Prim.Native.Nat.{ℕ, _≤_}
+use native.Mathlib.Omega.{arith}
 use lib.ListN.{length, length-map}
 use mir.Val.{Val}
 use denote.Laws.{Is}
@@ -16,3 +20,10 @@ pub records-length : (sites : Sites) (values : List Val)
     → length (sites .records) ≡ mostSites
 records-length sites values owned =
     sym (length-map (sites .records) (ownedRecord.the-type .to)) ∙ owned .1 .1 .0 .1 .0 .1
+
+pub records-enough : (sites : Sites) (values : List Val) (k : ℕ)
+    → Is ownedSites.the-row sites values
+    → k ≤ mostSites
+    → k ≤ length (sites .records)
+records-enough sites values k owned few =
+    omega (arith, records-length sites values owned)

@@ -1,4 +1,5 @@
--- The rows of the batch call's start test: which of them decides, and what those before it are worth.
+-- The rows of the batch call's start test: which of them decides, and what those before it are
+-- worth.
 --
 --   words-within, words-are                   the length that is asked of the sites' memory
 --   sums-fit                                  consistent parts have numbers that can be summed
@@ -30,7 +31,7 @@ use Rattle.model.proofs.SettingsLaws.{settled}
 use Rattle.site_memory.proofs.ValueLaws.{valueCount-is}
 use Rattle.site_memory.proofs.ReadyLaws.{ready-of-consistent}
 use Rattle.coordinator_tests.proofs.ReadyLaws.{consistent-facts}
-use Rattle.network_tests.specs.Asks.{noRecord, numbersTogether, SmallRecord, SumsFit}
+use Rattle.network_tests.specs.Asks.{noRecord, numbersTogether, NetworkFits, SmallRecord, SumsFit}
 
 -- ---- The words of all sites
 
@@ -72,100 +73,98 @@ module _
     (settings : Settings)
     (sites : Sites)
     (coordinator : CoordinatorRecord)
-    (siteNumbers coordinatorNumbers : List ℕ)
-  where
-    -- The tests of refusal 11, in the order in which the code makes them, and the whole.
-    abbrev sites-pass : Bool
-    sites-pass = sitesConsistent (settings .sites) settings (sites .records) siteNumbers
+    (siteNumbers coordinatorNumbers : List ℕ) where
+  -- The tests of refusal 11, in the order in which the code makes them, and the whole.
+  abbrev sites-pass : Bool
+  sites-pass = sitesConsistent (settings .sites) settings (sites .records) siteNumbers
 
-    abbrev coordinator-passes : Bool
-    coordinator-passes =
-        coordinatorConsistent settings (coordinatorIn settings coordinator coordinatorNumbers)
+  abbrev coordinator-passes : Bool
+  coordinator-passes =
+      coordinatorConsistent settings (coordinatorIn settings coordinator coordinatorNumbers)
 
-    abbrev together : Bool
-    together =
-        numbersTogether (coordinator .total) (coordinator .threshold)
-        (sitesIn (settings .sites) settings (sites .records) siteNumbers)
+  abbrev together : Bool
+  together =
+      numbersTogether (coordinator .total) (coordinator .threshold)
+      (sitesIn (settings .sites) settings (sites .records) siteNumbers)
 
-    abbrev network-passes : Bool
-    network-passes =
-        networkConsistent settings sites coordinator siteNumbers coordinatorNumbers
+  abbrev few-messages : Bool
+  few-messages = leb (sites .messages) messageLimit
 
-    pub sums-fit : settingsRefusal settings ≡ accepted
-        → sitesWords settings ≤ length siteNumbers
-        → sites-pass ≡ true
-        → coordinator-passes ≡ true
-        → SumsFit settings sites coordinator
-    sums-fit none long sites-true coordinator-true =
-        let c = coordinatorIn settings coordinator coordinatorNumbers in
-        record {
-          few-sites = settled settings none .sites .at-most;
-          total-within = consistent-facts settings c coordinator-true .within .total-within;
-          small =
-              small-of-consistent (settings .sites) settings (sites .records) siteNumbers long
-              sites-true;
-        }
+  abbrev network-passes : Bool
+  network-passes =
+      networkConsistent settings sites coordinator siteNumbers coordinatorNumbers
 
-    -- ---- Refusal 11
+  pub sums-fit : settingsRefusal settings ≡ accepted
+      → sitesWords settings ≤ length siteNumbers
+      → sites-pass ≡ true
+      → coordinator-passes ≡ true
+      → SumsFit settings sites coordinator
+  sums-fit none long sites-true coordinator-true =
+      let c = coordinatorIn settings coordinator coordinatorNumbers in
+      record {
+        few-sites = settled settings none .sites .at-most;
+        total-within = consistent-facts settings c coordinator-true .within .total-within;
+        small =
+            small-of-consistent (settings .sites) settings (sites .records) siteNumbers long
+            sites-true;
+      }
 
-    pub sites-off : sites-pass ≡ false → false ≡ network-passes
-    sites-off fails = sym (rw fails)
+  -- ---- Refusal 11
 
-    pub coordinator-off : sites-pass ≡ true
-        → coordinator-passes ≡ false
-        → false ≡ network-passes
-    coordinator-off sites-true fails = sym (rw (sites-true, fails))
+  pub sites-off : sites-pass ≡ false → false ≡ network-passes
+  sites-off fails = sym (rw fails)
 
-    pub not-idle : sites-pass ≡ true
-        → coordinator-passes ≡ true
-        → isIdle (coordinator .phase) ≡ false
-        → false ≡ network-passes
-    not-idle sites-true coordinator-true busy = sym (rw (sites-true, coordinator-true, busy))
+  module _ (sites-true : sites-pass ≡ true) where
+    pub coordinator-off : coordinator-passes ≡ false → false ≡ network-passes
+    coordinator-off fails = sym (rw (sites-true, fails))
 
-    module _
-        (sites-true : sites-pass ≡ true)
-        (coordinator-true : coordinator-passes ≡ true)
-        (idle : isIdle (coordinator .phase) ≡ true)
-      where
-        rest-decides : network-passes ≡ (together && leb (sites .messages) messageLimit)
+    module _ (coordinator-true : coordinator-passes ≡ true) where
+      pub not-idle : isIdle (coordinator .phase) ≡ false → false ≡ network-passes
+      not-idle busy = sym (rw (sites-true, coordinator-true, busy))
+
+      module _ (idle : isIdle (coordinator .phase) ≡ true) where
+        rest-decides : network-passes ≡ (together && few-messages)
         rest-decides = rw (sites-true, coordinator-true, idle)
 
         pub apart : together ≡ false → false ≡ network-passes
-        apart fails =
-            sym (rest-decides ∙ ap (λ (test : Bool). test && leb (sites .messages) messageLimit) fails)
+        apart fails = sym (rest-decides ∙ ap (λ (test : Bool). test && few-messages) fails)
 
-        pub messages-decide : together ≡ true → leb (sites .messages) messageLimit ≡ network-passes
+        pub messages-decide : together ≡ true → few-messages ≡ network-passes
         messages-decide holds =
-            sym (rest-decides ∙ ap (λ (test : Bool). test && leb (sites .messages) messageLimit) holds)
+            sym (rest-decides ∙ ap (λ (test : Bool). test && few-messages) holds)
 
-    -- ---- Refusals 4 and 11, after 1, 2, 3
+  -- ---- Refusals 4 and 11, after 1, 2, 3
 
-    abbrev refusal : ℕ
-    refusal = networkRefusal settings sites coordinator siteNumbers coordinatorNumbers
+  abbrev refusal : ℕ
+  refusal = networkRefusal settings sites coordinator siteNumbers coordinatorNumbers
 
-    module _ (none : settingsRefusal settings ≡ accepted) where
-      pub sites-short : length siteNumbers < sitesWords settings → memoryTooShort ≡ refusal
-      sites-short short = rw (none, lt-ltb (length siteNumbers) (sitesWords settings) short)
+  pub sites-short : settingsRefusal settings ≡ accepted
+      → length siteNumbers < sitesWords settings
+      → memoryTooShort ≡ refusal
+  sites-short none short = rw (none, lt-ltb (length siteNumbers) (sitesWords settings) short)
 
-      module _ (sites-long : sitesWords settings ≤ length siteNumbers) where
-        pub coordinator-short : length coordinatorNumbers < coordinatorWords settings
-            → memoryTooShort ≡ refusal
-        coordinator-short short =
-            rw (
-              none,
-              le-ltb (length siteNumbers) (sitesWords settings) sites-long,
-              lt-ltb (length coordinatorNumbers) (coordinatorWords settings) short,
-            )
+  pub coordinator-short : settingsRefusal settings ≡ accepted
+      → sitesWords settings ≤ length siteNumbers
+      → length coordinatorNumbers < coordinatorWords settings
+      → memoryTooShort ≡ refusal
+  coordinator-short none long short =
+      rw (
+        none,
+        le-ltb (length siteNumbers) (sitesWords settings) long,
+        lt-ltb (length coordinatorNumbers) (coordinatorWords settings) short,
+      )
 
-        -- The last row is that of the consistency test.
-        pub network-tested : coordinatorWords settings ≤ length coordinatorNumbers
-            → (answer : Bool)
-            → network-passes ≡ answer
-            → (when (not answer) memoryInconsistent orElse accepted) ≡ refusal
-        network-tested coordinator-long answer is =
-            rw (
-              none,
-              le-ltb (length siteNumbers) (sitesWords settings) sites-long,
-              le-ltb (length coordinatorNumbers) (coordinatorWords settings) coordinator-long,
-              is,
-            )
+  -- The last row is that of the consistency test.
+  pub network-tested : NetworkFits settings siteNumbers coordinatorNumbers
+      → (answer given : Bool)
+      → answer ≡ network-passes
+      → answer ≡ given
+      → (when (not given) memoryInconsistent orElse accepted) ≡ refusal
+  network-tested fits answer given is here =
+      let passes : network-passes ≡ given = sym is ∙ here in
+      rw (
+        fits .settings-accepted,
+        le-ltb (length siteNumbers) (sitesWords settings) (fits .sites-long),
+        le-ltb (length coordinatorNumbers) (coordinatorWords settings) (fits .coordinator-long),
+        passes,
+      )

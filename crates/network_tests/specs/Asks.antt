@@ -34,7 +34,9 @@ pub record SitesFit (settings : Settings) (memory : List ℕ) : Type 0 where
   pub settings-accepted : settingsRefusal settings ≡ accepted
   pub long-enough : sitesWords settings ≤ length memory
 
-pub record NetworkFits (settings : Settings) (siteNumbers coordinatorNumbers : List ℕ) : Type 0 where
+pub record NetworkFits
+    (settings : Settings)
+    (siteNumbers coordinatorNumbers : List ℕ) : Type 0 where
   pub settings-accepted : settingsRefusal settings ≡ accepted
   pub sites-long : sitesWords settings ≤ length siteNumbers
   pub coordinator-long : coordinatorWords settings ≤ length coordinatorNumbers

@@ -1,7 +1,7 @@
 // The batch call's start test: refusals 1, 2, 3, then 4 and 11 of a whole network, for whatever
-// numbers records and lent memory hold. "4 and 11 are tested once, when a call starts." The functions
-// with a `requires` are internal: what they ask, the tests before them have shown. No sum overflows:
-// the numbers of a site are summed after the site has proved consistent.
+// numbers records and lent memory hold. "4 and 11 are tested once, when a call starts." The
+// functions with a `requires` are internal: what they ask, the tests before them have shown. No sum
+// overflows: the numbers of the sites are summed after each site has proved consistent.
 ghost use mathlib.Core.Path.{_≡_};
 ghost use mathlib.Core.List.{List};
 ghost use Prim.Native.Nat.{ℕ};

@@ -9,6 +9,7 @@ ghost use Rattle.model.specs.Coordinator.{isIdle};
 ghost use Rattle.model.specs.NetworkMemory.{sitesIn, sitesConsistent, networkConsistent, networkRefusal};
 ghost use Rattle.network_tests.specs.Asks.{numbersTogether, SitesFit, NetworkFits, SumsFit};
 use coordinator_tests::consistency::coordinator_consistent;
+use counters::Word;
 use model::ACCEPTED;
 use model::CoordinatorRecord;
 use model::MEMORY_INCONSISTENT;
@@ -23,7 +24,7 @@ use site_memory::site_consistent;
 use site_memory::site_words;
 
 // Whether each site is consistent by its record and its part of the memory.
-fn sites_consistent(settings: Settings, sites: Sites, memory: &[u32]) -> bool
+fn sites_consistent(settings: Settings, sites: Sites, memory: &[Word]) -> bool
     requires { ⌜ SitesFit settings (now memory) ⌝ }
     ensures { λ r. ⌜ r ≡ sitesConsistent (settings .sites) settings (sites .records) (now (memory .entry)) ⌝ }
 {
@@ -81,7 +82,7 @@ fn network_consistent(
     settings: Settings,
     sites: Sites,
     coordinator: CoordinatorRecord,
-    site_memory: &[u32],
+    site_memory: &[Word],
     coordinator_memory: &[u64],
 ) -> bool
     requires { ⌜ NetworkFits settings (now «site_memory») (now «coordinator_memory») ⌝ }
@@ -105,7 +106,7 @@ pub fn network_refusal(
     settings: Settings,
     sites: Sites,
     coordinator: CoordinatorRecord,
-    site_memory: &[u32],
+    site_memory: &[Word],
     coordinator_memory: &[u64],
 ) -> u32
     ensures { λ r. ⌜ r ≡ networkRefusal settings sites coordinator (now («site_memory» .entry)) (now («coordinator_memory» .entry)) ⌝ }

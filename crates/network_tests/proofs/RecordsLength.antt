@@ -15,12 +15,14 @@ use Rattle.model.specs.Limits.{mostSites}
 use Rattle.model.proofs.Sites as ownedSites
 use Rattle.model.proofs.SiteRecord as ownedRecord
 
+-- What is owned of a `Sites` value has the array's length as a fact.
 pub records-length : (sites : Sites) (values : List Val)
     → Is ownedSites.the-row sites values
     → length (sites .records) ≡ mostSites
 records-length sites values owned =
     sym (length-map (sites .records) (ownedRecord.the-type .to)) ∙ owned .1 .1 .0 .1 .0 .1
 
+-- There is a record for each of at most 32 sites.
 pub records-enough : (sites : Sites) (values : List Val) (k : ℕ)
     → Is ownedSites.the-row sites values
     → k ≤ mostSites

@@ -2,6 +2,7 @@
 -- before: 1, 2, 3, then 4, then each row of 11 in the order in which the code makes it.
 --
 --   noRecord                                  the record of zeros, past the last record
+--   numbersTogether total threshold sites     thresholds equal, total and pendings all arrivals
 --   SitesFit settings memory                  settings that pass, memory for all sites
 --   NetworkFits settings memory memory        the same, with memory for the coordinator too
 --   SumsFit settings sites coordinator        numbers small enough to be summed
@@ -22,6 +23,7 @@ use Rattle.model.specs.Site.{Site}
 use Rattle.model.specs.CoordinatorMemory.{coordinatorWords}
 use Rattle.model.specs.NetworkMemory.{sitesWords, sameThreshold, allPending, allArrivals}
 
+-- What stands past the last record of a list.
 abbrev pub noRecord : SiteRecord
 noRecord = record { arrivals = 0; pending = 0; threshold = 0; used = 0 }
 
@@ -30,10 +32,12 @@ abbrev pub numbersTogether : ℕ → ℕ → List Site → Bool
 numbersTogether total threshold sites =
     sameThreshold threshold sites && eqb (total + allPending sites) (allArrivals sites)
 
+-- Settings that pass, and memory for all sites.
 pub record SitesFit (settings : Settings) (memory : List ℕ) : Type 0 where
   pub settings-accepted : settingsRefusal settings ≡ accepted
   pub long-enough : sitesWords settings ≤ length memory
 
+-- Settings that pass, and memory for all sites and for the coordinator.
 pub record NetworkFits
     (settings : Settings)
     (siteNumbers coordinatorNumbers : List ℕ) : Type 0 where
@@ -46,6 +50,7 @@ pub record SmallRecord (numbers : SiteRecord) : Type 0 where
   pub arrivals-within : numbers .arrivals ≤ siteLimit
   pub pending-within : numbers .pending ≤ siteLimit
 
+-- At most 32 sites with small numbers, and a small total: the sums fit 64 bits.
 pub record SumsFit
     (settings : Settings)
     (sites : Sites)

@@ -1,0 +1,6 @@
+-- Laws of the batch call's start test.
+pub mod RecordsLength
+pub mod SitesFrom
+pub mod SitesTested
+pub mod SitesSummed
+pub mod TestLaws

@@ -3,3 +3,4 @@ pub mod ThreeLaws
 pub mod SettingsLaws
 pub mod StepLaws
 pub mod WalkLaws
+pub mod TranscriptSteps

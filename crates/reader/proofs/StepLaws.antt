@@ -1,6 +1,6 @@
 -- Laws of one step of a walk: what the reader of three fields gives at a place.
 --
---   line-after-more               the number of the next line, before the last number
+--   line-after-more, -last        the number of the next line, before the last number and at it
 --   step-past                     no bytes are left
 --   step-found, step-missing      a well-formed line, a malformed one
 use mathlib.Core.Path.{_≡_, refl, sym, ap, _∙_}
@@ -9,7 +9,7 @@ use mathlib.Core.List.{List}
 use Prim.Native.Nat.{ℕ, _+_, _-_, _≤_, _<_}
 use native.Mathlib.Omega.{arith}
 use lib.ListN.{length, drop, length-drop}
-use borrow.Author.Tests.{lt-ltb, le-leb, lt-leb}
+use borrow.Author.Tests.{lt-ltb, le-ltb, le-leb, lt-leb}
 use Rattle.model.specs.Refusals.{accepted, malformedLine}
 use Rattle.model.specs.Lines.{Fields, malformed, fields, readFields, arrivalOf}
 use Rattle.worklist.specs.declared.ThreeRead.{ThreeRead}
@@ -20,6 +20,9 @@ use Rattle.reader.proofs.ThreeLaws.{three-values, three-found, three-mi
 
 pub line-after-more : (line : ℕ) → line < lastLine → lineAfter line ≡ line + 1
 line-after-more line more = rw (lt-ltb line lastLine more)
+
+pub line-after-last : (line : ℕ) → lastLine ≤ line → lineAfter line ≡ line
+line-after-last line last = rw (le-ltb line lastLine last)
 
 module _ (bytes : List ℕ) (at line : ℕ) where
   pub step-past : length bytes ≤ at → stepAt bytes at line ≡ standing accepted at line

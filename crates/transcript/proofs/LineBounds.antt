@@ -69,7 +69,7 @@ line-claims = record {
   some = λ bytes. omega (arith, length-end-line bytes);
   digits = length-decimal-le;
   digits-64 = length-decimal-64;
-  message = length-message-le;
+  message = λ m machine. omega (arith, length-message-le m machine);
   messages = length-messages-le;
   refused = λ refusal fits.
       omega (arith, length-counted refusedWord refusal, length-decimal-32 refusal fits);

@@ -1,5 +1,5 @@
--- Memory that arose is never refused, and so each call is refused by what the rules say of its arrival
--- or message alone. PROOF.md section 7, "Never 11".
+-- Memory that arose is never refused, and so each call is refused by what the rules say of its
+-- arrival or message alone. PROOF.md section 7, "Never 11".
 --
 --   held-sound, resting-of    what the invariant is worth: sound parts; at rest, the model's run
 --   memory-accepted           neither 4 nor 11, nor 1, 2, 3
@@ -37,8 +37,10 @@ use Rattle.history.proofs.RunSound.{sound-run, messages-within}
 use Rattle.history.proofs.Decoded.{site-part, site-memory-accepted}
 use Rattle.history.proofs.Invariant.{StateOk, Resting, SoundHeld, sound-of-standing, rest-of-standing}
 
-module _ {settings : Settings} (passes : settingsRefusal settings ≡ accepted) {n : ℕ} {state : State}
+module _ {settings : Settings} (passes : settingsRefusal settings ≡ accepted)
+    {n : ℕ} {state : State}
     (ok : StateOk settings n state) where
+  -- Sites and coordinator are sound, at rest and in mid-delivery.
   pub held-sound : SoundHeld settings state
   held-sound = sound-of-standing passes (ok .standing)
 
@@ -99,6 +101,7 @@ module _ {settings : Settings} (passes : settingsRefusal settings ≡ accepted) 
       site-memory-accepted passes (state .held) (ok .lengths) (held-sound .sites-sound) which known
       words enough
 
+  -- The claim of demand 1 on memory.
   pub memory-accepted : MemoryAccepted settings state
   memory-accepted = record {
     of-site = of-site;
@@ -145,6 +148,7 @@ module _ {settings : Settings} (passes : settingsRefusal settings ≡ accepted) 
   batch-by-rules at-rest arrivals log lent answer says =
       says .refusal ∙ rw (network-accepted at-rest)
 
+  -- The claim of demand 1 on the numbers of refusals.
   pub refused-by-rules : RefusedByRules settings state
   refused-by-rules = record {
     arrival = arrival-by-rules;

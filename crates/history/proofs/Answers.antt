@@ -21,22 +21,26 @@ use Rattle.model.proofs.RefusalLaws.{both-accepted, passed}
 
 -- ---- Choices
 
+-- An accepted call hands back what it did.
 pub accepted-choice : {A : Type 0} (refusal : ℕ) (chosen other : A)
     → refusal ≡ accepted
     → (if isZero refusal then chosen else other) ≡ chosen
 accepted-choice refusal chosen other none = rw (eq-eqb refusal 0 none)
 
+-- A refused call hands back what it was given.
 pub refused-choice : {A : Type 0} (refusal : ℕ) (chosen other : A)
     → (refusal ≡ accepted → ⊥)
     → (if isZero refusal then chosen else other) ≡ other
 refused-choice refusal chosen other refused = rw (ne-eqb refusal 0 refused)
 
+-- A chain ends with `accepted`, which adds no refusal.
 pub or-accepted : (refusal : ℕ) → (refusal orElse accepted) ≡ refusal
 or-accepted zero = refl
 or-accepted (suc refusal) = refl
 
 -- ---- Lengths
 
+-- Neither 4 nor 11: so at least the numbers of one site.
 pub accepted-long : (settings : Settings) (numbers : SiteRecord) (memory : List ℕ)
     → siteMemoryRefusal settings numbers memory ≡ accepted
     → siteWords settings ≤ length memory
@@ -46,5 +50,6 @@ accepted-long settings numbers memory none =
     (passed (ltb (length memory) (siteWords settings)) 4 _ (omega arith) (rows .later-accepted)
     .test-failed)
 
+-- A front as long as that is a front of at least so many numbers.
 pub words-enough : (words n : ℕ) (memory : List ℕ) → words ≤ length (take n memory) → words ≤ n
 words-enough words n memory long = omega (arith, length-take n memory)

@@ -1,5 +1,5 @@
--- A batch is a run over the arrivals that it accepts: its network, and its messages after those of the
--- run before it. PROOF.md section 7, "Every prefix".
+-- A batch is a run over the arrivals that it accepts: its network, and its messages after those of
+-- the run before it. PROOF.md section 7, "Every prefix".
 --
 --   GoesOn settings run arrivals batch after   what a batch that goes on adds to batch and run
 --   batch-goes-on                              every batch does so
@@ -20,6 +20,7 @@ use Rattle.model.specs.Network.{Network, afterArrival}
 use Rattle.model.specs.Runs.{Run, withArrival, refusalIn, runOne, runFrom, Batch, batchRefusal, batchFrom, batchOf}
 use Rattle.model.proofs.RefusalLaws.{both-accepted}
 
+-- What a batch that goes on adds to a batch, and to the run that it goes on from.
 pub record GoesOn (settings : Settings) (run : Run) (arrivals : List Arrival) (batch after : Batch)
     : Type 0 where
   -- how many it accepts, and the messages that these send
@@ -94,6 +95,7 @@ module _ (settings : Settings) (room : ℕ) where
             ∙ append-assoc (run .messages) own (later .sent);
       }
 
+  -- By recursion on the arrivals: each is accepted, or stops the batch.
   pub batch-goes-on : (arrivals : List Arrival) (run : Run) (batch : Batch)
       → batch .network ≡ run .network
       → GoesOn settings run arrivals batch (batchFrom settings room batch arrivals)
@@ -123,6 +125,7 @@ module _ (settings : Settings) (room : ℕ) where
 
 -- ---- A whole batch
 
+-- A batch from the start: a run over as many arrivals as it accepts.
 pub record BatchRun (settings : Settings) (run : Run) (arrivals : List Arrival) (batch : Batch)
     : Type 0 where
   pub network-is : batch .network
@@ -132,6 +135,7 @@ pub record BatchRun (settings : Settings) (run : Run) (arrivals : List Arrival) 
   pub run-messages : runFrom settings run (take (batch .accepted) arrivals) .messages
       ≡ run .messages ++ batch .messages
 
+-- The number taken is the number accepted, and the messages sent are all its messages.
 pub batch-run : (settings : Settings) (room : ℕ) (arrivals : List Arrival) (run : Run)
     → BatchRun settings run arrivals (batchOf settings room (run .network) arrivals)
 batch-run settings room arrivals run =

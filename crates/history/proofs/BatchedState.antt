@@ -1,5 +1,5 @@
--- The state after a batch call at rest: at rest again, the model's run with the arrivals that the batch
--- accepted, and the messages of its log. PROOF.md section 7, "Histories".
+-- The state after a batch call at rest: at rest again, the model's run with the arrivals that the
+-- batch accepted, and the messages of its log. PROOF.md section 7, "Histories".
 --
 --   batch-ok     the invariant of that state
 use mathlib.Core.Path.{_≡_, refl, sym, ap, _∙_, subst}
@@ -21,12 +21,13 @@ use Rattle.model.specs.Runs.{Run, runFrom, runOf, Batch, batchOf}
 use Rattle.model.specs.SoundNetwork.{Sound}
 use Rattle.model.proofs.SettingsLaws.{Settled, settled}
 use Rattle.model.proofs.RunLaws.{runFrom-append}
+use Rattle.network_memory.proofs.SitesMemoryLaws.{AllStorable, length-siteRecords, length-sitesMemory}
+use Rattle.network_memory.proofs.SitesReading.{sitesIn-sitesMemory}
 use Rattle.coordinator_steps.proofs.MemoryLaws.{written-coordinator}
 use Rattle.tracker.specs.declared.BatchAnswer.{BatchAnswer}
 use Rattle.tracker.specs.Batch.{BatchCall, BatchLent, BatchSays, startRefusal, batchIn, unlessRefused, logRoom, messagesIn}
 use Rattle.history.specs.State.{Held, State, AtRest, networkOf}
 use Rattle.history.specs.Histories.{batchCall, afterBatch}
-use Rattle.history.proofs.SitesWritten.{AllStorable, length-siteRecords, length-sitesMemory, sitesIn-sitesMemory}
 use Rattle.history.proofs.RunSound.{sound-run}
 use Rattle.history.proofs.BatchRuns.{BatchRun, batch-run}
 use Rattle.history.proofs.HandedOut.{messagesIn-written}
@@ -55,10 +56,15 @@ module _ {settings : Settings} (passes : settingsRefusal settings ≡ accepted) 
   fit : Settled settings
   fit = settled settings passes
 
-  storable : AllStorable settings (network .sites)
-  storable j inside =
-      let site-sound = sound .sites-sound j (omega (arith, sound .all-sites)) in
-      record { few = site-sound .few-counters; values = site-sound .histogram-length }
+  pub storable : AllStorable settings (network .sites)
+  storable = record {
+    at = λ j inside.
+        let site-sound = sound .sites-sound j (omega (arith, sound .all-sites)) in
+        record {
+          few-counters = site-sound .few-counters;
+          all-values = site-sound .histogram-length;
+        };
+  }
 
   long : length (network .sites) * siteWords settings ≤ length (held .siteMemory)
   long = rw (sound .all-sites) (lengths .sites-long)
@@ -86,10 +92,11 @@ module _ {settings : Settings} (passes : settingsRefusal settings ≡ accepted) 
       (sound .coordinator-sound .numbers .histogram-length) in
       λ i. record { sites = sites i; coordinator = coordinator i }
 
+  -- Writing keeps the lengths of records and memories.
   pub lengths-written : Lengths settings (networkWritten settings held network messages)
   lengths-written = record {
     all-records =
-        length-siteRecords settings (network .sites) (held .sites .records)
+        length-siteRecords (network .sites) (held .sites .records)
         ∙ lengths .all-records;
     sites-long =
         omega (
@@ -110,7 +117,8 @@ module _ {settings : Settings} (passes : settingsRefusal settings ≡ accepted) 
 
 -- ---- The state after the call
 
-module _ {settings : Settings} (passes : settingsRefusal settings ≡ accepted) {n : ℕ} (before : State)
+module _ {settings : Settings} (passes : settingsRefusal settings ≡ accepted)
+    {n : ℕ} (before : State)
     (ok : StateOk settings n before) (at-rest : AtRest before)
     (arrivals : List Arrival) (log : List ℕ) (lent : BatchLent) (answer : BatchAnswer)
     (says : BatchSays (batchCall settings (before .held) arrivals log) lent answer) where
@@ -140,6 +148,7 @@ module _ {settings : Settings} (passes : settingsRefusal settings ≡ accepted) 
     logged = before .logged + length (batch .messages);
   }
 
+  -- What the call answers and leaves is what its contract says of the model's batch.
   pub after-is : afterBatch before arrivals lent answer ≡ after
   after-is =
       let sites = done (answer .sites) _ _ (says .sites) in
@@ -180,6 +189,7 @@ module _ {settings : Settings} (passes : settingsRefusal settings ≡ accepted) 
   network-then : batch .network ≡ runOf settings (after .accepted) .network
   network-then = as-run .network-is ∙ ap (λ (run : Run). run .network) (sym run-on)
 
+  -- The network that the batch comes to is a run's, and so sound.
   pub sound-then : Sound settings (batch .network)
   sound-then =
       subst (Sound settings) (sym network-then)
@@ -214,5 +224,6 @@ module _ {settings : Settings} (passes : settingsRefusal settings ≡ accepted) 
         omega (arith, ok .logged-within, length-append (before .messages) (batch .messages));
   }
 
+  -- The invariant after a batch call at rest.
   pub batch-ok : StateOk settings 0 (afterBatch before arrivals lent answer)
   batch-ok = subst (StateOk settings 0) (sym after-is) after-ok

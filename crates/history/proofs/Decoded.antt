@@ -17,7 +17,7 @@ use borrow.Author.Tests.{le-ltb}
 use Rattle.model.specs.declared.Settings.{Settings}
 use Rattle.model.specs.declared.Message.{Message}
 use Rattle.model.specs.Refusals.{accepted}
-use Rattle.model.specs.Limits.{mostSites, valueCount}
+use Rattle.model.specs.Limits.{mostSites}
 use Rattle.model.specs.Settings.{settingsRefusal}
 use Rattle.model.specs.Site.{Site, freshSite, siteReceives}
 use Rattle.model.specs.SiteMemory.{siteWords, siteIn, siteRecord, siteMemory, siteMemoryRefusal}
@@ -28,15 +28,19 @@ use Rattle.model.specs.SoundNetwork.{SoundSite}
 use Rattle.model.proofs.SettingsLaws.{Settled, settled}
 use Rattle.model.proofs.ConsistentSites.{length-countersIn, consistent-of-sound}
 use Rattle.site_memory.proofs.SiteMemoryLaws.{siteIn-siteMemory}
+use Rattle.network_memory.proofs.OneSite.{Storable}
+use Rattle.network_memory.proofs.SitesReading.{getD-sitesIn}
 use Rattle.history.specs.State.{Held, networkOf, recordAt, siteStart, sitePart, withPart, afterSiteCall}
 use Rattle.history.proofs.SiteParts.{siteIn-take, front-long, siteIn-received}
-use Rattle.history.proofs.SitesMemory.{offset, offset-is, getD-sitesIn, sitesIn-set, written, length-written, part-written, sitesIn-written}
+use Rattle.history.proofs.SitesMemory.{offset, offset-is, sitesIn-set, written, length-written, part-written, sitesIn-written}
 
+-- 32 records, and as much memory as the network needs.
 pub record Lengths (settings : Settings) (held : Held) : Type 0 where
   pub all-records : length (held .sites .records) ≡ mostSites
   pub sites-long : sitesWords settings ≤ length (held .siteMemory)
   pub coordinator-long : coordinatorWords settings ≤ length (held .coordinatorMemory)
 
+-- Each of the k sites that records and memory hold is sound.
 abbrev pub SitesSound : Settings → Held → Type 0
 SitesSound settings held =
     (j : ℕ) → j < settings .sites → SoundSite settings (siteAt (networkOf settings held) j)
@@ -55,8 +59,8 @@ module _ {settings : Settings} (passes : settingsRefusal settings ≡ accepted) 
   fit : Settled settings
   fit = settled settings passes
 
-  in-records : j < length (held .sites .records)
-  in-records = omega (arith, lengths .all-records, fit .sites .at-most)
+  enough-records : settings .sites ≤ length (held .sites .records)
+  enough-records = omega (arith, lengths .all-records, fit .sites .at-most)
 
   -- The part of site j lies within the memory: (j + 1) * words ≤ k * words.
   pub in-memory : siteStart settings j + words ≤ length (held .siteMemory)
@@ -64,16 +68,16 @@ module _ {settings : Settings} (passes : settingsRefusal settings ≡ accepted) 
       let next : j + 1 ≤ settings .sites = omega arith in
       omega (arith, mul-le-mul-right words next, lengths .sites-long)
 
+  -- From the start of a site's part on there is room for the site.
   pub rest-long : words ≤ length rest
   rest-long = omega (arith, in-memory, length-drop (siteStart settings j) (held .siteMemory))
 
   site-is : siteAt (networkOf settings held) j ≡ siteIn settings (recordAt held j) rest
   site-is =
-      getD-sitesIn settings (settings .sites) j (held .sites .records) (held .siteMemory)
-      (siteRecord freshSite) known in-records
-      ∙ ap (λ (start : ℕ). siteIn settings (recordAt held j) (drop start (held .siteMemory)))
-      (offset-is words j)
+      getD-sitesIn (siteRecord freshSite) (settings .sites) settings (held .sites .records)
+      (held .siteMemory) j known enough-records
 
+  -- The site that is read there is sound.
   pub rest-sound : SoundSite settings (siteIn settings (recordAt held j) rest)
   rest-sound = rw site-is at (sound j known)
 
@@ -89,9 +93,11 @@ module _ {settings : Settings} (passes : settingsRefusal settings ≡ accepted) 
       siteIn-take settings (recordAt held j) n rest used-within enough rest-long
       ∙ sym site-is
 
+  -- A part of at least the site's own numbers is long enough.
   pub part-long : (n : ℕ) → words ≤ n → words ≤ length (sitePart settings held j n)
   part-long n enough = front-long words n rest enough rest-long
 
+  -- Neither 4 nor 11 for a site's own record and part.
   pub site-memory-accepted : (n : ℕ) → words ≤ n
       → siteMemoryRefusal settings (recordAt held j) (sitePart settings held j n) ≡ accepted
   site-memory-accepted n enough =
@@ -110,18 +116,15 @@ module _ {settings : Settings} (passes : settingsRefusal settings ≡ accepted) 
   earlier-within : (i : ℕ) → i < j → recordAt held i .used ≤ settings .capacity
   earlier-within i i<j =
       let known-i : i < settings .sites = omega arith in
-      let in-records-i : i < length (held .sites .records) = omega (arith, in-records) in
-      let at = drop (offset words i) (held .siteMemory) in
+      let at = drop (siteStart settings i) (held .siteMemory) in
       let here : siteAt (networkOf settings held) i ≡ siteIn settings (recordAt held i) at =
-      getD-sitesIn settings (settings .sites) i (held .sites .records) (held .siteMemory)
-      (siteRecord freshSite) known-i in-records-i in
+      getD-sitesIn (siteRecord freshSite) (settings .sites) settings (held .sites .records)
+      (held .siteMemory) i known-i enough-records in
       let sound-i : SoundSite settings (siteIn settings (recordAt held i) at) =
       rw here at (sound i known-i) in
       omega (arith, sound-i .few-counters, length-countersIn (recordAt held i .used) at)
 
-  module _ (site : Site)
-      (few : length (site .counters) ≤ settings .capacity)
-      (values : length (site .histogram) ≡ valueCount) where
+  module _ (site : Site) (fits : Storable settings site) where
     abbrev putBack : ℕ → Held
     putBack n =
         afterSiteCall held j (siteRecord site)
@@ -132,8 +135,9 @@ module _ {settings : Settings} (passes : settingsRefusal settings ≡ accepted) 
     pub memory-then : (n : ℕ) → words ≤ length (sitePart settings held j n)
         → putBack n .siteMemory ≡ written settings (siteStart settings j) site (held .siteMemory)
     memory-then n long =
-        part-written settings site few values (siteStart settings j) n (held .siteMemory) long
+        part-written settings site fits (siteStart settings j) n (held .siteMemory) long
 
+    -- Putting a part back keeps the lengths.
     pub lengths-site-written : (n : ℕ) → words ≤ length (sitePart settings held j n)
         → Lengths settings (putBack n)
     lengths-site-written n long = record {
@@ -141,27 +145,30 @@ module _ {settings : Settings} (passes : settingsRefusal settings ≡ accepted) 
           length-set (held .sites .records) j (siteRecord site) ∙ lengths .all-records;
       sites-long =
           let same = ap length (memory-then n long)
-          ∙ length-written settings site few values (siteStart settings j) (held .siteMemory)
+          ∙ length-written settings site fits (siteStart settings j) (held .siteMemory)
           in-memory in
           omega (arith, same, lengths .sites-long);
       coordinator-long = lengths .coordinator-long;
     }
 
+    -- The site as it was written, and every other as it was.
     pub network-site-written : (n : ℕ) → words ≤ length (sitePart settings held j n)
         → networkOf settings (putBack n) ≡ withSite (networkOf settings held) j site
     network-site-written n long =
-        let back = siteIn-siteMemory settings site rest few values rest-long in
+        let back = siteIn-siteMemory settings site rest (fits .few-counters) (fits .all-values)
+        rest-long in
         let records = set (held .sites .records) j (siteRecord site) in
         let start = siteStart settings j in
         let in-memory-at : offset words j + words ≤ length (held .siteMemory) =
         omega (arith, in-memory, offset-is words j) in
         let read : sitesIn (settings .sites) settings records (putBack n .siteMemory)
-        ≡ set (sitesIn (settings .sites) settings (held .sites .records) (held .siteMemory)) j site =
+        ≡ set (sitesIn (settings .sites) settings (held .sites .records) (held .siteMemory)) j
+        site =
         ap (sitesIn (settings .sites) settings records)
         (memory-then n long
         ∙ ap (λ (from : ℕ). written settings from site (held .siteMemory))
         (sym (offset-is words j)))
-        ∙ sitesIn-written settings site few values (settings .sites) j (held .sites .records)
+        ∙ sitesIn-written settings site fits (settings .sites) j (held .sites .records)
         (siteRecord site) (siteRecord freshSite) (held .siteMemory) in-memory-at earlier-within
         ∙ ap (set (sitesIn (settings .sites) settings (held .sites .records) (held .siteMemory)) j)
         (ap (λ (from : ℕ).
@@ -183,6 +190,7 @@ module _ {settings : Settings} (passes : settingsRefusal settings ≡ accepted) 
       (siteRecord (siteReceives (siteAt (networkOf settings held) j) m .site))
       (held .siteMemory)
 
+  -- Putting a record back keeps the lengths.
   pub lengths-site-told : (m : Message) → Lengths settings (told m)
   lengths-site-told m = record {
     all-records = length-set (held .sites .records) j _ ∙ lengths .all-records;
@@ -190,6 +198,7 @@ module _ {settings : Settings} (passes : settingsRefusal settings ≡ accepted) 
     coordinator-long = lengths .coordinator-long;
   }
 
+  -- The site as the message left it, and every other as it was.
   pub network-site-told : (m : Message)
       → networkOf settings (told m)
       ≡ withSite (networkOf settings held) j

@@ -23,6 +23,7 @@ use Rattle.coordinator_steps.proofs.MemoryLaws.{written-coordinator}
 use Rattle.history.specs.State.{Held, networkOf, afterCoordinatorCall}
 use Rattle.laws.proofs.FlatMemory.{length-overwritten}
 
+-- As many numbers are written as there were.
 pub length-coordinatorMemory : (settings : Settings) (c : Coordinator) (memory : List ℕ)
     → length (c .estimates) ≡ settings .universe
     → length (c .histogram) ≡ valueCount
@@ -35,6 +36,7 @@ length-coordinatorMemory settings c memory estimates values long =
     length-overwritten numbers memory (omega (arith, width))
 
 module _ (settings : Settings) (held : Held) where
+  -- The coordinator as it was written, and every site as it was.
   pub network-coordinator-written : (c : Coordinator)
       → length (c .estimates) ≡ settings .universe
       → length (c .histogram) ≡ valueCount
@@ -71,6 +73,7 @@ module _ (settings : Settings) (held : Held) where
       by-site true = refl
       by-site false = refl
 
+  -- The coordinator after an announcement, and every site as it was.
   pub network-announced :
       networkOf settings
       (afterCoordinatorCall held

@@ -20,7 +20,8 @@ use Rattle.history.proofs.ToCoordinator.{to-coordinator-ok}
 use Rattle.history.proofs.ToSite.{to-site-ok}
 use Rattle.history.proofs.NextAnnouncement.{next-ok, next-not-at-rest}
 
-module _ {settings : Settings} (passes : settingsRefusal settings ≡ accepted) {n : ℕ} (before : State)
+module _ {settings : Settings} (passes : settingsRefusal settings ≡ accepted)
+    {n : ℕ} (before : State)
     (ok : StateOk settings n before) where
   abbrev held : Held
   held = before .held
@@ -41,7 +42,10 @@ module _ {settings : Settings} (passes : settingsRefusal settings ≡ accepted) 
       let lengths : 0 ≡ suc (length later) = ap length impossible in
       omega arith
 
-  pub delivered-ok : (after : State) → Delivers settings before after → StateOk settings (suc n) after
+  -- The invariant, one step of delivery further.
+  pub delivered-ok : (after : State)
+      → Delivers settings before after
+      → StateOk settings (suc n) after
   delivered-ok after (to-coordinator m later memory answer waits way says accepts) =
       by-standing (ok .standing)
     where
@@ -60,7 +64,8 @@ module _ {settings : Settings} (passes : settingsRefusal settings ≡ accepted) 
           (sending before (afterSiteCall held (m .site) (answer .site) (held .siteMemory)) later
           (answeredOut answer))
       by-standing (resting _ rest) = absurd (no-head m later waits rest)
-      by-standing (delivering mid) = to-site-ok passes before ok mid m later words answer waits way says accepts
+      by-standing (delivering mid) =
+          to-site-ok passes before ok mid m later words answer waits way says accepts
   delivered-ok after (next-announcement answer says accepts) = by-standing (ok .standing)
     where
       by-standing : Standing settings n before
@@ -68,5 +73,6 @@ module _ {settings : Settings} (passes : settingsRefusal settings ≡ accepted) 
           (sending before
           (afterCoordinatorCall held (answer .coordinator) (held .coordinatorMemory))
           (before .waiting) (receivedOut answer))
-      by-standing (resting _ rest) = absurd (next-not-at-rest passes before ok answer says accepts rest)
+      by-standing (resting _ rest) =
+          absurd (next-not-at-rest passes before ok answer says accepts rest)
       by-standing (delivering mid) = next-ok passes before ok answer says accepts mid

@@ -29,8 +29,9 @@ use Rattle.history.proofs.Invariant.{StateOk, Delivering, delivering}
 -- What is held then, with the messages that the call hands out: the model's step.
 module _ {settings : Settings} {n : ℕ} (before : State) (mid : Delivering settings n before)
     (later : List Message) (after : Delivered)
-    (on : Reached settings (deliveryOf settings (runOf settings (mid .front) .network) (mid .arrival))
-    (suc n) (joining after later (mid .log)))
+    (on : Reached settings
+    (deliveryOf settings (runOf settings (mid .front) .network) (mid .arrival)) (suc n)
+    (joining after later (mid .log)))
     (held : Held) (out : List Message)
     (network-is : networkOf settings held ≡ after .network)
     (out-is : out ≡ after .messages) where
@@ -52,6 +53,7 @@ module _ {settings : Settings} {n : ℕ} (before : State) (mid : Delivering sett
             ∙ append-assoc (runOf settings (mid .front) .messages) (mid .log) out;
       }
 
+  -- The invariant of the state then.
   pub goes-on-ok : StateOk settings n before
       → Lengths settings held
       → held .sites .messages ≡ before .held .sites .messages
@@ -78,8 +80,8 @@ handed-on {settings} {n} before mid m later waits =
     waits (mid .reached))
 
 -- The coordinator that a step of the model's delivery leaves is sound.
-pub coordinator-sound-then : {settings : Settings} (passes : settingsRefusal settings ≡ accepted) {n : ℕ}
-    (before : State) (mid : Delivering settings n before) (d : Delivery)
+pub coordinator-sound-then : {settings : Settings} (passes : settingsRefusal settings ≡ accepted)
+    {n : ℕ} (before : State) (mid : Delivering settings n before) (d : Delivery)
     → Reached settings (deliveryOf settings (runOf settings (mid .front) .network) (mid .arrival))
     (suc n) d
     → SoundCoordinator settings (d .network .coordinator)

@@ -11,6 +11,7 @@ use Rattle.model.specs.Coordinator.{isAnnouncing}
 use Rattle.model.specs.Network.{Network, handOver, askAnnouncement}
 use Rattle.model.specs.DeliveryClaims.{Delivery, delivery, deliveryStep, deliverySteps}
 
+-- The log of a delivery with more messages behind it.
 pub record LogGrows (before after : Delivery) : Type 0 where
   pub more : List Message
   pub log-is : after .log ≡ before .log ++ more
@@ -28,6 +29,7 @@ step-grows settings network [] log = by-phase (isAnnouncing (network .coordinato
         (record { more = askAnnouncement settings network .messages; log-is = refl })
     by-phase false silent = rw silent (record { more = []; log-is = sym (append-nil log) })
 
+-- By recursion on the steps.
 pub steps-grow : (fuel : ℕ) (settings : Settings) (d : Delivery)
     → LogGrows d (deliverySteps fuel settings d)
 steps-grow zero settings d = record { more = []; log-is = sym (append-nil (d .log)) }

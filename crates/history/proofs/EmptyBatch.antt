@@ -1,12 +1,12 @@
--- A batch call that accepts no arrival, refused or not, leaves everything as it was. For every state,
--- arisen or not.
+-- A batch call that accepts no arrival, refused or not, leaves everything as it was. For every
+-- state, arisen or not.
 --
 --   NothingDone, nothing-done    a batch of the model that accepts nothing
 --   batch-same                   the state after such a call
 use mathlib.Core.Path.{_≡_, refl, sym, ap, _∙_}
 use mathlib.Core.Bool.{Bool, true, false, not}
 use mathlib.Core.List.{List, [], _∷_, _++_, append-nil}
-use Prim.Native.Nat.{ℕ, _+_, _-_, _≤_, _<_}
+use Prim.Native.Nat.{ℕ, suc, zero, _+_, _-_, _≤_, _<_}
 use native.Mathlib.Omega.{arith}
 use lib.Dec.{ltb}
 use lib.ListN.{length, drop}
@@ -14,6 +14,7 @@ use borrow.Author.Tests.{eq-eqb, eqb-true, ltb-false, not-false}
 use Rattle.laws.proofs.Tests.{neither-of-or}
 use Rattle.model.specs.declared.Settings.{Settings}
 use Rattle.model.specs.declared.Arrival.{Arrival}
+use Rattle.model.specs.declared.SiteRecord.{SiteRecord}
 use Rattle.model.specs.Choice.{isZero}
 use Rattle.model.specs.Refusals.{accepted}
 use Rattle.model.specs.Settings.{settingsRefusal}
@@ -21,22 +22,22 @@ use Rattle.model.specs.Site.{freshSite}
 use Rattle.model.specs.SiteMemory.{siteWords, siteIn, siteRecord}
 use Rattle.model.specs.CoordinatorMemory.{coordinatorWords}
 use Rattle.model.specs.Network.{Network, siteAt, afterArrival}
-use Rattle.model.specs.NetworkMemory.{sitesWords, networkRefusal, networkTooShort, networkConsistent}
+use Rattle.model.specs.NetworkMemory.{sitesWords, networkRefusal, networkTooShort, networkConsistent, sitesIn}
 use Rattle.model.specs.Runs.{Batch, batchRefusal, batchFrom, batchOf}
 use Rattle.model.specs.SoundNetwork.{Sound}
 use Rattle.model.proofs.RefusalLaws.{both-accepted, passed}
 use Rattle.model.proofs.ConsistentSites.{length-countersIn}
 use Rattle.model.proofs.ConsistentNetwork.{network-sound-of}
+use Rattle.network_memory.proofs.SitesReading.{getD-sitesIn, siteRecords-sitesIn, sitesMemory-sitesIn}
 use Rattle.coordinator_steps.proofs.MemoryLaws.{memory-kept}
 use Rattle.tracker.specs.declared.BatchAnswer.{BatchAnswer}
 use Rattle.tracker.specs.Batch.{BatchCall, BatchLent, BatchSays, startRefusal, batchIn, unlessRefused}
-use Rattle.history.specs.State.{Held, State, networkOf, recordAt}
+use Rattle.history.specs.State.{Held, State, networkOf, recordAt, siteStart}
 use Rattle.history.specs.Histories.{batchCall, afterBatch}
-use Rattle.history.proofs.SitesMemory.{offset, getD-sitesIn}
-use Rattle.history.proofs.SitesWritten.{sitesMemory-sitesIn, siteRecords-sitesIn}
 
 -- ---- A batch of the model that accepts nothing
 
+-- The network is as it was, and nothing was sent.
 pub record NothingDone (network : Network) (batch : Batch) : Type 0 where
   pub network-same : batch .network ≡ network
   pub no-messages : batch .messages ≡ []
@@ -64,6 +65,7 @@ never-fewer settings room (arrival ∷ arrivals) batch =
         rw (none, batchFrom) (omega (arith, later next))
     by-refusal false some later = rw (some, batchFrom) (omega arith)
 
+-- A batch that accepts no arrival did nothing.
 pub nothing-done : (settings : Settings) (room : ℕ) (network : Network) (arrivals : List Arrival)
     → batchOf settings room network arrivals .accepted ≡ 0
     → NothingDone network (batchOf settings room network arrivals)
@@ -124,15 +126,29 @@ passes-of settings held none =
           (not-false consistent (consistent-row .test-failed));
     }
 
+-- No more sites are read than there are records.
+length-sitesIn-le : (k : ℕ) (settings : Settings) (records : List SiteRecord) (memory : List ℕ)
+    → length (sitesIn k settings records memory) ≤ length records
+length-sitesIn-le zero settings records memory = omega arith
+length-sitesIn-le (suc k) settings [] memory = omega arith
+length-sitesIn-le (suc k) settings (first ∷ others) memory =
+    omega (arith, length-sitesIn-le k settings others (drop (siteWords settings) memory))
+
 module _ (settings : Settings) (held : Held) (ok : Passes settings held) where
-  used-within : (j : ℕ) → j < settings .sites → j < length (held .sites .records)
-      → recordAt held j .used ≤ settings .capacity
-  used-within j known inside =
-      let words = siteWords settings in
-      let at = drop (offset words j) (held .siteMemory) in
+  enough-records : settings .sites ≤ length (held .sites .records)
+  enough-records =
+      omega (
+        arith,
+        ok .sound .all-sites,
+        length-sitesIn-le (settings .sites) settings (held .sites .records) (held .siteMemory),
+      )
+
+  used-within : (j : ℕ) → j < settings .sites → recordAt held j .used ≤ settings .capacity
+  used-within j known =
+      let at = drop (siteStart settings j) (held .siteMemory) in
       let here : siteAt (networkOf settings held) j ≡ siteIn settings (recordAt held j) at =
-      getD-sitesIn settings (settings .sites) j (held .sites .records) (held .siteMemory)
-      (siteRecord freshSite) known inside in
+      getD-sitesIn (siteRecord freshSite) (settings .sites) settings (held .sites .records)
+      (held .siteMemory) j known enough-records in
       let few = rw here at (ok .sound .sites-sound j known .few-counters) in
       omega (arith, few, length-countersIn (recordAt held j .used) at)
 
@@ -171,7 +187,7 @@ module _ (before : State) (given : Settings) (arrivals : List Arrival) (log : Li
       by-start _ _ (answer .sites) (says .sites)
       (λ none.
       let done = idle-batch none in
-      let records = siteRecords-sitesIn given (given .sites) (held .sites .records)
+      let records = siteRecords-sitesIn (given .sites) given (held .sites .records)
       (held .siteMemory) in
       rw (done .network-same, done .no-messages)
       (λ i. record {
@@ -193,8 +209,9 @@ module _ (before : State) (given : Settings) (arrivals : List Arrival) (log : Li
       (λ none.
       let ok = passes-of given held none in
       rw (idle-batch none .network-same)
-      (sitesMemory-sitesIn given (given .sites) (held .sites .records) (siteRecord freshSite)
-      (held .siteMemory) (ok .sites-long) (used-within given held ok)))
+      (sitesMemory-sitesIn (siteRecord freshSite) (given .sites) given (held .sites .records)
+      (held .siteMemory) (used-within given held ok) (enough-records given held ok)
+      (ok .sites-long)))
 
   coordinator-memory-same : lent .coordinatorMemory ≡ held .coordinatorMemory
   coordinator-memory-same =
@@ -209,6 +226,7 @@ module _ (before : State) (given : Settings) (arrivals : List Arrival) (log : Li
       by-start _ _ (answer .written) (says .written)
       (λ none. ap length (idle-batch none .no-messages))
 
+  -- Records, memory and bookkeeping are as they were.
   pub batch-same : afterBatch before arrivals lent answer ≡ before
   batch-same =
       rw (nothing, nothing-written)

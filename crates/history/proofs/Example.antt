@@ -1,5 +1,5 @@
--- The history of specs/Example.antt is one: each call's answer, in numbers, keeps the call's contract,
--- and its results are the next state.
+-- The history of specs/Example.antt is one: each call's answer, in numbers, keeps the call's
+-- contract, and its results are the next state.
 --
 --   example            the last state is reachable
 --   example-list, example-quantile   what the reading calls then answer
@@ -213,6 +213,7 @@ then : {before : State} (after : State)
     → Reachable settingsA after
 then {before} after step earlier = stepped before after earlier step
 
+-- Ten calls after the two starts.
 pub example : Reachable settingsA afterBatchOfTwo
 example =
     then afterBatchOfTwo (arrives batch-stopped)
@@ -228,12 +229,14 @@ example =
 
 -- ---- A reading: "listed 7", "class 3"
 
+-- The list call on two places: item 7.
 pub example-list : Lists settingsA (afterBatchOfTwo .held .coordinator)
     (afterBatchOfTwo .held .coordinatorMemory) (8 ∷ (8 ∷ [])) (7 ∷ (8 ∷ []))
     (record { refusal = 0; count = 1 })
 unfolding valueCount
 example-list = record { refusal = refl; count = refl; list = refl }
 
+-- The quantile call: value 3.
 pub example-quantile : ReadsQuantile settingsA (afterBatchOfTwo .held .coordinator)
     (afterBatchOfTwo .held .coordinatorMemory)
     (record { refusal = 0; quantile = Value 3 })

@@ -1,13 +1,13 @@
--- What lies past the numbers that are written stays: of a site in its part, of all sites, and of the
--- coordinator. PROOF.md section 7, "Frame".
+-- What lies past the numbers that are written stays: of a site in its part, of all sites, and of
+-- the coordinator. PROOF.md section 7, "Frame".
 --
 --   drop-later                 two lists that are the same from a place on are so from a later one
 --   take-written, drop-written one site written: before its part, and behind it
---   drop-siteRecords, drop-sitesMemory   all sites written
---   drop-coordinatorMemory     the coordinator written
+--   tail-siteRecords, tail-sitesMemory   all sites written: what lies past them
+--   tail-coordinatorMemory     the coordinator written
 use mathlib.Core.Path.{_≡_, refl, ap, sym, _∙_}
 use mathlib.Core.List.{List, [], _∷_, _++_}
-use Prim.Native.Nat.{ℕ, suc, _+_, _-_, _*_, _≤_, _<_}
+use Prim.Native.Nat.{ℕ, _+_, _-_, _*_, _≤_}
 use native.Mathlib.Omega.{arith}
 use lib.ListN.{length, take, drop, length-drop, length-append}
 use lib.Seq.{length-take-le, drop-drop, take-at, drop-at, drop-append-add}
@@ -19,12 +19,13 @@ use Rattle.model.specs.SiteMemory.{siteWords, siteMemory}
 use Rattle.model.specs.Coordinator.{Coordinator}
 use Rattle.model.specs.CoordinatorMemory.{coordinatorWords, coordinatorMemory}
 use Rattle.model.specs.NetworkMemory.{sitesMemory, siteRecords}
-use Rattle.site_memory.proofs.SiteMemoryLaws.{length-siteMemory}
+use Rattle.network_memory.proofs.OneSite.{Storable, length-written}
+use Rattle.network_memory.proofs.SitesMemoryLaws.{AllStorable, later}
 use Rattle.history.proofs.SitesMemory.{offset, written, drop-siteMemory}
-use Rattle.history.proofs.SitesWritten.{AllStorable}
 
 -- ---- Places further on
 
+-- By m - n places more on both sides.
 pub drop-later : {A : Type 0} (n m : ℕ) (xs ys : List A)
     → n ≤ m
     → drop n xs ≡ drop n ys
@@ -48,62 +49,64 @@ module _ (settings : Settings) where
 
   -- ---- One site written
 
-  module _ (site : Site)
-      (few : length (site .counters) ≤ settings .capacity)
-      (values : length (site .histogram) ≡ valueCount)
+  module _ (site : Site) (fits : Storable settings site)
       (start : ℕ) (memory : List ℕ)
       (long : start + words ≤ length memory) where
     front : length (take start memory) ≡ start
     front = length-take-le start memory (omega arith)
 
+    -- What lies before the site's part.
     pub take-written : take start (written settings start site memory) ≡ take start memory
     take-written =
         take-at (take start memory) (siteMemory settings site (drop start memory)) start front
 
+    -- What lies behind the site's part.
     pub drop-written : drop (start + words) (written settings start site memory)
         ≡ drop (start + words) memory
     drop-written =
         drop-past (take start memory) (siteMemory settings site (drop start memory)) start words
         front
-        ∙ drop-siteMemory settings site few values (drop start memory)
+        ∙ drop-siteMemory settings site fits (drop start memory)
         (omega (arith, length-drop start memory))
         ∙ drop-drop words start memory
 
   -- ---- All sites written
 
-  pub drop-siteRecords : (sites : List Site) (records : List SiteRecord)
+  -- The records past those of the sites.
+  pub tail-siteRecords : (sites : List Site) (records : List SiteRecord)
       → drop (length sites) (siteRecords sites records) ≡ drop (length sites) records
-  drop-siteRecords [] records = refl
-  drop-siteRecords (site ∷ sites) [] = refl
-  drop-siteRecords (site ∷ sites) (first ∷ others) = drop-siteRecords sites others
+  tail-siteRecords [] records = refl
+  tail-siteRecords (site ∷ sites) [] = refl
+  tail-siteRecords (site ∷ sites) (first ∷ others) = tail-siteRecords sites others
 
-  pub drop-sitesMemory : (sites : List Site) (memory : List ℕ)
+  -- The memory past the parts of the sites.
+  pub tail-sitesMemory : (sites : List Site) (memory : List ℕ)
       → AllStorable settings sites
       → length sites * words ≤ length memory
       → drop (offset words (length sites)) (sitesMemory settings sites memory)
       ≡ drop (offset words (length sites)) memory
-  drop-sitesMemory [] memory fit long = refl
-  drop-sitesMemory (site ∷ sites) memory fit long =
-      let own = fit 0 (omega arith) in
+  tail-sitesMemory [] memory fit long = refl
+  tail-sitesMemory (site ∷ sites) memory fit long =
       let start = offset words (length sites) in
       let here = siteMemory settings site (take words memory) in
       let width = length-take-le words memory (omega arith) in
       drop-past here (sitesMemory settings sites (drop words memory)) words start
-      (length-siteMemory settings site (take words memory) (own .few) (own .values)
+      (length-written settings site (take words memory) (fit .at 0 (omega arith))
       (omega (arith, width))
       ∙ width)
-      ∙ drop-sitesMemory sites (drop words memory) (λ j j<. fit (suc j) (omega arith))
+      ∙ tail-sitesMemory sites (drop words memory) (later fit)
       (omega (arith, length-drop words memory))
       ∙ drop-drop start words memory
 
   -- ---- The coordinator written
 
-  pub drop-coordinatorMemory : (c : Coordinator) (memory : List ℕ)
+  -- The memory past the coordinator's numbers.
+  pub tail-coordinatorMemory : (c : Coordinator) (memory : List ℕ)
       → length (c .estimates) ≡ settings .universe
       → length (c .histogram) ≡ valueCount
       → drop (coordinatorWords settings) (coordinatorMemory c memory)
       ≡ drop (coordinatorWords settings) memory
-  drop-coordinatorMemory c memory estimates values =
+  tail-coordinatorMemory c memory estimates values =
       let numbers = c .estimates ++ c .histogram in
       let width : length numbers ≡ coordinatorWords settings =
       length-append (c .estimates) (c .histogram) ∙ omega (arith, estimates, values) in

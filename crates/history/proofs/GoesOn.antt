@@ -1,5 +1,5 @@
--- Every delivery goes on until it has come to rest: the head of the queue is accepted, and so is the
--- wish for a kind 7 while the coordinator announces. PROOF.md section 7, "Never 9 or 10".
+-- Every delivery goes on until it has come to rest: the head of the queue is accepted, and so is
+-- the wish for a kind 7 while the coordinator announces. PROOF.md section 7, "Never 9 or 10".
 --
 --   Further, deliveries-ok    the invariant after so many steps of delivery
 --   delivery-goes-on          the claim
@@ -35,13 +35,16 @@ use Rattle.history.proofs.DeliveredState.{delivered-ok}
 
 -- ---- So many steps
 
+-- So many steps further on, counted from the arrival.
 pub record Further (settings : Settings) (n m : ℕ) (after : State) : Type 0 where
   pub steps : ℕ
   pub in-all : steps ≡ n + m
   pub ok : StateOk settings steps after
 
-module _ {settings : Settings} (passes : settingsRefusal settings ≡ accepted) {n : ℕ} {state : State}
+module _ {settings : Settings} (passes : settingsRefusal settings ≡ accepted)
+    {n : ℕ} {state : State}
     (ok : StateOk settings n state) where
+  -- The invariant after steps of delivery, with refused calls between them.
   pub deliveries-ok : (m : ℕ) (after : State)
       → Deliveries settings state m after
       → Further settings n m after
@@ -118,6 +121,7 @@ module _ {settings : Settings} (passes : settingsRefusal settings ≡ accepted) 
       let there = deliveries-ok m after steps in
       omega (arith, there .in-all, few-of-standing passes (there .ok .standing))
 
+  -- The claim of demand 1 on deliveries.
   pub delivery-goes-on : DeliveryGoesOn settings state
   delivery-goes-on = record {
     coordinator-accepts = coordinator-accepts;

@@ -25,6 +25,7 @@ use Rattle.tracker.specs.Batch.{messageNumbers, messagesIn}
 
 -- ---- Places of an answer
 
+-- One place for at most one message.
 pub one-out : (messages : List Message) (none : Message)
     → length messages ≤ 1
     → take (length messages) (getD messages 0 none ∷ []) ≡ messages
@@ -32,6 +33,7 @@ one-out [] none few = refl
 one-out (m ∷ []) none few = refl
 one-out (m ∷ (m′ ∷ ms)) none few = absurd (omega arith)
 
+-- Two places for at most two.
 pub two-out : (messages : List Message) (none : Message)
     → length messages ≤ 2
     → take (length messages) (getD messages 0 none ∷ (getD messages 1 none ∷ [])) ≡ messages
@@ -75,6 +77,7 @@ module _ (settings : Settings) (c : Coordinator) where
       (narrowed-few low (middle low high)) (narrowed-few (middle low high + 1) high))
   received-in (Announcing site) m = omega arith
 
+  -- The coordinator answers a message with at most one.
   pub received-few : (m : Message) → length (coordinatorReceives settings c m .messages) ≤ 1
   received-few m = received-in (c .phase) m
 
@@ -84,14 +87,18 @@ module _ (settings : Settings) (c : Coordinator) where
   announced-in (Probing site low high sum) = omega arith
   announced-in (Announcing site) = omega arith
 
+  -- It hands out one announcement at a time.
   pub announced-few : length (announced settings c .messages) ≤ 1
   announced-few = announced-in (c .phase)
 
+-- A site answers a message with at most one.
 pub answered-few : (site : Site) (m : Message) → length (siteReceives site m .messages) ≤ 1
 answered-few site m =
     either (λ (after : SiteStep). Few (after .messages)) (isPoll m) _ _ (omega arith)
-    (either (λ (after : SiteStep). Few (after .messages)) (isProbe m) _ _ (omega arith) (omega arith))
+    (either (λ (after : SiteStep). Few (after .messages)) (isProbe m) _ _ (omega arith)
+    (omega arith))
 
+-- An arrival sends at most kinds 1 and 2.
 pub observed-few : (settings : Settings) (site : Site) (arrival : Arrival)
     → length (observed settings site arrival .messages) ≤ 2
 observed-few settings site arrival =

@@ -1,11 +1,11 @@
--- What holds of every state that a history reaches: it is at rest, and then the model's run over the
--- arrivals accepted; or it is in mid-delivery, after so many steps from the run before the arrival.
--- PROOF.md section 7, "Histories".
+-- What holds of every state that a history reaches: it is at rest, and then the model's run over
+-- the arrivals accepted; or it is in mid-delivery, after so many steps from the run before the
+-- arrival. PROOF.md section 7, "Histories".
 --
 --   Resting, Delivering, Standing    where a state stands
 --   StateOk settings n state         the invariant, n steps after the last arrival
 --   rest-of-standing                 at rest it is the model's run
---   SoundParts, SoundHeld, sound-of-standing   sites and coordinator are sound, numbers within the limit
+--   SoundParts, SoundHeld, sound-of-standing   sites and coordinator are sound, numbers small
 --   head-of-standing                 the head of the queue is accepted
 --   run-of-standing                  the accepted arrivals, and the messages as the first of a run
 use mathlib.Core.Path.{_≡_, sym, ap, _∙_, subst}
@@ -36,6 +36,7 @@ use Rattle.history.proofs.Decoded.{Lengths}
 
 -- ---- Where a state stands
 
+-- Nothing waits, and all is as the model's run has it.
 pub record Resting (settings : Settings) (state : State) : Type 0 where
   pub nothing-waits : state .waiting ≡ []
   pub accepted-are : runOf settings (state .accepted) .accepted ≡ state .accepted
@@ -55,10 +56,12 @@ pub record Delivering (settings : Settings) (n : ℕ) (state : State) : Type 0 w
       (delivery (networkOf settings (state .held)) (state .waiting) log)
   pub messages-are : state .messages ≡ runOf settings front .messages ++ log
 
+-- At rest, no step after an arrival; or in mid-delivery.
 pub data Standing (settings : Settings) (n : ℕ) (state : State) : Type 0 where
   resting : n ≡ 0 → Resting settings state → Standing settings n state
   delivering : Delivering settings n state → Standing settings n state
 
+-- The invariant, n steps of delivery after the last arrival.
 pub record StateOk (settings : Settings) (n : ℕ) (state : State) : Type 0 where
   pub lengths : Lengths settings (state .held)
   pub standing : Standing settings n state
@@ -68,11 +71,13 @@ pub record StateOk (settings : Settings) (n : ℕ) (state : State) : Type 0 wher
 
 -- ---- What a standing is worth
 
+-- Each site and the coordinator by itself, and the limit of 100,000,000,000.
 pub record SoundParts (settings : Settings) (network : Network) : Type 0 where
   pub sites-sound : (j : ℕ) → j < settings .sites → SoundSite settings (siteAt network j)
   pub coordinator-sound : SoundCoordinator settings (network .coordinator)
   pub within : CoordinatorWithin (network .coordinator)
 
+-- The same of what a state holds.
 abbrev pub SoundHeld : Settings → State → Type 0
 SoundHeld settings state = SoundParts settings (networkOf settings (state .held))
 
@@ -106,7 +111,8 @@ module _ {settings : Settings} (passes : settingsRefusal settings ≡ accepted) 
 
 -- ---- In mid-delivery, and either way
 
-module _ {settings : Settings} (passes : settingsRefusal settings ≡ accepted) {n : ℕ} {state : State}
+module _ {settings : Settings} (passes : settingsRefusal settings ≡ accepted)
+    {n : ℕ} {state : State}
   where
     -- ---- In mid-delivery
 
@@ -194,14 +200,17 @@ module _ {settings : Settings} (passes : settingsRefusal settings ≡ accepted) 
 
     -- ---- Either way
 
+    -- By the soundness of runs, and in mid-delivery of every step from them.
     pub sound-of-standing : Standing settings n state → SoundHeld settings state
     sound-of-standing (resting _ rest) = sound-rest passes rest
     sound-of-standing (delivering mid) = sound-mid mid
 
+    -- The messages so far are the first of the run's.
     pub run-of-standing : Standing settings n state → BeginsRun settings state
     run-of-standing (resting _ rest) = begins-rest passes rest
     run-of-standing (delivering mid) = begins-mid mid
 
+    -- A delivery with nothing left to do has come to the model's run.
     pub rest-of-standing : Standing settings n state
         → state .waiting ≡ []
         → isAnnouncing (state .held .coordinator .phase) ≡ false
@@ -220,6 +229,7 @@ module _ {settings : Settings} (passes : settingsRefusal settings ≡ accepted) 
         absurd (omega arith)
     head-of-standing (delivering mid) m later waits = in-mid mid .head-accepted m later waits
 
+    -- No delivery has more steps than the model's fuel.
     pub few-of-standing : Standing settings n state → n ≤ deliveryFuel settings
     few-of-standing (resting none rest) = omega arith
     few-of-standing (delivering mid) = in-mid mid .few-steps

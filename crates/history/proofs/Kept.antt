@@ -1,5 +1,5 @@
--- What each step of a history leaves as it was: what lies past the network, and, of a single arrival,
--- all other sites. PROOF.md section 7, "Frame".
+-- What each step of a history leaves as it was: what lies past the network, and, of a single
+-- arrival, all other sites. PROOF.md section 7, "Frame".
 --
 --   others-kept     a single arrival
 --   tails-kept      every step
@@ -28,12 +28,11 @@ use Rattle.history.specs.State.{Held, State, AtRest, networkOf, recordAt
 use Rattle.history.specs.Histories.{batchCall, afterBatch, afterSingle, batch, single, Delivers, to-coordinator, to-site, next-announcement, Step, arrives, delivers, refuses}
 use Rattle.history.specs.Frame.{TailsKept, OthersKept}
 use Rattle.history.proofs.SitesMemory.{offset, offset-is, written}
-use Rattle.history.proofs.FrameLaws.{drop-later, take-written, drop-written, drop-siteRecords, drop-sitesMemory, drop-coordinatorMemory}
-use Rattle.history.proofs.Decoded.{in-memory, memory-then}
+use Rattle.history.proofs.FrameLaws.{drop-later, take-written, drop-written, tail-siteRecords, tail-sitesMemory, tail-coordinatorMemory}
+use Rattle.history.proofs.Decoded.{Lengths, in-memory, memory-then}
 use Rattle.history.proofs.Invariant.{StateOk, Standing, resting, delivering}
 use Rattle.history.proofs.Accepted.{held-sound}
-use Rattle.history.proofs.SitesWritten.{AllStorable}
-use Rattle.history.proofs.BatchedState.{networkWritten}
+use Rattle.history.proofs.BatchedState.{networkWritten, storable}
 use Rattle.history.proofs.BatchedState as Batched
 use Rattle.history.proofs.SingleState as Single
 use Rattle.history.proofs.ToCoordinator as ToCoordinator
@@ -45,16 +44,13 @@ kept-self : (settings : Settings) (held : Held) → TailsKept settings held held
 kept-self settings held = record { records = refl; site-memory = refl; coordinator-memory = refl }
 
 -- A whole network written over what is held.
-network-kept : (settings : Settings) (held : Held) (network : Network)
+network-kept : (settings : Settings) (passes : settingsRefusal settings ≡ accepted) (held : Held)
+    (lengths : Lengths settings held) (network : Network)
     → Sound settings network
-    → sitesWords settings ≤ length (held .siteMemory)
     → (messages : ℕ)
     → TailsKept settings held (networkWritten settings held network messages)
-network-kept settings held network sound long messages =
+network-kept settings passes held lengths network sound messages =
     let all = sound .all-sites in
-    let fit : AllStorable settings (network .sites) = λ j inside.
-    let own = sound .sites-sound j (omega (arith, all)) in
-    record { few = own .few-counters; values = own .histogram-length } in
     let start : offset (siteWords settings) (length (network .sites)) ≡ sitesWords settings =
     offset-is (siteWords settings) (length (network .sites))
     ∙ ap (λ (k : ℕ). k * siteWords settings) all in
@@ -63,21 +59,23 @@ network-kept settings held network sound long messages =
           subst (λ (k : ℕ).
           drop k (siteRecords (network .sites) (held .sites .records))
           ≡ drop k (held .sites .records))
-          all (drop-siteRecords settings (network .sites) (held .sites .records));
+          all (tail-siteRecords settings (network .sites) (held .sites .records));
       site-memory =
           subst (λ (from : ℕ).
           drop from (sitesMemory settings (network .sites) (held .siteMemory))
           ≡ drop from (held .siteMemory))
           start
-          (drop-sitesMemory settings (network .sites) (held .siteMemory) fit
-          (rw all long));
+          (tail-sitesMemory settings (network .sites) (held .siteMemory)
+          (storable passes held lengths network sound messages)
+          (rw all (lengths .sites-long)));
       coordinator-memory =
-          drop-coordinatorMemory settings (network .coordinator) (held .coordinatorMemory)
+          tail-coordinatorMemory settings (network .coordinator) (held .coordinatorMemory)
           (sound .coordinator-sound .numbers .estimates-length)
           (sound .coordinator-sound .numbers .histogram-length);
     }
 
-module _ {settings : Settings} (passes : settingsRefusal settings ≡ accepted) {n : ℕ} (state : State)
+module _ {settings : Settings} (passes : settingsRefusal settings ≡ accepted)
+    {n : ℕ} (state : State)
     (ok : StateOk settings n state) where
   -- ---- A single arrival
 
@@ -105,29 +103,29 @@ module _ {settings : Settings} (passes : settingsRefusal settings ≡ accepted) 
     memory-is : stateThen .held .siteMemory
         ≡ written settings (siteStart settings j) site (state .held .siteMemory)
     memory-is =
-        let sound = Single.site-sound passes state ok at-rest arrival words part answer says
+        let fits = Single.site-fits passes state ok at-rest arrival words part answer says
         accepts in
         memory-then passes (state .held) (ok .lengths) (held-sound passes ok .sites-sound) j known
-        site (sound .few-counters) (sound .histogram-length) words
+        site fits words
         (Single.long passes state ok at-rest arrival words part answer says accepts)
 
     behind : drop (siteStart settings j + siteWords settings) (stateThen .held .siteMemory)
         ≡ drop (siteStart settings j + siteWords settings) (state .held .siteMemory)
     behind =
-        let sound = Single.site-sound passes state ok at-rest arrival words part answer says
+        let fits = Single.site-fits passes state ok at-rest arrival words part answer says
         accepts in
         ap (drop (siteStart settings j + siteWords settings)) memory-is
-        ∙ drop-written settings site (sound .few-counters) (sound .histogram-length)
+        ∙ drop-written settings site fits
         (siteStart settings j) (state .held .siteMemory) within
 
     others-then : OthersKept settings j (state .held) (stateThen .held)
     others-then =
-        let sound = Single.site-sound passes state ok at-rest arrival words part answer says
+        let fits = Single.site-fits passes state ok at-rest arrival words part answer says
         accepts in
         record {
           earlier-parts =
               ap (take (siteStart settings j)) memory-is
-              ∙ take-written settings site (sound .few-counters) (sound .histogram-length)
+              ∙ take-written settings site fits
               (siteStart settings j) (state .held .siteMemory) within;
           later-parts = behind;
           other-records = λ other elsewhere.
@@ -150,6 +148,7 @@ module _ {settings : Settings} (passes : settingsRefusal settings ≡ accepted) 
     same : afterSingle settings state arrival words part answer ≡ stateThen
     same = Single.after-is passes state ok at-rest arrival words part answer says accepts
 
+    -- The claim on the other sites.
     pub others-kept : OthersKept settings j (state .held)
         (afterSingle settings state arrival words part answer .held)
     others-kept =
@@ -174,7 +173,7 @@ module _ {settings : Settings} (passes : settingsRefusal settings ≡ accepted) 
       let network = batchIn (batchCall settings (state .held) arrivals log) .network in
       subst (λ (then : State). TailsKept settings (state .held) (then .held))
       (sym (Batched.after-is passes state ok at-rest arrivals log lent answer says))
-      (network-kept settings (state .held) network sound (ok .lengths .sites-long)
+      (network-kept settings passes (state .held) (ok .lengths) network sound
       (after .held .sites .messages))
 
   -- ---- Delivery
@@ -198,7 +197,7 @@ module _ {settings : Settings} (passes : settingsRefusal settings ≡ accepted) 
             records = refl;
             site-memory = refl;
             coordinator-memory =
-                drop-coordinatorMemory settings
+                tail-coordinatorMemory settings
                 (coordinatorReceives settings (networkOf settings (state .held) .coordinator) m
                 .coordinator)
                 (state .held .coordinatorMemory)
@@ -223,6 +222,7 @@ module _ {settings : Settings} (passes : settingsRefusal settings ≡ accepted) 
 
   -- ---- Every step
 
+  -- The claim on what lies past the network.
   pub tails-kept : (after : State) → Step settings state after
       → TailsKept settings (state .held) (after .held)
   tails-kept after (arrives (batch arrivals log lent answer rest says)) =

@@ -1,7 +1,7 @@
 -- The demands over every history of calls.
 pub mod SiteParts
 pub mod SitesMemory
-pub mod SitesWritten
+pub mod FreshSites
 pub mod FrameLaws
 pub mod Answers
 pub mod RunSound

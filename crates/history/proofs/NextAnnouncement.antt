@@ -29,7 +29,8 @@ use Rattle.history.proofs.Invariant.{StateOk, Resting, Delivering}
 use Rattle.history.proofs.Answers.{accepted-choice}
 use Rattle.history.proofs.DeliveredStep.{goes-on-ok}
 
-module _ {settings : Settings} (passes : settingsRefusal settings ≡ accepted) {n : ℕ} (before : State)
+module _ {settings : Settings} (passes : settingsRefusal settings ≡ accepted)
+    {n : ℕ} (before : State)
     (ok : StateOk settings n before) where
   abbrev held : Held
   held = before .held
@@ -64,6 +65,7 @@ module _ {settings : Settings} (passes : settingsRefusal settings ≡ accepted) 
             rw silent at (rows .later-accepted) in
             absurd (omega arith)
 
+    -- The invariant, one announcement further.
     pub next-ok : Delivering settings n before
         → After
         (sending before

@@ -1,5 +1,5 @@
--- At rest the reading calls answer as the rules say of the arrivals accepted: the coordinator that is
--- held is the run's, and the claims over runs hold of it.
+-- At rest the reading calls answer as the rules say of the arrivals accepted: the coordinator that
+-- is held is the run's, and the claims over runs hold of it.
 --
 --   reads-right     list, margin and quantile
 use mathlib.Core.Path.{_≡_, sym, ap, _∙_, subst}
@@ -32,7 +32,8 @@ use Rattle.history.proofs.Invariant.{StateOk, Resting}
 use Rattle.history.proofs.Accepted.{memory-accepted, refused-by-rules}
 use Rattle.history.proofs.Answers.{accepted-choice}
 
-module _ {settings : Settings} (passes : settingsRefusal settings ≡ accepted) {n : ℕ} {state : State}
+module _ {settings : Settings} (passes : settingsRefusal settings ≡ accepted)
+    {n : ℕ} {state : State}
     (ok : StateOk settings n state) (rest : Resting settings state) where
   abbrev c : Coordinator
   c = rulesCoordinator settings state
@@ -60,8 +61,8 @@ module _ {settings : Settings} (passes : settingsRefusal settings ≡ accepted) 
   -- ---- The list
 
   module _ (before after : List ℕ) (answer : Listed)
-      (says : Lists settings (state .held .coordinator) (state .held .coordinatorMemory) before after
-      answer) where
+      (says : Lists settings (state .held .coordinator) (state .held .coordinatorMemory) before
+      after answer) where
     abbrev listed : List ℕ
     listed = heavyHitters settings c
 
@@ -167,7 +168,9 @@ module _ {settings : Settings} (passes : settingsRefusal settings ≡ accepted) 
 
     quantile-is : answer .quantile ≡ quantileOf settings c
     quantile-is =
-        says .quantile ∙ accepted-choice _ _ _ none-refused ∙ ap (quantileOf settings) coordinator-is
+        says .quantile
+        ∙ accepted-choice _ _ _ none-refused
+        ∙ ap (quantileOf settings) coordinator-is
 
     promise : QuantilePromise settings run
     promise = tracks .quantile-within
@@ -194,6 +197,7 @@ module _ {settings : Settings} (passes : settingsRefusal settings ≡ accepted) 
           (promise .few-above value (sym quantile-is ∙ is));
     }
 
+  -- The claim of demand 2 on the reading calls.
   pub reads-right : ReadsRight settings state
   reads-right = record {
     list = list-right;

@@ -1,5 +1,6 @@
--- A call that accepts nothing leaves everything as it was: its contract hands back records and memory
--- as they were given, and putting them back changes nothing. For every state, arisen or not.
+-- A call that accepts nothing leaves everything as it was: its contract hands back records and
+-- memory as they were given, and putting them back changes nothing. For every state, arisen or
+-- not.
 --
 --   refused-same     the state after such a call
 use mathlib.Core.Path.{_≡_, refl, sym, ap, _∙_}
@@ -59,8 +60,10 @@ module _ (held : Held) where
 
 -- ---- Each call
 
+-- Call by call: the contract hands back what was given.
 pub refused-same : (before after : State) → Refuses before after → after ≡ before
-refused-same before after (arrival-refused given which arrival start words part answer says refused) =
+refused-same before after
+    (arrival-refused given which arrival start words part answer says refused) =
     let refusal = SiteCalls.observeRefusal given (recordAt (before .held) which) arrival
     (partOf (before .held) start words) in
     let no : refusal ≡ accepted → ⊥ = λ none. refused (says .refusal ∙ none) in

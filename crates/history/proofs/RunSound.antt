@@ -34,6 +34,7 @@ use Rattle.model.proofs.NumberTheorem.{number-claims, grown-self, grown-more, a
 use Rattle.model.proofs.ConsistentCoordinator.{CoordinatorWithin}
 use Rattle.model.proofs.Theorem.{demands-over-runs}
 
+-- A sound network that grew from a fresh one.
 pub record SoundRun (settings : Settings) (network : Network) : Type 0 where
   pub sound : Sound settings network
   pub grown : Grown (freshNetwork settings) network
@@ -41,11 +42,12 @@ pub record SoundRun (settings : Settings) (network : Network) : Type 0 where
 module _ (settings : Settings) (passes : settingsRefusal settings ≡ accepted) where
   -- ---- Every run
 
-  -- A refused arrival changes nothing; an accepted one leaves a sound network, grown by one arrival.
+  -- A refused arrival changes nothing; an accepted one leaves a sound network, grown by one.
   sound-run-one : (run : Run) (arrival : Arrival)
       → SoundRun settings (run .network)
       → SoundRun settings (runOne settings run arrival .network)
-  sound-run-one run arrival ok = by-refusal (isZero (refusalIn settings (run .network) arrival)) refl
+  sound-run-one run arrival ok =
+      by-refusal (isZero (refusalIn settings (run .network) arrival)) refl
     where
       by-refusal : (taken : Bool) → isZero (refusalIn settings (run .network) arrival) ≡ taken
           → SoundRun settings (runOne settings run arrival .network)
@@ -67,6 +69,7 @@ module _ (settings : Settings) (passes : settingsRefusal settings ≡ accepted) 
   sound-run-from run (arrival ∷ arrivals) ok =
       sound-run-from (runOne settings run arrival) arrivals (sound-run-one run arrival ok)
 
+  -- Of every list of arrivals, accepted or not.
   pub sound-run : (arrivals : List Arrival) → SoundRun settings (runOf settings arrivals .network)
   sound-run arrivals =
       sound-run-from (freshRun settings) arrivals

@@ -1,5 +1,5 @@
--- The state after a single arrival at rest: the first stage of the delivery that it sets off. PROOF.md
--- section 7, "Histories".
+-- The state after a single arrival at rest: the first stage of the delivery that it sets off.
+-- PROOF.md section 7, "Histories".
 --
 --   single-ok     the invariant of that state
 use mathlib.Core.Path.{_≡_, refl, sym, ap, _∙_, subst}
@@ -24,6 +24,7 @@ use Rattle.model.specs.SoundClaims.{Reached, begun}
 use Rattle.model.proofs.RefusalLaws.{BothAccepted, both-accepted}
 use Rattle.model.proofs.SettingsLaws.{settled}
 use Rattle.model.proofs.SoundSites.{ArrivalTaken, taken-of-no-refusal, sound-observed}
+use Rattle.network_memory.proofs.OneSite.{Storable}
 use Rattle.site_steps.specs.declared.Observed.{Observed}
 use Rattle.site.specs.Calls as SiteCalls
 use Rattle.history.specs.State.{Held, State, AtRest, networkOf, recordAt, siteStart, sitePart, withPart, afterSiteCall}
@@ -34,7 +35,8 @@ use Rattle.history.proofs.Invariant.{StateOk, Resting, Delivering, deli
 use Rattle.history.proofs.Accepted.{held-sound, resting-of}
 use Rattle.history.proofs.Answers.{accepted-choice, accepted-long, words-enough}
 
-module _ {settings : Settings} (passes : settingsRefusal settings ≡ accepted) {n : ℕ} (before : State)
+module _ {settings : Settings} (passes : settingsRefusal settings ≡ accepted)
+    {n : ℕ} (before : State)
     (ok : StateOk settings n before) (at-rest : AtRest before)
     (arrival : Arrival) (words : ℕ) (part : List ℕ) (answer : Observed)
     (says : SiteCalls.ObserveSays settings (recordAt (before .held) (arrival .site)) arrival
@@ -65,9 +67,11 @@ module _ {settings : Settings} (passes : settingsRefusal settings ≡ accepted) 
       (arrivalRefusal settings (siteIn settings numbers given) arrival)
   parts = both-accepted (siteMemoryRefusal settings numbers given) _ none
 
+  -- The part that was lent is long enough, as the call accepts it.
   pub long : siteWords settings ≤ length given
   long = accepted-long settings numbers given (parts .first-accepted)
 
+  -- The arrival names one of the k sites.
   pub known : j < settings .sites
   known =
       taken-of-no-refusal settings (siteIn settings numbers given) arrival (parts .later-accepted)
@@ -77,8 +81,10 @@ module _ {settings : Settings} (passes : settingsRefusal settings ≡ accepted) 
   site-here : siteIn settings numbers given ≡ siteAt (networkOf settings held) j
   site-here =
       site-part passes held (ok .lengths) (held-sound passes ok .sites-sound) j known words
-      (words-enough (siteWords settings) words (drop (siteStart settings j) (held .siteMemory)) long)
+      (words-enough (siteWords settings) words (drop (siteStart settings j) (held .siteMemory))
+      long)
 
+  -- The site with the arrival.
   abbrev pub site : Site
   site = observed settings (siteAt (networkOf settings held) j) arrival .site
 
@@ -88,11 +94,20 @@ module _ {settings : Settings} (passes : settingsRefusal settings ≡ accepted) 
       (subst (λ (s : Site). arrivalRefusal settings s arrival ≡ accepted) site-here
       (parts .later-accepted))
 
+  -- An accepted arrival keeps a site sound.
   pub site-sound : SoundSite settings site
   site-sound =
       sound-observed (settled settings passes .capacity .at-least) taken-here
       (held-sound passes ok .sites-sound j known)
 
+  -- So it fits its part.
+  pub site-fits : Storable settings site
+  site-fits = record {
+    few-counters = site-sound .few-counters;
+    all-values = site-sound .histogram-length;
+  }
+
+  -- The state, by the model's step.
   abbrev pub after : State
   after = record {
     held = afterSiteCall held j (siteRecord site)
@@ -119,6 +134,7 @@ module _ {settings : Settings} (passes : settingsRefusal settings ≡ accepted) 
       ∙ two-out messages noMessage (observed-few settings (siteIn settings numbers given) arrival)
       ∙ ap (λ (s : Site). observed settings s arrival .messages) site-here
 
+  -- What the call answers and leaves is what its contract says of the model's step.
   pub after-is : afterSingle settings before arrival words part answer ≡ after
   after-is =
       let record-is : answer .site ≡ siteRecord site =
@@ -140,7 +156,7 @@ module _ {settings : Settings} (passes : settingsRefusal settings ≡ accepted) 
   network-then : networkOf settings (after .held) ≡ withSite (networkOf settings held) j site
   network-then =
       network-site-written passes held (ok .lengths) (held-sound passes ok .sites-sound) j known
-      site (site-sound .few-counters) (site-sound .histogram-length) words long
+      site site-fits words long
 
   -- The delivery begins.
   begins : Delivering settings 0 after
@@ -170,12 +186,13 @@ module _ {settings : Settings} (passes : settingsRefusal settings ≡ accepted) 
   after-ok = record {
     lengths =
         lengths-site-written passes held (ok .lengths) (held-sound passes ok .sites-sound) j known
-        site (site-sound .few-counters) (site-sound .histogram-length) words long;
+        site site-fits words long;
     standing = delivering begins;
     count-is-sum = ok .count-is-sum;
     logged-within =
         omega (arith, ok .logged-within, length-append (before .messages) (after .waiting));
   }
 
+  -- The invariant when a delivery begins.
   pub single-ok : StateOk settings 0 (afterSingle settings before arrival words part answer)
   single-ok = subst (StateOk settings 0) (sym after-is) after-ok

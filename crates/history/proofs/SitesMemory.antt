@@ -1,8 +1,7 @@
--- All sites in their records and memory, one part after another: what is read, and what is read after
--- one part was written. PROOF.md section 7, "Frame".
+-- All sites in their records and memory, one part after another: what is read, and what is read
+-- after one part was written. PROOF.md section 7, "Frame".
 --
 --   offset words which              where a site's part starts
---   getD-sitesIn, length-sitesIn    each site that is read, and how many
 --   sitesIn-set                     one record changed: that site alone
 --   sitesIn-written                 one part written, with its record: that site alone
 --   part-written                    a part as a call left it, put back in its place
@@ -14,52 +13,33 @@ use lib.ListN.{length, getD, set, take, drop, length-append, length-drop, take-a
 use lib.Seq.{length-take-le, take-add, drop-drop, drop-at}
 use Rattle.model.specs.declared.Settings.{Settings}
 use Rattle.model.specs.declared.SiteRecord.{SiteRecord}
-use Rattle.model.specs.Limits.{valueCount}
-use Rattle.model.specs.Site.{Site, freshSite}
+use Rattle.model.specs.Site.{Site}
 use Rattle.model.specs.SiteMemory.{siteWords, siteIn, siteMemory}
 use Rattle.model.specs.NetworkMemory.{sitesIn}
-use Rattle.site_memory.proofs.SiteMemoryLaws.{length-siteMemory}
+use Rattle.network_memory.proofs.OneSite.{Storable, siteIn-front}
+use Rattle.network_memory.proofs.OneSite as OneSite
 use Rattle.history.specs.State.{withPart}
-use Rattle.history.proofs.SiteParts.{siteIn-append, siteIn-take, siteMemory-append}
+use Rattle.history.proofs.SiteParts.{siteIn-take, siteMemory-append}
 
 -- ---- Where parts start
 
+-- So many parts of so many numbers each.
 abbrev pub offset : ℕ → ℕ → ℕ
 offset words zero = 0
 offset words (suc which) = words + offset words which
 
+-- A product, as document 01 has it.
 pub offset-is : (words which : ℕ) → offset words which ≡ which * words
 offset-is words zero = omega arith
 offset-is words (suc which) = omega (arith, offset-is words which)
-
--- ---- Sites that are read
 
 module _ (settings : Settings) where
   abbrev words : ℕ
   words = siteWords settings
 
-  pub length-sitesIn : (k : ℕ) (records : List SiteRecord) (memory : List ℕ)
-      → k ≤ length records
-      → length (sitesIn k settings records memory) ≡ k
-  length-sitesIn zero records memory enough = refl
-  length-sitesIn (suc k) [] memory enough = absurd (omega arith)
-  length-sitesIn (suc k) (first ∷ others) memory enough =
-      ap suc (length-sitesIn k others (drop words memory) (omega arith))
-
-  pub getD-sitesIn : (k j : ℕ) (records : List SiteRecord) (memory : List ℕ) (default : SiteRecord)
-      → j < k
-      → j < length records
-      → getD (sitesIn k settings records memory) j freshSite
-      ≡ siteIn settings (getD records j default) (drop (offset words j) memory)
-  getD-sitesIn zero j records memory default j<k inside = absurd (omega arith)
-  getD-sitesIn (suc k) j [] memory default j<k inside = absurd (omega arith)
-  getD-sitesIn (suc k) zero (first ∷ others) memory default j<k inside = refl
-  getD-sitesIn (suc k) (suc j) (first ∷ others) memory default j<k inside =
-      getD-sitesIn k j others (drop words memory) default (omega arith) (omega arith)
-      ∙ ap (siteIn settings (getD others j default)) (drop-drop (offset words j) words memory)
-
   -- ---- One record changed
 
+  -- A record changed, the memory as it was.
   pub sitesIn-set : (k j : ℕ) (records : List SiteRecord) (numbers : SiteRecord) (memory : List ℕ)
       → sitesIn k settings (set records j numbers) memory
       ≡ set (sitesIn k settings records memory) j
@@ -80,9 +60,8 @@ module _ (settings : Settings) where
   abbrev pub written : ℕ → Site → List ℕ → List ℕ
   written start site memory = take start memory ++ siteMemory settings site (drop start memory)
 
-  module _ (site : Site)
-      (few : length (site .counters) ≤ settings .capacity)
-      (values : length (site .histogram) ≡ valueCount) where
+  module _ (site : Site) (fits : Storable settings site) where
+    -- Writing a site keeps the length.
     pub length-written : (start : ℕ) (memory : List ℕ)
         → start + words ≤ length memory
         → length (written start site memory) ≡ length memory
@@ -94,7 +73,7 @@ module _ (settings : Settings) where
           arith,
           length-take-le start memory (omega arith),
           length-drop start memory,
-          length-siteMemory settings site (drop start memory) few values behind,
+          OneSite.length-written settings site (drop start memory) fits behind,
         )
 
     -- A part as a call left it, put back: the site written where its part starts.
@@ -107,7 +86,7 @@ module _ (settings : Settings) where
         ap (λ (behind : List ℕ). take start memory ++ behind)
         (ap (λ (tail : List ℕ). siteMemory settings site (take n rest) ++ tail)
         (sym (drop-drop n start memory))
-        ∙ sym (siteMemory-append settings site (take n rest) (drop n rest) values long)
+        ∙ sym (siteMemory-append settings site (take n rest) (drop n rest) fits long)
         ∙ ap (siteMemory settings site) (take-append-drop n rest))
 
     -- What lies past a site's own numbers is as it was.
@@ -118,12 +97,13 @@ module _ (settings : Settings) where
         let front = length-take-le words memory long in
         ap (drop words)
         (ap (siteMemory settings site) (sym (take-append-drop words memory))
-        ∙ siteMemory-append settings site (take words memory) (drop words memory) values
+        ∙ siteMemory-append settings site (take words memory) (drop words memory) fits
         (omega (arith, front)))
         ∙ drop-at (siteMemory settings site (take words memory)) (drop words memory) words
-        (length-siteMemory settings site (take words memory) few values (omega (arith, front))
+        (OneSite.length-written settings site (take words memory) fits (omega (arith, front))
         ∙ front)
 
+    -- A record changed, and the site written in its part.
     pub sitesIn-written : (k j : ℕ) (records : List SiteRecord) (numbers default : SiteRecord)
         (memory : List ℕ)
         → offset words j + words ≤ length memory
@@ -151,7 +131,7 @@ module _ (settings : Settings) where
         let first-same : siteIn settings first (written (words + start) site memory)
         ≡ siteIn settings first memory =
         ap (siteIn settings first) apart
-        ∙ siteIn-append settings first (take words memory) (written start site rest)
+        ∙ siteIn-front settings first (take words memory) (written start site rest)
         (small 0 (omega arith)) (omega (arith, front))
         ∙ siteIn-take settings first words memory (small 0 (omega arith)) (omega arith)
         (omega arith) in

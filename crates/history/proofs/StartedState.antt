@@ -29,7 +29,7 @@ use Rattle.coordinator.specs.Calls as CoordinatorCalls
 use Rattle.history.specs.State.{State, networkOf}
 use Rattle.history.specs.Histories.{startState}
 use Rattle.history.proofs.Answers.{accepted-choice}
-use Rattle.history.proofs.SitesWritten.{sitesIn-fresh}
+use Rattle.history.proofs.FreshSites.{sitesIn-fresh}
 use Rattle.history.proofs.Decoded.{Lengths}
 use Rattle.history.proofs.DecodedCoordinator.{length-coordinatorMemory}
 use Rattle.history.proofs.Invariant.{StateOk, resting}
@@ -117,6 +117,7 @@ module _ (settings : Settings) (sitesBefore sitesAfter coordinatorBefore coordin
   none-coordinator : CoordinatorCalls.startRefusal settings (length coordinatorBefore) ≡ accepted
   none-coordinator = sym (coordinator-says .refusal) ∙ coordinator-accepted
 
+  -- A start that is accepted had settings that pass.
   pub start-passes : settingsRefusal settings ≡ accepted
   start-passes = both-accepted (settingsRefusal settings) _ none-sites .first-accepted
 
@@ -146,6 +147,7 @@ module _ (settings : Settings) (sitesBefore sitesAfter coordinatorBefore coordin
       λ i. startState (sites-say .sites i) (coordinator-says .coordinator i) (site-memory i)
       (memory i)
 
+  -- The invariant of the first state.
   pub start-ok : StateOk settings 0
       (startState (sites .sites) (coordinator .coordinator) sitesAfter coordinatorAfter)
   start-ok =

@@ -1,5 +1,5 @@
--- The three demands hold of every history of calls: the invariant holds after the two start calls and
--- is kept by every step, and each demand follows from it. PROOF.md section 7.
+-- The three demands hold of every history of calls: the invariant holds after the two start calls
+-- and is kept by every step, and each demand follows from it. PROOF.md section 7.
 --
 --   Arisen, arisen    the invariant of every reachable state
 --   demands           the theorem
@@ -34,6 +34,7 @@ use Rattle.history.proofs.Kept.{tails-kept, others-kept}
 
 -- ---- The invariant of every reachable state
 
+-- The invariant, some steps after the last arrival.
 pub record Arisen (settings : Settings) (state : State) : Type 0 where
   pub steps : ℕ
   pub ok : StateOk settings steps state
@@ -44,7 +45,10 @@ module _ {settings : Settings} (passes : settingsRefusal settings ≡ accepted) 
       → Step settings before after
       → Arisen settings after
   arisen-step before after there (arrives (batch arrivals log lent answer rest says)) =
-      record { steps = 0; ok = batch-ok passes before (there .ok) rest arrivals log lent answer says }
+      record {
+        steps = 0;
+        ok = batch-ok passes before (there .ok) rest arrivals log lent answer says;
+      }
   arisen-step before after there (arrives (single arrival words part answer rest says accepts)) =
       record {
         steps = 0;
@@ -59,6 +63,7 @@ module _ {settings : Settings} (passes : settingsRefusal settings ≡ accepted) 
             (there .ok);
       }
 
+  -- By recursion on the history.
   pub arisen : (state : State) → Reachable settings state → Arisen settings state
   arisen state
       (started sitesBefore sitesAfter coordinatorBefore coordinatorAfter sites coordinator
@@ -146,5 +151,6 @@ module _ (settings : Settings) (state : State) (passes : settingsRefusal setting
         count-is-sum = there .ok .count-is-sum;
       }
 
+-- The three demands.
 pub demands : Demands
 demands = record { first = first; second = second; third = third }

@@ -30,7 +30,8 @@ use Rattle.history.proofs.Invariant.{StateOk, Delivering}
 use Rattle.history.proofs.Answers.{accepted-choice}
 use Rattle.history.proofs.DeliveredStep.{goes-on-ok, handed-on, coordinator-sound-then}
 
-module _ {settings : Settings} (passes : settingsRefusal settings ≡ accepted) {n : ℕ} (before : State)
+module _ {settings : Settings} (passes : settingsRefusal settings ≡ accepted)
+    {n : ℕ} (before : State)
     (ok : StateOk settings n before) where
   abbrev held : Held
   held = before .held
@@ -67,11 +68,13 @@ module _ {settings : Settings} (passes : settingsRefusal settings ≡ accepted) 
         (suc n) (joining after later (mid .log)))
         over (handed-on before mid m later waits)
 
+    -- The coordinator then is sound.
     pub sound-then : SoundCoordinator settings (step .coordinator)
     sound-then =
         coordinator-sound-then passes before mid
         (joining (handToCoordinator settings network m) later (mid .log)) on
 
+    -- What the call answers and leaves is what its contract says of the model's step.
     pub held-is : afterCoordinatorCall held (answer .coordinator) memory
         ≡ afterCoordinatorCall held (coordinatorRecord (step .coordinator))
         (coordinatorMemory (step .coordinator) (held .coordinatorMemory))
@@ -103,6 +106,7 @@ module _ {settings : Settings} (passes : settingsRefusal settings ≡ accepted) 
           );
     }
 
+    -- The invariant, one message further.
     pub to-coordinator-ok : After
         (sending before (afterCoordinatorCall held (answer .coordinator) memory) later
         (receivedOut answer))

@@ -33,7 +33,8 @@ use Rattle.history.proofs.Accepted.{held-sound}
 use Rattle.history.proofs.Answers.{accepted-choice, accepted-long, words-enough}
 use Rattle.history.proofs.DeliveredStep.{goes-on-ok, handed-on}
 
-module _ {settings : Settings} (passes : settingsRefusal settings ≡ accepted) {n : ℕ} (before : State)
+module _ {settings : Settings} (passes : settingsRefusal settings ≡ accepted)
+    {n : ℕ} (before : State)
     (ok : StateOk settings n before) where
   abbrev held : Held
   held = before .held
@@ -65,6 +66,7 @@ module _ {settings : Settings} (passes : settingsRefusal settings ≡ accepted) 
         orElse siteMessageRefusal settings (siteIn settings (recordAt held j) given) j m)
     rows = both-accepted (siteMemoryRefusal settings (recordAt held j) given) _ none
 
+    -- The message names one of the k sites, as the call accepts it.
     pub known : j < settings .sites
     known =
         leb-false (settings .sites) j
@@ -109,6 +111,7 @@ module _ {settings : Settings} (passes : settingsRefusal settings ≡ accepted) 
         (answered-few (siteIn settings (recordAt held j) given) m)
         ∙ ap (λ (site : Site). siteReceives site m .messages) site-here
 
+    -- The invariant, one message further.
     pub to-site-ok : After
         (sending before (afterSiteCall held j (answer .site) (held .siteMemory)) later
         (answeredOut answer))

@@ -138,6 +138,7 @@ pub record DeliveryGoesOn (settings : Settings) (state : State) : Type 0 where
       → Deliveries settings state n after
       → n ≤ deliveryFuel settings
 
+-- Demand 1: what is in order is accepted, and what is not is refused by its own number.
 pub record First (settings : Settings) (state : State) : Type 0 where
   pub memory-accepted : MemoryAccepted settings state
   pub refused-by-rules : RefusedByRules settings state
@@ -162,6 +163,7 @@ pub record AsRulesAtRest (settings : Settings) (state : State) : Type 0 where
   -- list, margin and quantile as the calls answer them
   pub reads-right : ReadsRight settings state
 
+-- Demand 2: messages, list and class are those of document 01's rules.
 pub record Second (settings : Settings) (state : State) : Type 0 where
   pub at-rest : AtRest state
       → AsRulesAtRest settings state
@@ -205,6 +207,7 @@ pub record Third (settings : Settings) (state : State) : Type 0 where
 
 -- ---- The demands
 
+-- For all settings that pass their test and all states that a history reaches.
 pub record Demands : Type 0 where
   pub first : (settings : Settings) (state : State)
       → settingsRefusal settings ≡ accepted

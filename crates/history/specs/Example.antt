@@ -1,7 +1,7 @@
--- One history, state by state, in numbers: so the demands are about something. Settings A of document
--- 01's instances. Both start calls, on memory that holds other numbers and is longer than asked; a
--- draw that is refused; the draw of P2 by single calls, with a refused message in mid-delivery; a
--- batch of two such draws, stopped by 14 after the first; a reading.
+-- One history, state by state, in numbers: so the demands are about something. Settings A of
+-- document 01's instances. Both start calls, on memory that holds other numbers and is longer than
+-- asked; a draw that is refused; the draw of P2 by single calls, with a refused message in
+-- mid-delivery; a batch of two such draws, stopped by 14 after the first; a reading.
 --
 --   startedState                           started; the refused draw leaves it so
 --   afterDraw                              the draw accepted: kinds 1 and 2 wait
@@ -30,6 +30,7 @@ abbrev pub countersUsed : ℕ → ℕ
 countersUsed zero = 0
 countersUsed (suc more) = 1
 
+-- Every draw was reported: nothing is pending, and the threshold is 1.
 abbrev pub siteAfter : ℕ → SiteRecord
 siteAfter draws = record {
   arrivals = draws;
@@ -44,13 +45,16 @@ abbrev pub firstCounter : ℕ → List ℕ
 firstCounter zero = 0 ∷ (0 ∷ (0 ∷ (0 ∷ [])))
 firstCounter (suc more) = 7 ∷ (suc more ∷ (0 ∷ (suc more ∷ [])))
 
+-- So many of value 3, of the others none.
 abbrev pub valueCounts : ℕ → List ℕ
 valueCounts threes = 0 ∷ (0 ∷ (0 ∷ (threes ∷ replicate 1020 0)))
 
+-- After so many draws.
 abbrev pub siteNumbers : ℕ → List ℕ
 siteNumbers draws =
     firstCounter draws ++ (replicate 20 0 ++ (valueCounts draws ++ (5 ∷ (5 ∷ []))))
 
+-- The coordinator's record: its threshold is 1, and no halving has set a quantile.
 abbrev pub coordinatorWith : ℕ → ℕ → ℕ → Phase → CoordinatorRecord
 coordinatorWith total base signals phase = record {
   total = total;
@@ -66,6 +70,7 @@ abbrev pub coordinatorNumbers : ℕ → ℕ → List ℕ
 coordinatorNumbers sevens threes =
     replicate 7 0 ++ (sevens ∷ (0 ∷ (0 ∷ (valueCounts threes ++ (9 ∷ (9 ∷ []))))))
 
+-- All of it: so many draws, so many messages counted, and the coordinator.
 abbrev pub heldWith : ℕ → ℕ → CoordinatorRecord → List ℕ → Held
 heldWith draws logged coordinator numbers = record {
   sites = record {
@@ -83,11 +88,13 @@ heldWith draws logged coordinator numbers = record {
 abbrev pub reports : List Message
 reports = itemReport 0 7 1 ∷ (countReport 0 1 3 ∷ [])
 
+-- The five messages of one draw.
 abbrev pub allMessages : ℕ → List Message
 allMessages base = reports ++ (poll 0 ∷ (pollAnswer 0 0 ∷ (announcement 0 1 base ∷ [])))
 
 -- ---- The states
 
+-- Both start calls are done.
 abbrev pub startedState : State
 startedState = record {
   held = heldWith 0 0 (coordinatorWith 0 0 0 Idle) (coordinatorNumbers 0 0);
@@ -107,33 +114,41 @@ delivering coordinator numbers waiting messages = record {
   logged = 0;
 }
 
+-- Its reports wait.
 abbrev pub afterDraw : State
 afterDraw = delivering (coordinatorWith 0 0 0 Idle) (coordinatorNumbers 0 0) reports reports
 
+-- Kind 1 is handed over: item 7 has 1.
 abbrev pub afterItemReport : State
 afterItemReport =
-    delivering (coordinatorWith 0 0 0 Idle) (coordinatorNumbers 1 0) (countReport 0 1 3 ∷ []) reports
+    delivering (coordinatorWith 0 0 0 Idle) (coordinatorNumbers 1 0) (countReport 0 1 3 ∷ [])
+    reports
 
+-- Kind 2 is handed over: the round closes, and site 0 is polled.
 abbrev pub afterCountReport : State
 afterCountReport =
     delivering (coordinatorWith 1 0 1 (Collecting 0)) (coordinatorNumbers 1 1) (poll 0 ∷ [])
     (reports ++ (poll 0 ∷ []))
 
+-- Kind 3 is handed over: its answer waits.
 abbrev pub afterPoll : State
 afterPoll =
     delivering (coordinatorWith 1 0 1 (Collecting 0)) (coordinatorNumbers 1 1)
     (pollAnswer 0 0 ∷ []) (reports ++ (poll 0 ∷ (pollAnswer 0 0 ∷ [])))
 
+-- Kind 4 is handed over: base 1 gives threshold 1, to be announced.
 abbrev pub afterPollAnswer : State
 afterPollAnswer =
     delivering (coordinatorWith 1 1 1 (Announcing 0)) (coordinatorNumbers 1 1) []
     (reports ++ (poll 0 ∷ (pollAnswer 0 0 ∷ [])))
 
+-- Kind 7 is asked for: the coordinator is idle, and the message waits.
 abbrev pub afterAnnouncement : State
 afterAnnouncement =
     delivering (coordinatorWith 1 1 0 Idle) (coordinatorNumbers 1 1) (announcement 0 1 1 ∷ [])
     (allMessages 1)
 
+-- Kind 7 is handed over.
 abbrev pub atRestAgain : State
 atRestAgain =
     delivering (coordinatorWith 1 1 0 Idle) (coordinatorNumbers 1 1) [] (allMessages 1)

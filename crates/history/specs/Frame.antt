@@ -12,6 +12,7 @@ use Rattle.model.specs.CoordinatorMemory.{coordinatorWords}
 use Rattle.model.specs.NetworkMemory.{sitesWords}
 use Rattle.history.specs.State.{Held, recordAt, siteStart}
 
+-- What is no part of the network that the settings describe.
 pub record TailsKept (settings : Settings) (before after : Held) : Type 0 where
   -- the records of sites k to 31
   pub records : drop (settings .sites) (after .sites .records)
@@ -23,6 +24,7 @@ pub record TailsKept (settings : Settings) (before after : Held) : Type 0 where
   pub coordinator-memory : drop (coordinatorWords settings) (after .coordinatorMemory)
       ≡ drop (coordinatorWords settings) (before .coordinatorMemory)
 
+-- All that a call on one site is not about.
 pub record OthersKept (settings : Settings) (which : ℕ) (before after : Held) : Type 0 where
   -- the parts before the site's own, and all that lies behind it
   pub earlier-parts : take (siteStart settings which) (after .siteMemory)

@@ -8,7 +8,7 @@
 --   Refuses before after               any call that accepts nothing, at any time
 --   Step settings before after         one of them
 --   Reachable settings state           the states of all histories under these settings
---   Deliveries settings start n state  n steps of delivery from a state on, refused calls between them
+--   Deliveries settings start n state  n steps of delivery, with refused calls between them
 use mathlib.Core.Path.{_≡_}
 use mathlib.Core.Bool.{true, false}
 use mathlib.Core.List.{List, [], _∷_, _++_}
@@ -46,8 +46,8 @@ batchCall settings held arrivals log = record {
   log = log;
 }
 
--- Records from the answer, memory as it was left; as many of the arrivals as it accepted, and as many
--- messages of the log as it wrote.
+-- Records from the answer, memory as it was left; as many of the arrivals as it accepted, and as
+-- many messages of the log as it wrote.
 abbrev pub afterBatch : State → List Arrival → BatchLent → BatchAnswer → State
 afterBatch before arrivals lent answer = record {
   held = record {
@@ -98,11 +98,12 @@ pub data Arrives (settings : Settings) (before : State) : State → Type 0 where
 abbrev pub answeredOut : Answered → List Message
 answeredOut answer = take (answer .count) (answer .reply ∷ [])
 
+-- The same for the coordinator's answer.
 abbrev pub receivedOut : Received → List Message
 receivedOut answer = take (answer .count) (answer .out ∷ [])
 
--- "each message that goes out is handed and accepted once, in the order of going out, to the deck or
--- desk it is for, answers included, and kind 7 is asked for until the desk is idle"
+-- "each message that goes out is handed and accepted once, in the order of going out, to the deck
+-- or desk it is for, answers included, and kind 7 is asked for until the desk is idle"
 pub data Delivers (settings : Settings) (before : State) : State → Type 0 where
   -- the head of the queue is for the coordinator, which accepts it
   to-coordinator : (m : Message) (later : List Message) (memory : List ℕ) (answer : Received)
@@ -200,6 +201,7 @@ startState sites coordinator siteMemory coordinatorMemory = record {
   logged = 0;
 }
 
+-- Every history is one of these, and every state of it is reachable.
 pub data Reachable (settings : Settings) : State → Type 0 where
   -- "The list starts at a bench started fresh": both start calls are accepted, on memory of any
   -- content and of any length that they accept

@@ -34,6 +34,7 @@ rulesCoordinator settings state = runOf settings (state .accepted) .network .coo
 abbrev pub listedIn : Listed → List ℕ → List ℕ
 listedIn answer after = take (answer .count) after
 
+-- The list call, with a list of so many places before and after it.
 pub record ListRight (settings : Settings) (state : State) (before after : List ℕ) (answer : Listed)
     : Type 0 where
   -- with places enough it is accepted, and otherwise refused by 12
@@ -67,7 +68,9 @@ pub record ListRight (settings : Settings) (state : State) (before after : List 
 
 -- ---- The margin
 
-pub record MarginRight (settings : Settings) (state : State) (item : ℕ) (answer : Margin) : Type 0 where
+-- The margin of an item, or 6.
+pub record MarginRight (settings : Settings) (state : State) (item : ℕ) (answer : Margin)
+    : Type 0 where
   pub item-known : item < settings .universe
       → answer .refusal ≡ accepted
   pub item-unknown : settings .universe ≤ item
@@ -78,7 +81,9 @@ pub record MarginRight (settings : Settings) (state : State) (item : ℕ) (answe
 
 -- ---- The quantile
 
-pub record QuantileRight (settings : Settings) (state : State) (answer : QuantileRead) : Type 0 where
+-- The quantile, which is never refused, and "within e".
+pub record QuantileRight (settings : Settings) (state : State) (answer : QuantileRead)
+    : Type 0 where
   pub never-refused : answer .refusal ≡ accepted
   pub quantile-is : answer .quantile ≡ quantileOf settings (rulesCoordinator settings state)
   -- "none" before the first arrival, and never after it
@@ -99,9 +104,11 @@ pub record QuantileRight (settings : Settings) (state : State) (answer : Quantil
 
 -- ---- All three
 
+-- Whatever the calls answer, if they keep their contracts.
 pub record ReadsRight (settings : Settings) (state : State) : Type 0 where
   pub list : (before after : List ℕ) (answer : Listed)
-      → Lists settings (state .held .coordinator) (state .held .coordinatorMemory) before after answer
+      → Lists settings (state .held .coordinator) (state .held .coordinatorMemory) before after
+      answer
       → ListRight settings state before after answer
   pub margins : (item : ℕ) (answer : Margin)
       → ReadsMargin settings (state .held .coordinator) item (state .held .coordinatorMemory) answer

@@ -2,11 +2,11 @@
 -- (document 01, "Whole lists of draws").
 --
 --   Held                         the records and the lent memory, as the calls before left them
---   State                        these; and the queue, the arrivals, the messages, the sum of answers
+--   State                        these, and the queue, arrivals, messages and the sum of answers
 --   AtRest state                 nothing waits, and the coordinator is idle
 --   recordAt held which          a site's record: the one in `Sites`
---   partOf held start words      so many numbers of the sites' memory from a place on; fewer where it
---                                ends
+--   partOf held start words      so many numbers of the sites' memory from a place on; fewer where
+--                                it ends
 --   sitePart settings held which words    the part that starts where the site's memory starts
 --   afterSiteCall, afterCoordinatorCall   what is held after a call, from the call's results
 use mathlib.Core.Path.{_≡_}
@@ -35,6 +35,7 @@ pub record Held : Type 0 where
   -- the coordinator's lent memory; it may be longer
   pub coordinatorMemory : List ℕ
 
+-- What is held, and what a history is told by: for the statement only.
 pub record State : Type 0 where
   pub held : Held
   -- messages that went out after a single arrival and are not yet handed over, in the order of
@@ -55,7 +56,8 @@ pub record AtRest (state : State) : Type 0 where
 -- The network that records and memory hold.
 abbrev pub networkOf : Settings → Held → Network
 networkOf settings held =
-    networkIn settings (held .sites) (held .coordinator) (held .siteMemory) (held .coordinatorMemory)
+    networkIn settings (held .sites) (held .coordinator) (held .siteMemory)
+    (held .coordinatorMemory)
 
 -- ---- What a call on a site is given
 
@@ -64,6 +66,7 @@ networkOf settings held =
 abbrev pub recordAt : Held → ℕ → SiteRecord
 recordAt held which = getD (held .sites .records) which (siteRecord freshSite)
 
+-- A slice of the sites' memory.
 abbrev pub partOf : Held → ℕ → ℕ → List ℕ
 partOf held start words = take words (drop start (held .siteMemory))
 
@@ -81,6 +84,7 @@ sitePart settings held which words = partOf held (siteStart settings which) word
 abbrev pub withPart : List ℕ → ℕ → ℕ → List ℕ → List ℕ
 withPart memory start words part = take start memory ++ (part ++ drop (start + words) memory)
 
+-- The records with that of one site as a call left it.
 abbrev pub withRecord : Sites → ℕ → SiteRecord → Sites
 withRecord sites which numbers = record {
   records = set (sites .records) which numbers;

@@ -33,10 +33,10 @@ written-on front numbers before n width fits =
     let wide : length front + length numbers ≡ n + length numbers = omega arith in
     let after : drop (n + length numbers) (overwrite front before)
     ≡ drop (length (front ++ numbers)) before =
-        ap (λ (m : ℕ). drop m (overwrite front before)) (sym wide)
-        ∙ drop-append-add front (drop (length front) before) (length numbers)
-        ∙ drop-drop (length numbers) (length front) before
-        ∙ ap (λ (m : ℕ). drop m before) (sym (length-append front numbers)) in
+    ap (λ (m : ℕ). drop m (overwrite front before)) (sym wide)
+    ∙ drop-append-add front (drop (length front) before) (length numbers)
+    ∙ drop-drop (length numbers) (length front) before
+    ∙ ap (λ (m : ℕ). drop m before) (sym (length-append front numbers)) in
     sets-eq numbers (overwrite front before) n (rw same fits)
     ∙ ap
     (λ (l : List ℕ). l ++ numbers ++ drop (n + length numbers) (overwrite front before))
@@ -59,7 +59,8 @@ pub record Recording (before : List ℕ) (records : List SiteRecord) (numbers : 
   pub same-length : length numbers ≡ length before
   pub numbers-are : numbers ≡ overwrite (recordsNumbers i records) before
 
-pub recording-start : (before : List ℕ) (records : List SiteRecord) → Recording before records before 0
+pub recording-start : (before : List ℕ) (records : List SiteRecord)
+    → Recording before records before 0
 recording-start before records = record {
   within = omega arith;
   same-length = refl;

@@ -247,10 +247,7 @@ fn found_numbers(quantile: Quantile) -> FoundNumbers
     ensures { λ r. ⌜ r ≡ foundNumbers quantile ⌝ }
 {
     match quantile {
-        Quantile::Nothing => FoundNumbers {
-            found: 0,
-            value: 0,
-        },
+        Quantile::Nothing => FoundNumbers { found: 0, value: 0 },
         Quantile::Value(value) => FoundNumbers {
             found: 1,
             value: value,

@@ -86,7 +86,13 @@ pub extern "C" fn testing_receive_at_site(
             a: a,
             b: b,
         };
-        let answered = site::receive(settings_from(settings), site_from(site), which, message, memory);
+        let answered = site::receive(
+            settings_from(settings),
+            site_from(site),
+            which,
+            message,
+            memory,
+        );
         write_site(site, answered.site);
         write_message(out, answered.count, answered.reply);
         return answered.refusal;

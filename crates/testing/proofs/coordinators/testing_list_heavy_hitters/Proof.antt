@@ -16,7 +16,7 @@ coordinator-from-requires c κs =
     let at-if1 = c in
     let a = at-if1 .before .before .before .before .before .before .before .args in
     let lends = coordinator-is (a .settings .now) (a .numbers .now) (length (a .out .now)) 1
-        (sym (at-if1 .before .coordinator-lent .ensures) ∙ at-if1 .if1 .taken) in
+    (sym (at-if1 .before .coordinator-lent .ensures) ∙ at-if1 .if1 .taken) in
     (lends .numbers-long, lends .held)
 
 settings-from-requires : tie.Need-settings-from-requires
@@ -53,16 +53,18 @@ returns c =
     let at-if1 = at-coordinator-from .before in
     let a = at-if1 .before .before .before .before .before .before .before .args in
     let says =
-        rw (at-settings-from .settings-from .ensures, at-coordinator-from .coordinator-from .ensures)
-        at (at-list-heavy-hitters .list-heavy-hitters .ensures) in
-    exported-handed _ _ _ (sym (at-if1 .before .coordinator-lent .ensures) ∙ at-if1 .if1 .taken)
+    rw (at-settings-from .settings-from .ensures, at-coordinator-from .coordinator-from .ensures)
+    at (at-list-heavy-hitters .list-heavy-hitters .ensures) in
+    let fit = sym (at-if1 .before .coordinator-lent .ensures) ∙ at-if1 .if1 .taken in
+    let lends = coordinator-is (a .settings .now) (a .numbers .now) (length (a .out .now)) 1 fit in
+    exported-handed _ _ _ fit
     record {
       refusal = says .refusal;
       listed = at-list-heavy-hitters .list-heavy-hitters .result;
       says = says;
       out-is =
           written (at-list-heavy-hitters .list-heavy-hitters .result .count ∷ []) (a .out .now)
-          (coordinator-is (a .settings .now) (a .numbers .now) (length (a .out .now)) 1 (sym (at-if1 .before .coordinator-lent .ensures) ∙ at-if1 .if1 .taken) .lends .places-enough);
+          (lends .lends .places-enough);
     }
 
 returns-2 : tie.Need-returns-2

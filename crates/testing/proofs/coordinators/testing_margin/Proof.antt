@@ -15,7 +15,7 @@ coordinator-from-requires c κs =
     let at-if1 = c in
     let a = at-if1 .before .before .before .before .before .args in
     let lends = coordinator-is (a .settings .now) (a .numbers .now) 0 0
-        (sym (at-if1 .before .coordinator-lent .ensures) ∙ at-if1 .if1 .taken) in
+    (sym (at-if1 .before .coordinator-lent .ensures) ∙ at-if1 .if1 .taken) in
     (lends .numbers-long, lends .held)
 
 settings-from-requires : tie.Need-settings-from-requires
@@ -35,10 +35,12 @@ returns c =
     let at-coordinator-from = at-settings-from .before in
     let at-if1 = at-coordinator-from .before in
     let says =
-        rw (at-settings-from .settings-from .ensures, at-coordinator-from .coordinator-from .ensures)
-        at (at-read-margin .read-margin .ensures) in
+    rw (at-settings-from .settings-from .ensures, at-coordinator-from .coordinator-from .ensures)
+    at (at-read-margin .read-margin .ensures) in
     exported-handed _ _ _ (sym (at-if1 .before .coordinator-lent .ensures) ∙ at-if1 .if1 .taken)
-    (toZ-ofZ w64 (at-read-margin .read-margin .result .margin) (record { sfits = c .struct-told .given .1 .0 .1 }) ∙ says .margin-is)
+    (toZ-ofZ w64 (at-read-margin .read-margin .result .margin)
+    (record { sfits = c .struct-told .given .1 .0 .1 })
+    ∙ says .margin-is)
 
 returns-2 : tie.Need-returns-2
 returns-2 c =

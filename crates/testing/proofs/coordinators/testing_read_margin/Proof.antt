@@ -13,7 +13,7 @@ coordinator-from-requires c κs =
     let at-if1 = c in
     let a = at-if1 .before .before .before .before .before .args in
     let lends = coordinator-is (a .settings .now) (a .numbers .now) 0 0
-        (sym (at-if1 .before .coordinator-lent .ensures) ∙ at-if1 .if1 .taken) in
+    (sym (at-if1 .before .coordinator-lent .ensures) ∙ at-if1 .if1 .taken) in
     (lends .numbers-long, lends .held)
 
 settings-from-requires : tie.Need-settings-from-requires
@@ -33,9 +33,10 @@ returns c =
     let at-coordinator-from = at-settings-from .before in
     let at-if1 = at-coordinator-from .before in
     let says =
-        rw (at-settings-from .settings-from .ensures, at-coordinator-from .coordinator-from .ensures)
-        at (at-read-margin .read-margin .ensures) in
-    exported-handed _ _ _ (sym (at-if1 .before .coordinator-lent .ensures) ∙ at-if1 .if1 .taken) (says .refusal)
+    rw (at-settings-from .settings-from .ensures, at-coordinator-from .coordinator-from .ensures)
+    at (at-read-margin .read-margin .ensures) in
+    exported-handed _ _ _ (sym (at-if1 .before .coordinator-lent .ensures) ∙ at-if1 .if1 .taken)
+    (says .refusal)
 
 returns-2 : tie.Need-returns-2
 returns-2 c =

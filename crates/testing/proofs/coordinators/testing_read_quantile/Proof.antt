@@ -14,7 +14,7 @@ coordinator-from-requires c κs =
     let at-if1 = c in
     let a = at-if1 .before .before .before .before .before .before .args in
     let lends = coordinator-is (a .settings .now) (a .numbers .now) (length (a .out .now)) 2
-        (sym (at-if1 .before .coordinator-lent .ensures) ∙ at-if1 .if1 .taken) in
+    (sym (at-if1 .before .coordinator-lent .ensures) ∙ at-if1 .if1 .taken) in
     (lends .numbers-long, lends .held)
 
 settings-from-requires : tie.Need-settings-from-requires
@@ -45,8 +45,8 @@ returns c =
     let at-coordinator-from = at-settings-from .before in
     let at-if1 = at-coordinator-from .before in
     let says =
-        rw (at-settings-from .settings-from .ensures, at-coordinator-from .coordinator-from .ensures)
-        at (at-read-quantile .read-quantile .ensures) in
+    rw (at-settings-from .settings-from .ensures, at-coordinator-from .coordinator-from .ensures)
+    at (at-read-quantile .read-quantile .ensures) in
     exported-handed _ _ _ (sym (at-if1 .before .coordinator-lent .ensures) ∙ at-if1 .if1 .taken)
     record {
       refusal = says .refusal;

@@ -14,7 +14,7 @@ coordinator-from-requires c κs =
     let at-if1 = c .before in
     let a = at-if1 .before .before .before .before .before .before .before .args in
     let lends = coordinator-is (a .settings .now) (a .numbers .now) (length (a .out .now)) 5
-        (sym (at-if1 .before .coordinator-lent .ensures) ∙ at-if1 .if1 .taken) in
+    (sym (at-if1 .before .coordinator-lent .ensures) ∙ at-if1 .if1 .taken) in
     (lends .numbers-long, lends .held)
 
 settings-from-requires : tie.Need-settings-from-requires
@@ -36,7 +36,8 @@ write-coordinator-requires c κs =
 
 write-message-requires : tie.Need-write-message-requires
 write-message-requires c κs =
-    let at-if1 = c .before .before .before .before .before .before .before .before .before .before .before .before .before in
+    let at-write = c .before .before .before .before in
+    let at-if1 = at-write .before .before .before .before .before .before .before .before .before in
     let a = at-if1 .before .before .before .before .before .before .before .args in
     (coordinator-is (a .settings .now) (a .numbers .now) (length (a .out .now)) 5
     (sym (at-if1 .before .coordinator-lent .ensures) ∙ at-if1 .if1 .taken)) .lends .places-enough
@@ -59,8 +60,8 @@ returns c =
     let at-coordinator-from = at-settings-from .before in
     let at-if1 = at-coordinator-from .before .before in
     let says =
-        rw (at-settings-from .settings-from .ensures, at-coordinator-from .coordinator-from .ensures)
-        at (at-receive .receive .ensures) in
+    rw (at-settings-from .settings-from .ensures, at-coordinator-from .coordinator-from .ensures)
+    at (at-receive .receive .ensures) in
     exported-handed _ _ _ (sym (at-if1 .before .coordinator-lent .ensures) ∙ at-if1 .if1 .taken)
     record {
       refusal = says .refusal;

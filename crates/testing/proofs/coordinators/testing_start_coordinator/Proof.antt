@@ -39,8 +39,8 @@ returns c =
     let at-settings-from = at-start-coordinator .before .before in
     let at-if1 = at-settings-from .before in
     let says =
-        rw (at-settings-from .settings-from .ensures)
-        at (at-start-coordinator .start-coordinator .ensures) in
+    rw (at-settings-from .settings-from .ensures)
+    at (at-start-coordinator .start-coordinator .ensures) in
     exported-handed _ _ _ (sym (at-if1 .before .places-lent .ensures) ∙ at-if1 .if1 .taken)
     record {
       refusal = says .refusal;

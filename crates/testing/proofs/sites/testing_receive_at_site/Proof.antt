@@ -55,8 +55,8 @@ returns c =
     let at-settings-from = at-site-from .before .before in
     let at-if1 = at-settings-from .before in
     let says =
-        rw (at-settings-from .settings-from .ensures, at-site-from .site-from .ensures)
-        at (at-receive .receive .ensures) in
+    rw (at-settings-from .settings-from .ensures, at-site-from .site-from .ensures)
+    at (at-receive .receive .ensures) in
     exported-handed _ _ _ (sym (at-if1 .before .site-lent .ensures) ∙ at-if1 .if1 .taken)
     record {
       refusal = says .refusal;

@@ -59,7 +59,8 @@ pub record Recording (before : List ℕ) (records : List SiteRecord) (numbers : 
   pub same-length : length numbers ≡ length before
   pub numbers-are : numbers ≡ overwrite (recordsNumbers i records) before
 
-pub recording-start : (before : List ℕ) (records : List SiteRecord) → Recording before records before 0
+pub recording-start : (before : List ℕ) (records : List SiteRecord)
+    → Recording before records before 0
 recording-start before records = record {
   within = omega arith;
   same-length = refl;

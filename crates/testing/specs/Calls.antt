@@ -1,6 +1,6 @@
 -- What the calls of the boundary promise. Where what is lent does not fit, the answer is 255 and
--- nothing is changed; else the answer is the refusal of the call behind it, whose own promise holds of
--- the records that the numbers stand for, and the lent numbers are those of what it hands back.
+-- nothing is changed; else the answer is the refusal of the call behind it, whose own promise holds
+-- of the records that the numbers stand for, and the lent numbers are those of what it hands back.
 --
 --   Lent                          lent numbers, before the call and after it
 --   siteLent, coordinatorLent     whether what is lent fits
@@ -40,6 +40,7 @@ pub record Lent : Type 0 where
   pub before : List ℕ
   pub after : List ℕ
 
+-- The numbers before, and those after.
 abbrev pub lent : List ℕ → List ℕ → Lent
 lent before after = record { before = before; after = after }
 
@@ -47,9 +48,11 @@ lent before after = record { before = before; after = after }
 abbrev pub placesLent : List ℕ → ℕ → ℕ → Bool
 placesLent settings places least = leb 6 (length settings) && leb least places
 
+-- The same with the four numbers of a site's record.
 abbrev pub siteLent : List ℕ → List ℕ → ℕ → ℕ → Bool
 siteLent settings site places least = placesLent settings places least && leb 4 (length site)
 
+-- The same with numbers that are a coordinator's record.
 abbrev pub coordinatorLent : List ℕ → List ℕ → ℕ → ℕ → Bool
 coordinatorLent settings numbers places least =
     placesLent settings places least && coordinatorFits numbers
@@ -85,11 +88,12 @@ StartSitesExported settings memory sites answer =
     (Kept (memory ∷ (sites ∷ [])) answer)
 
 -- An arrival at a site: 9 numbers for two messages and how many there are.
-pub record HandsObserved (settings : Settings) (arrival : Arrival) (site memory out : Lent) (answer : ℕ)
-    : Type 0 where
+pub record HandsObserved (settings : Settings) (arrival : Arrival)
+    (site memory out : Lent) (answer : ℕ) : Type 0 where
   pub refusal : answer ≡ observeRefusal settings (siteFrom (site .before)) arrival (memory .before)
   pub observed : Observed
-  pub says : ObserveSays settings (siteFrom (site .before)) arrival (memory .before) (memory .after) observed
+  pub says : ObserveSays settings (siteFrom (site .before)) arrival
+      (memory .before) (memory .after) observed
   pub site-is : site .after ≡ overwrite (siteNumbers (observed .site)) (site .before)
   pub out-is : out .after
       ≡ overwrite (twoMessages (observed .count) (observed .first) (observed .second)) (out .before)
@@ -120,7 +124,8 @@ SiteReceiveExported settings which m memory site out answer =
 -- ---- The coordinator
 
 -- Starting the coordinator: 10 numbers for its record.
-pub record HandsCoordinator (settings : Settings) (memory numbers : Lent) (answer : ℕ) : Type 0 where
+pub record HandsCoordinator (settings : Settings) (memory numbers : Lent) (answer : ℕ)
+    : Type 0 where
   pub refusal : answer ≡ coordinator.startRefusal settings (length (memory .before))
   pub started : StartedCoordinator
   pub says : coordinator.Starts settings (memory .before) (memory .after) started
@@ -152,7 +157,8 @@ abbrev pub CoordinatorReceiveExported : List ℕ → Message → Lent → Lent �
 CoordinatorReceiveExported settings m numbers memory out answer =
     Exported
     (coordinatorLent settings (numbers .before) (length (out .before)) 5)
-    (HandsReceipt (settingsFrom settings) (coordinatorFrom (numbers .before)) m numbers memory out answer)
+    (HandsReceipt (settingsFrom settings) (coordinatorFrom (numbers .before)) m
+    numbers memory out answer)
     (Kept (numbers ∷ (memory ∷ (out ∷ []))) answer)
 
 -- The next kind 7.
@@ -167,7 +173,8 @@ abbrev pub AnnouncementExported : List ℕ → List ℕ → Lent → Lent → �
 AnnouncementExported settings memory numbers out answer =
     Exported
     (coordinatorLent settings (numbers .before) (length (out .before)) 5)
-    (HandsAnnouncement (settingsFrom settings) (coordinatorFrom (numbers .before)) memory numbers out answer)
+    (HandsAnnouncement (settingsFrom settings) (coordinatorFrom (numbers .before)) memory
+    numbers out answer)
     (Kept (numbers ∷ (out ∷ [])) answer)
 
 -- ---- Reading
@@ -195,6 +202,7 @@ MarginRefusalExported settings numbers item memory answer =
     (answer ≡ marginRefusal (settingsFrom settings) (coordinatorFrom numbers) item memory)
     (answer ≡ unfit)
 
+-- The margin, 0 where it is refused.
 abbrev pub marginRead : Settings → CoordinatorRecord → ℕ → List ℕ → ℤ
 marginRead settings c item memory =
     if isZero (marginRefusal settings c item memory)

@@ -1,10 +1,10 @@
--- Records as plain numbers: how the tests hand them over and get them back. Every list of numbers may
--- be longer than the record; the rest is not looked at, and stays.
+-- Records as plain numbers: how the tests hand them over and get them back. Every list of numbers
+-- may be longer than the record; the rest is not looked at, and stays.
 --
 --   settingsFrom, siteFrom, coordinatorFrom           the record of a list's first numbers
 --   siteNumbers, sitesNumbers, coordinatorNumbers     the numbers of a record, in its order
 --   messageNumbers, quantileNumbers                   the numbers of an answer
---   coordinatorFits numbers                           whether they are a coordinator's record at all
+--   coordinatorFits numbers                           whether they are a coordinator's record
 use mathlib.Core.Bool.{Bool, _&&_}
 use mathlib.Core.List.{List, [], _∷_, _++_}
 use Prim.Native.Nat.{ℕ, zero, suc, max}
@@ -46,6 +46,7 @@ messageNumbers m = m .kind ∷ (m .site ∷ (m .a ∷ (m .b ∷ [])))
 abbrev pub oneMessage : ℕ → Message → List ℕ
 oneMessage count m = count ∷ messageNumbers m
 
+-- The same with two messages.
 abbrev pub twoMessages : ℕ → Message → Message → List ℕ
 twoMessages count first second = count ∷ (messageNumbers first ++ messageNumbers second)
 
@@ -60,6 +61,7 @@ siteFrom numbers = record {
   used = getD numbers 3 0;
 }
 
+-- The same four, in the same order.
 abbrev pub siteNumbers : SiteRecord → List ℕ
 siteNumbers site = site .arrivals ∷ (site .pending ∷ (site .threshold ∷ (site .used ∷ [])))
 
@@ -122,6 +124,7 @@ coordinatorFits numbers =
     && leb (getD numbers 5 0) 3
     && leb (greatestHeld numbers) greatestNarrow
 
+-- The five numbers of a phase.
 abbrev pub phaseOf : ℕ → ℕ → ℕ → ℕ → ℕ → PhaseNumbers
 phaseOf which site low high sum = record {
   which = which;
@@ -131,6 +134,7 @@ phaseOf which site low high sum = record {
   sum = sum;
 }
 
+-- The numbers that a phase has not are 0.
 abbrev pub phaseNumbers : Phase → PhaseNumbers
 phaseNumbers Idle = phaseOf 0 0 0 0 0
 phaseNumbers (Collecting site) = phaseOf 1 site 0 0 0
@@ -143,6 +147,7 @@ tenNumbers c phase =
     c .total ∷ (c .base ∷ (c .threshold ∷ (c .signals ∷ (c .quantile
     ∷ (phase .which ∷ (phase .site ∷ (phase .low ∷ (phase .high ∷ (phase .sum ∷ [])))))))))
 
+-- The ten numbers of a record.
 abbrev pub coordinatorNumbers : CoordinatorRecord → List ℕ
 coordinatorNumbers c = tenNumbers c (phaseNumbers (c .phase))
 
@@ -153,6 +158,7 @@ abbrev pub foundNumbers : Quantile → FoundNumbers
 foundNumbers Nothing = record { found = 0; value = 0 }
 foundNumbers (Value value) = record { found = 1; value = value }
 
+-- The two as a list, and those of a quantile.
 abbrev pub twoNumbers : FoundNumbers → List ℕ
 twoNumbers f = f .found ∷ (f .value ∷ [])
 

@@ -55,14 +55,16 @@ returns c =
     let says =
     rw (at-settings-from .settings-from .ensures, at-coordinator-from .coordinator-from .ensures)
     at (at-list-heavy-hitters .list-heavy-hitters .ensures) in
-    exported-handed _ _ _ (sym (at-if1 .before .coordinator-lent .ensures) ∙ at-if1 .if1 .taken)
+    let fit = sym (at-if1 .before .coordinator-lent .ensures) ∙ at-if1 .if1 .taken in
+    let lends = coordinator-is (a .settings .now) (a .numbers .now) (length (a .out .now)) 1 fit in
+    exported-handed _ _ _ fit
     record {
       refusal = says .refusal;
       listed = at-list-heavy-hitters .list-heavy-hitters .result;
       says = says;
       out-is =
           written (at-list-heavy-hitters .list-heavy-hitters .result .count ∷ []) (a .out .now)
-          (coordinator-is (a .settings .now) (a .numbers .now) (length (a .out .now)) 1 (sym (at-if1 .before .coordinator-lent .ensures) ∙ at-if1 .if1 .taken) .lends .places-enough);
+          (lends .lends .places-enough);
     }
 
 returns-2 : tie.Need-returns-2

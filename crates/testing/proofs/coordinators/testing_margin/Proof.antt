@@ -38,7 +38,9 @@ returns c =
     rw (at-settings-from .settings-from .ensures, at-coordinator-from .coordinator-from .ensures)
     at (at-read-margin .read-margin .ensures) in
     exported-handed _ _ _ (sym (at-if1 .before .coordinator-lent .ensures) ∙ at-if1 .if1 .taken)
-    (toZ-ofZ w64 (at-read-margin .read-margin .result .margin) (record { sfits = c .struct-told .given .1 .0 .1 }) ∙ says .margin-is)
+    (toZ-ofZ w64 (at-read-margin .read-margin .result .margin)
+    (record { sfits = c .struct-told .given .1 .0 .1 })
+    ∙ says .margin-is)
 
 returns-2 : tie.Need-returns-2
 returns-2 c =

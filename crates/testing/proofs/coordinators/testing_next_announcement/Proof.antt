@@ -36,7 +36,8 @@ write-coordinator-requires c κs =
 
 write-message-requires : tie.Need-write-message-requires
 write-message-requires c κs =
-    let at-if1 = c .before .before .before .before .before .before .before .before .before .before in
+    let at-write = c .before .before .before .before in
+    let at-if1 = at-write .before .before .before .before .before .before in
     let a = at-if1 .before .before .before .before .before .before .before .args in
     (coordinator-is (a .settings .now) (a .numbers .now) (length (a .out .now)) 5
     (sym (at-if1 .before .coordinator-lent .ensures) ∙ at-if1 .if1 .taken)) .lends .places-enough

@@ -35,7 +35,8 @@ returns c =
     let says =
     rw (at-settings-from .settings-from .ensures, at-coordinator-from .coordinator-from .ensures)
     at (at-read-margin .read-margin .ensures) in
-    exported-handed _ _ _ (sym (at-if1 .before .coordinator-lent .ensures) ∙ at-if1 .if1 .taken) (says .refusal)
+    exported-handed _ _ _ (sym (at-if1 .before .coordinator-lent .ensures) ∙ at-if1 .if1 .taken)
+    (says .refusal)
 
 returns-2 : tie.Need-returns-2
 returns-2 c =

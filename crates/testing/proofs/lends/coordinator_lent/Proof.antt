@@ -1,25 +1,20 @@
+-- Test by test, as `coordinatorLent`.
 use mathlib.Core.Path.{sym, _∙_}
 use borrow.Author.Needs.{needs}
 use Rattle.testing.proofs.lends.coordinator_lent.Statement.{statement}
 use Rattle.testing.proofs.lends.coordinator_lent.Tie as tie
-use Rattle.testing.proofs.lends.coordinator_lent.Reads as reads
-use Rattle.testing.proofs.lends.coordinator_lent.Lts as lts
-use Rattle.testing.proofs.lends.places_lent.Reads as places-lent-reads
-use Rattle.testing.proofs.numbers.coordinator_fits.Reads as coordinator-fits-reads
 
--- src/lends.rt:35:8
 places-lent-requires : tie.Need-places-lent-requires
 places-lent-requires c κs = search needs
 
--- src/lends.rt:36:9
 coordinator-fits-requires : tie.Need-coordinator-fits-requires
 coordinator-fits-requires c κs = search needs
 
--- src/lends.rt:36:9
 returns : tie.Need-returns
-returns c = rw (sym (c .before .before .places-lent .ensures) ∙ c .before .if1 .taken) (c .coordinator-fits .ensures)
+returns c =
+    rw (sym (c .before .before .places-lent .ensures) ∙ c .before .if1 .taken)
+    (c .coordinator-fits .ensures)
 
--- src/lends.rt:32:1
 returns-2 : tie.Need-returns-2
 returns-2 c = rw (sym (c .before .places-lent .ensures) ∙ c .if1 .left)
 

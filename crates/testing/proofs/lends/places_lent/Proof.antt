@@ -1,14 +1,11 @@
+-- Test by test, as `placesLent`.
 use borrow.Author.Tests.{lt-leb, le-leb}
 use Rattle.testing.proofs.lends.places_lent.Statement.{statement}
 use Rattle.testing.proofs.lends.places_lent.Tie as tie
-use Rattle.testing.proofs.lends.places_lent.Reads as reads
-use Rattle.testing.proofs.lends.places_lent.Lts as lts
 
--- src/lends.rt:16:9
 returns : tie.Need-returns
 returns c = rw (lt-leb 6 _ (c .if1 .taken))
 
--- src/lends.rt:12:1
 returns-2 : tie.Need-returns-2
 returns-2 c = rw (le-leb 6 _ (c .if1 .left))
 

@@ -1,3 +1,4 @@
+-- Test by test, as `coordinatorFits`; the last is on the greatest of five numbers.
 use lib.ListN.{getD}
 use mathlib.Core.Path.{ap, _∙_}
 use Prim.Native.Nat.{ℕ, max}
@@ -6,59 +7,43 @@ use borrow.Author.Tests.{lt-leb, le-leb}
 use borrow.Author.Needs.{needs}
 use Rattle.testing.proofs.numbers.coordinator_fits.Statement.{statement}
 use Rattle.testing.proofs.numbers.coordinator_fits.Tie as tie
-use Rattle.testing.proofs.numbers.coordinator_fits.Reads as reads
-use Rattle.testing.proofs.numbers.coordinator_fits.Lts as lts
-use Rattle.testing.proofs.numbers.larger.Reads as larger-reads
 
--- src/numbers.rt:139:9
 returns : tie.Need-returns
 returns c = rw (lt-leb 10 _ (c .if1 .taken))
 
--- src/numbers.rt:141:12
 shared-slice-read-if2 : tie.Need-shared-slice-read-if2
 shared-slice-read-if2 c = search needs
 
--- src/numbers.rt:142:9
 returns-2 : tie.Need-returns-2
 returns-2 c = rw (le-leb 10 _ (c .before .before .if1 .left), lt-leb _ 3 (c .if2 .taken))
 
--- src/numbers.rt:144:31
 shared-slice-read-larger : tie.Need-shared-slice-read-larger
 shared-slice-read-larger c = search needs
 
--- src/numbers.rt:144:43
 shared-slice-read-larger-2 : tie.Need-shared-slice-read-larger-2
 shared-slice-read-larger-2 c = search needs
 
--- src/numbers.rt:144:9
 larger-requires : tie.Need-larger-requires
 larger-requires c κs = search needs
 
--- src/numbers.rt:145:27
 shared-slice-read-larger-3 : tie.Need-shared-slice-read-larger-3
 shared-slice-read-larger-3 c = search needs
 
--- src/numbers.rt:145:39
 shared-slice-read-larger-4 : tie.Need-shared-slice-read-larger-4
 shared-slice-read-larger-4 c = search needs
 
--- src/numbers.rt:145:9
 larger-requires-2 : tie.Need-larger-requires-2
 larger-requires-2 c κs = search needs
 
--- src/numbers.rt:146:33
 shared-slice-read-larger-5 : tie.Need-shared-slice-read-larger-5
 shared-slice-read-larger-5 c = search needs
 
--- src/numbers.rt:146:26
 larger-requires-3 : tie.Need-larger-requires-3
 larger-requires-3 c κs = search needs
 
--- src/numbers.rt:146:5
 larger-requires-4 : tie.Need-larger-requires-4
 larger-requires-4 c κs = search needs
 
--- src/numbers.rt:135:1
 returns-3 : tie.Need-returns-3
 returns-3 c =
     let at-phase = c .before in

@@ -1,18 +1,14 @@
+-- By the number of the phase, as `phaseFrom`.
 use borrow.Author.Tests.{eq-eqb, ne-eqb}
 use Rattle.testing.proofs.numbers.phase_from.Statement.{statement}
 use Rattle.testing.proofs.numbers.phase_from.Tie as tie
-use Rattle.testing.proofs.numbers.phase_from.Reads as reads
-use Rattle.testing.proofs.numbers.phase_from.Lts as lts
 
--- src/numbers.rt:154:9
 returns : tie.Need-returns
 returns c = rw (eq-eqb _ _ (c .if1 .taken))
 
--- src/numbers.rt:157:9
 returns-2 : tie.Need-returns-2
 returns-2 c = rw (ne-eqb _ _ (c .before .if1 .left), eq-eqb _ _ (c .if2 .taken))
 
--- src/numbers.rt:160:9
 returns-3 : tie.Need-returns-3
 returns-3 c =
     rw (
@@ -21,7 +17,6 @@ returns-3 c =
       eq-eqb _ _ (c .if3 .taken),
     )
 
--- src/numbers.rt:150:1
 returns-4 : tie.Need-returns-4
 returns-4 c =
     rw (

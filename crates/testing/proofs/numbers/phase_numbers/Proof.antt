@@ -1,38 +1,29 @@
+-- By phase, as `phaseNumbers`.
 use borrow.Author.Needs.{needs}
 use Rattle.testing.proofs.numbers.phase_numbers.Statement.{statement}
 use Rattle.testing.proofs.numbers.phase_numbers.Tie as tie
-use Rattle.testing.proofs.numbers.phase_numbers.Reads as reads
-use Rattle.testing.proofs.numbers.phase_numbers.Lts as lts
 
--- src/numbers.rt:188:24
 enum-told : tie.Need-enum-told
 enum-told c = search needs
 
--- src/numbers.rt:195:27
 enum-known-phase : tie.Need-enum-known-phase
 enum-known-phase c = search needs
 
--- src/numbers.rt:202:24
 enum-known-phase-2 : tie.Need-enum-known-phase-2
 enum-known-phase-2 c = search needs
 
--- src/numbers.rt:209:27
 enum-known-phase-3 : tie.Need-enum-known-phase-3
 enum-known-phase-3 c = search needs
 
--- src/numbers.rt:184:1
 returns : tie.Need-returns
 returns c = rw (c .enum-told .given .1)
 
--- src/numbers.rt:184:1
 returns-2 : tie.Need-returns-2
 returns-2 c = rw (c .before .phase .given .1)
 
--- src/numbers.rt:184:1
 returns-3 : tie.Need-returns-3
 returns-3 c = rw (c .before .phase2 .given .1)
 
--- src/numbers.rt:184:1
 returns-4 : tie.Need-returns-4
 returns-4 c = rw (c .before .phase3 .given .1)
 

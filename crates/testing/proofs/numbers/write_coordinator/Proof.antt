@@ -1,86 +1,66 @@
+-- Ten stores at the front, the last five those of the phase.
 use mathlib.Core.Path.{ap, _∙_}
+use native.Mathlib.Omega.{arith}
+use lib.ListN.{length-set}
+use borrow.Author.Needs.{needs}
 use Rattle.model.specs.SiteMemory.{overwrite}
 use Rattle.testing.specs.declared.numbers.PhaseNumbers.{PhaseNumbers}
 use Rattle.testing.specs.Numbers.{tenNumbers}
 use Rattle.testing.proofs.Writing.{written}
-use native.Mathlib.Omega.{arith}
-use lib.ListN.{length-set}
-use borrow.Author.Needs.{needs}
 use Rattle.testing.proofs.numbers.write_coordinator.Statement.{statement}
 use Rattle.testing.proofs.numbers.write_coordinator.Tie as tie
-use Rattle.testing.proofs.numbers.write_coordinator.Reads as reads
-use Rattle.testing.proofs.numbers.write_coordinator.Lts as lts
-use Rattle.testing.proofs.numbers.phase_numbers.Reads as phase-numbers-reads
 
--- src/numbers.rt:225:9
 phase-numbers-requires : tie.Need-phase-numbers-requires
 phase-numbers-requires c κs = search needs
 
--- src/numbers.rt:226:5
 slice-write-numbers : tie.Need-slice-write-numbers
 slice-write-numbers c = search needs
 
--- src/numbers.rt:227:5
 slice-write-numbers-2 : tie.Need-slice-write-numbers-2
 slice-write-numbers-2 c = simp length-set (omega arith)
 
--- src/numbers.rt:228:5
 slice-write-numbers-3 : tie.Need-slice-write-numbers-3
 slice-write-numbers-3 c = simp length-set (omega arith)
 
--- src/numbers.rt:229:18
 cast-numbers : tie.Need-cast-numbers
 cast-numbers c = search needs
 
--- src/numbers.rt:229:5
 slice-write-numbers-4 : tie.Need-slice-write-numbers-4
 slice-write-numbers-4 c = simp length-set (omega arith)
 
--- src/numbers.rt:230:18
 cast-numbers-2 : tie.Need-cast-numbers-2
 cast-numbers-2 c = search needs
 
--- src/numbers.rt:230:5
 slice-write-numbers-5 : tie.Need-slice-write-numbers-5
 slice-write-numbers-5 c = simp length-set (omega arith)
 
--- src/numbers.rt:231:5
 slice-write-numbers-6 : tie.Need-slice-write-numbers-6
 slice-write-numbers-6 c = simp length-set (omega arith)
 
--- src/numbers.rt:232:18
 cast-numbers-3 : tie.Need-cast-numbers-3
 cast-numbers-3 c = search needs
 
--- src/numbers.rt:232:5
 slice-write-numbers-7 : tie.Need-slice-write-numbers-7
 slice-write-numbers-7 c = simp length-set (omega arith)
 
--- src/numbers.rt:233:18
 cast-numbers-4 : tie.Need-cast-numbers-4
 cast-numbers-4 c = search needs
 
--- src/numbers.rt:233:5
 slice-write-numbers-8 : tie.Need-slice-write-numbers-8
 slice-write-numbers-8 c = simp length-set (omega arith)
 
--- src/numbers.rt:234:18
 cast-numbers-5 : tie.Need-cast-numbers-5
 cast-numbers-5 c = search needs
 
--- src/numbers.rt:234:5
 slice-write-numbers-9 : tie.Need-slice-write-numbers-9
 slice-write-numbers-9 c = simp length-set (omega arith)
 
--- src/numbers.rt:235:5
 slice-write-numbers-10 : tie.Need-slice-write-numbers-10
 slice-write-numbers-10 c = simp length-set (omega arith)
 
--- src/numbers.rt:220:1
 same-length : tie.Need-same-length
 same-length c = search needs
 
--- src/numbers.rt:220:1
 returns : tie.Need-returns
 returns c =
     let a = c .before .before .before .before .before .before .before .args in

@@ -1,72 +1,58 @@
-use Rattle.testing.specs.Numbers.{twoMessages}
-use Rattle.testing.proofs.Writing.{written}
+-- Nine stores at the front.
 use native.Mathlib.Omega.{arith}
 use lib.ListN.{length-set}
 use borrow.Author.Needs.{needs}
+use Rattle.testing.specs.Numbers.{twoMessages}
+use Rattle.testing.proofs.Writing.{written}
 use Rattle.testing.proofs.numbers.write_messages.Statement.{statement}
 use Rattle.testing.proofs.numbers.write_messages.Tie as tie
-use Rattle.testing.proofs.numbers.write_messages.Reads as reads
-use Rattle.testing.proofs.numbers.write_messages.Lts as lts
 
--- src/numbers.rt:104:5
 slice-write-numbers : tie.Need-slice-write-numbers
 slice-write-numbers c = search needs
 
--- src/numbers.rt:105:18
 cast-numbers : tie.Need-cast-numbers
 cast-numbers c = search needs
 
--- src/numbers.rt:105:5
 slice-write-numbers-2 : tie.Need-slice-write-numbers-2
 slice-write-numbers-2 c = simp length-set (omega arith)
 
--- src/numbers.rt:106:18
 cast-numbers-2 : tie.Need-cast-numbers-2
 cast-numbers-2 c = search needs
 
--- src/numbers.rt:106:5
 slice-write-numbers-3 : tie.Need-slice-write-numbers-3
 slice-write-numbers-3 c = simp length-set (omega arith)
 
--- src/numbers.rt:107:5
 slice-write-numbers-4 : tie.Need-slice-write-numbers-4
 slice-write-numbers-4 c = simp length-set (omega arith)
 
--- src/numbers.rt:108:5
 slice-write-numbers-5 : tie.Need-slice-write-numbers-5
 slice-write-numbers-5 c = simp length-set (omega arith)
 
--- src/numbers.rt:109:18
 cast-numbers-3 : tie.Need-cast-numbers-3
 cast-numbers-3 c = search needs
 
--- src/numbers.rt:109:5
 slice-write-numbers-6 : tie.Need-slice-write-numbers-6
 slice-write-numbers-6 c = simp length-set (omega arith)
 
--- src/numbers.rt:110:18
 cast-numbers-4 : tie.Need-cast-numbers-4
 cast-numbers-4 c = search needs
 
--- src/numbers.rt:110:5
 slice-write-numbers-7 : tie.Need-slice-write-numbers-7
 slice-write-numbers-7 c = simp length-set (omega arith)
 
--- src/numbers.rt:111:5
 slice-write-numbers-8 : tie.Need-slice-write-numbers-8
 slice-write-numbers-8 c = simp length-set (omega arith)
 
--- src/numbers.rt:112:5
 slice-write-numbers-9 : tie.Need-slice-write-numbers-9
 slice-write-numbers-9 c = simp length-set (omega arith)
 
--- src/numbers.rt:100:1
 same-length : tie.Need-same-length
 same-length c = search needs
 
--- src/numbers.rt:100:1
 returns : tie.Need-returns
-returns c = written (twoMessages (c .before .before .before .before .args .count) (c .before .before .before .before .args .first) (c .before .before .before .before .args .second)) (c .before .before .before .before .args .numbers .now) (omega arith)
+returns c =
+    let a = c .before .before .before .before .args in
+    written (twoMessages (a .count) (a .first) (a .second)) (a .numbers .now) (omega arith)
 
 pub write-messages-spec : {M : Type 1} → statement M
 write-messages-spec =

@@ -35,7 +35,8 @@ write-site-requires c κs =
 
 write-messages-requires : tie.Need-write-messages-requires
 write-messages-requires c κs =
-    let at-if1 = c .before .before .before .before .before .before .before .before .before .before .before .before in
+    let at-write = c .before .before .before .before in
+    let at-if1 = at-write .before .before .before .before .before .before .before .before in
     let a = at-if1 .before .before .before .before .before .before .before .args in
     (site-is (a .settings .now) (a .site .now) (length (a .out .now)) 9
     (sym (at-if1 .before .site-lent .ensures) ∙ at-if1 .if1 .taken)) .lends .places-enough

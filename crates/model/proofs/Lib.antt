@@ -62,4 +62,7 @@ pub mod NumberTheorem
 pub mod ConsistentSites
 pub mod ConsistentCoordinator
 pub mod ConsistentNetwork
+pub mod TakenLaws
+pub mod WorklistLaws
+pub mod TranscriptLaws
 pub mod Instances

@@ -1,5 +1,6 @@
 -- Reading back what was written gives the number: of decimal numbers and of lines.
 --
+--   length-decimal-le  how many digits a number has at most
 --   read-back          a number below ten million, before anything but another digit
 --   read-back-fields   a line of such numbers, before anything
 use mathlib.Core.Path.{_≡_, refl, sym, ap, _∙_, subst}
@@ -15,6 +16,7 @@ use borrow.Author.Tests.{le-leb, eq-eqb, eqb-true, ltb-true, not-true}
 use Rattle.laws.proofs.Tests.{both-true}
 use Rattle.model.specs.Decimal.{isDigit, digitValue, digitByte, noNumber, number, moreDigits, leadingZero, readNumber, decimal}
 use Rattle.model.specs.Lines.{fields, semicolon, lineFeed, beforeMark, readField, withField, readFields, writeFields}
+use Rattle.model.specs.WorklistClaims.{allSmall}
 use Rattle.model.proofs.LineLaws.{fields-last, fields-more}
 use Rattle.model.proofs.DecimalLaws.{more-digits-on, more-digits-stop, decimal-small, decimal-large, length-decimal-large}
 
@@ -140,7 +142,7 @@ pub digits-of : (n : ℕ) → Digits n
 digits-of n = digits-within (suc n) n (omega arith)
 
 -- A number below 10 ^ (m + 1) has at most m + 1 digits.
-length-decimal-le : (m n : ℕ) → n < 10 ^ suc m → length (decimal n) ≤ suc m
+pub length-decimal-le : (m n : ℕ) → n < 10 ^ suc m → length (decimal n) ≤ suc m
 length-decimal-le zero n small = omega (arith, ap length (decimal-small n (omega arith)))
 length-decimal-le (suc m) n small =
     by-size (decLt n 10) (λ large. length-decimal-le m (n / 10) (tenth-small large))
@@ -192,10 +194,6 @@ read-back n rest small end =
     ∙ ap (λ (v : ℕ). number v rest) (d .value))
 
 -- ---- Reading back a line
-
-abbrev pub allSmall : List ℕ → Bool
-allSmall [] = true
-allSmall (n ∷ ns) = ltb n 10000000 && allSmall ns
 
 -- A field and its mark, which is no digit.
 read-back-field : (mark n : ℕ) (rest : List ℕ)

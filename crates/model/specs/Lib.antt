@@ -18,6 +18,8 @@ pub mod NetworkMemory
 pub mod Runs
 pub mod Claims
 pub mod Transcript
+pub mod WorklistClaims
+pub mod TranscriptClaims
 pub mod Instances
 pub mod SoundNetwork
 pub mod DeliveryClaims

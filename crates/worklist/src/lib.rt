@@ -160,8 +160,9 @@ fn read_field(bytes: &[u8], at: usize, mark: u8) -> NumberRead
     no_number()
 }
 
-// Three fields from a place on, the third ended by a mark that the caller names.
-fn read_three(bytes: &[u8], at: usize, last: u8) -> ThreeRead
+// Three fields from a place on, the third ended by a mark that the caller names. Internal: for the
+// crates that read whole lines of such fields.
+pub fn read_three(bytes: &[u8], at: usize, last: u8) -> ThreeRead
     ensures { λ r. ⌜ ThreeAt last (now (bytes .entry)) at r ⌝ }
 {
     let first = read_field(bytes, at, SEMICOLON);
@@ -213,8 +214,8 @@ pub fn test_line(bytes: &[u8]) -> LineRead
     }
 }
 
-// How many digits a number has.
-fn count_decimal(n: u64) -> usize
+// How many digits a number has. Internal: for the crates that write lines of such numbers.
+pub fn count_decimal(n: u64) -> usize
     ensures { λ r. ⌜ r ≡ length (decimal n) ⌝ }
 {
     let mut rest = n;

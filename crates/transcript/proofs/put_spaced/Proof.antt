@@ -1,0 +1,42 @@
+-- A space is written, and the number's digits right after it.
+use native.Mathlib.Omega.{arith}
+use Rattle.transcript.proofs.PutLaws.{put-spaced-number}
+use borrow.Author.Needs.{needs}
+use Rattle.transcript.proofs.put_spaced.Statement.{statement}
+use Rattle.transcript.proofs.put_spaced.Tie as tie
+
+slice-aggregate-put-text : tie.Need-slice-aggregate-put-text
+slice-aggregate-put-text c = search needs
+
+put-text-requires : tie.Need-put-text-requires
+put-text-requires c κs = search needs
+
+write-decimal-requires : tie.Need-write-decimal-requires
+write-decimal-requires c κs = search needs
+
+returns : tie.Need-returns
+returns c =
+    let start = c .before .before .before .before .before .before .before .before .before .before in
+    let text = c .before .before .before .before .before .before .put-text in
+    let digits = c .before .before .write-decimal in
+    put-spaced-number (start .args .n) (start .args .at) (start .args .out .now) _ _
+    (text .result) (digits .result) (start .pre) (text .ensures) (digits .ensures)
+
+add-result : tie.Need-add-result
+add-result c =
+    let start = c .before .before .before .before .before .before .before .before .before .before in
+    record { fits = omega (arith, start .good .1 .0 .0, start .pre, returns c .place-after) }
+
+same-length : tie.Need-same-length
+same-length c = search needs
+
+pub put-spaced-spec : {M : Type 1} → statement M
+put-spaced-spec =
+    tie.close
+    (tie.spec
+    slice-aggregate-put-text
+    put-text-requires
+    write-decimal-requires
+    add-result
+    same-length
+    returns)

@@ -1,0 +1,65 @@
+-- A text is copied byte by byte; the invariant says which bytes have been.
+use Prim.Native.Nat.{_-_}
+use lib.ListN.{length}
+use native.Mathlib.Omega.{arith}
+use borrow.Author.Needs.{needs}
+use Rattle.transcript.proofs.PutLaws.{Copying, copying-begins, copying-on, copying-ends}
+use Rattle.transcript.proofs.put_text.Statement.{statement}
+use Rattle.transcript.proofs.put_text.Tie as tie
+
+abbrev Inv-loop : tie.InvT-loop
+Inv-loop text out₀ at done₀ out done = Copying text at out₀ out done
+
+abbrev μ-loop : tie.MeasureT-loop
+μ-loop text out₀ at done₀ out done = length text - done
+
+loop-holds : tie.Need-loop-holds Inv-loop μ-loop
+loop-holds c =
+    copying-begins (c .args .text .now) (c .args .at) (c .args .out .now)
+
+shared-slice-read-out : tie.Need-shared-slice-read-out Inv-loop μ-loop
+shared-slice-read-out c = search needs
+
+add-out : tie.Need-add-out Inv-loop μ-loop
+add-out c = search needs
+
+slice-write-out : tie.Need-slice-write-out Inv-loop μ-loop
+slice-write-out c = search needs
+
+add-done : tie.Need-add-done Inv-loop μ-loop
+add-done c = search needs
+
+loop-less : tie.Need-loop-less Inv-loop μ-loop
+loop-less c = search needs
+
+loop-again : tie.Need-loop-again Inv-loop μ-loop
+loop-again c =
+    let start = c .before .before .before in
+    copying-on (c .before .before .loop .done) (start .pre) (c .before .before .loop .inv) (c .before .loop-test .taken)
+
+add-result : tie.Need-add-result Inv-loop μ-loop
+add-result c = search needs
+
+same-length : tie.Need-same-length Inv-loop μ-loop
+same-length c = search needs
+
+returns : tie.Need-returns Inv-loop μ-loop
+returns c =
+    copying-ends (c .before .loop .done) (c .before .before .pre) (c .before .loop .inv) (c .loop-test .left)
+
+pub put-text-spec : {M : Type 1} → statement M
+put-text-spec =
+    tie.close
+    (tie.spec
+    Inv-loop
+    μ-loop
+    loop-holds
+    shared-slice-read-out
+    add-out
+    slice-write-out
+    add-done
+    loop-less
+    loop-again
+    add-result
+    same-length
+    returns)

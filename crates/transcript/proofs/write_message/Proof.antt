@@ -1,0 +1,122 @@
+-- The line is written where it fits, and otherwise nothing is.
+use mathlib.Core.Path.{_≡_}
+use mathlib.Core.Bool.{true, false}
+use Prim.Native.Nat.{_+_, _≤_, _<_}
+use native.Mathlib.Omega.{arith}
+use lib.ListN.{length}
+use Rattle.model.specs.Transcript.{messageLine}
+use Rattle.transcript.proofs.RoomLaws.{room-enough, room-short}
+use Rattle.transcript.proofs.LinesLaws.{length-message}
+use Rattle.transcript.proofs.PutLaws.{line-put, line-refused}
+use borrow.Author.Needs.{needs}
+use Rattle.transcript.proofs.write_message.Statement.{statement}
+use Rattle.transcript.proofs.write_message.Tie as tie
+
+cast-spaced-length : tie.Need-cast-spaced-length
+cast-spaced-length c = search needs
+
+spaced-length-requires : tie.Need-spaced-length-requires
+spaced-length-requires c κs = search needs
+
+cast-spaced-length-2 : tie.Need-cast-spaced-length-2
+cast-spaced-length-2 c = search needs
+
+spaced-length-requires-2 : tie.Need-spaced-length-requires-2
+spaced-length-requires-2 c κs = search needs
+
+add-head : tie.Need-add-head
+add-head c = search needs
+
+spaced-length-requires-3 : tie.Need-spaced-length-requires-3
+spaced-length-requires-3 c κs = search needs
+
+add-need : tie.Need-add-need
+add-need c = search needs
+
+spaced-length-requires-4 : tie.Need-spaced-length-requires-4
+spaced-length-requires-4 c κs = search needs
+
+add-need-2 : tie.Need-add-need-2
+add-need-2 c = search needs
+
+has-room-requires : tie.Need-has-room-requires
+has-room-requires c κs = search needs
+
+-- What was counted is the length of the line.
+counted : (c : tie.After-spaced-length4)
+    → let m = c .before .before .before .before .before .before .before .args .m in
+    c .before .before .before .before .spaced-length .result + c .before .before .spaced-length2 .result
+    + c .before .spaced-length3 .result
+    + c .spaced-length4 .result
+    ≡ length (messageLine m)
+counted c =
+    omega (
+      arith,
+      length-message (c .before .before .before .before .before .before .before .args .m),
+      c .before .before .before .before .spaced-length .ensures .is,
+      c .before .before .spaced-length2 .ensures .is,
+      c .before .spaced-length3 .ensures .is,
+      c .spaced-length4 .ensures .is,
+    )
+
+-- What the test for room says of the line.
+fits : (c : tie.After-has-room)
+    → c .has-room .result ≡ true
+    → let args = c .before .before .before .before .before .before .before .before .args in
+    args .at + length (messageLine (args .m)) ≤ length (args .out .now)
+fits c enough =
+    let args = c .before .before .before .before .before .before .before .before .args in
+    omega (
+      arith,
+      room-enough (args .at) _ (length (args .out .now)) (c .has-room .ensures) enough,
+      counted (c .before),
+    )
+
+short : (c : tie.After-has-room)
+    → c .has-room .result ≡ false
+    → let args = c .before .before .before .before .before .before .before .before .args in
+    length (args .out .now) < args .at + length (messageLine (args .m))
+short c lacking =
+    let args = c .before .before .before .before .before .before .before .before .args in
+    omega (
+      arith,
+      room-short (args .at) _ (length (args .out .now)) (c .has-room .ensures) lacking,
+      counted (c .before),
+    )
+
+put-message-requires : tie.Need-put-message-requires
+put-message-requires c κs = fits (c .before .before) (c .before .if1 .taken)
+
+same-length : tie.Need-same-length
+same-length c = search needs
+
+returns : tie.Need-returns
+returns c =
+    let tested = c .before .before .before .before .before in
+    let args = tested .before .before .before .before .before .before .before .before .args in
+    line-put (messageLine (args .m)) (args .at) (args .out .now) _ _
+    (fits tested (c .before .before .before .before .if1 .taken)) (c .before .before .put-message .ensures)
+
+returns-2 : tie.Need-returns-2
+returns-2 c =
+    let args = c .before .before .before .before .before .before .before .before .before .args in
+    line-refused (messageLine (args .m)) (args .at) (args .out .now) (short (c .before) (c .if1 .left))
+
+pub write-message-spec : {M : Type 1} → statement M
+write-message-spec =
+    tie.close
+    (tie.spec
+    cast-spaced-length
+    spaced-length-requires
+    cast-spaced-length-2
+    spaced-length-requires-2
+    add-head
+    spaced-length-requires-3
+    add-need
+    spaced-length-requires-4
+    add-need-2
+    has-room-requires
+    put-message-requires
+    same-length
+    returns
+    returns-2)

@@ -1,0 +1,3 @@
+-- What the calls of this crate promise, and what holds of the lines they write.
+pub mod Contracts
+pub mod LineClaims

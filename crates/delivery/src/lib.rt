@@ -1,0 +1,145 @@
+// The delivery that an arrival sets off in a network: each message that goes out is written to the
+// log, counted and handed over, in the order of going out, to the site or the coordinator it is for,
+// until nothing waits and the coordinator is idle. These functions are internal: they test nothing,
+// and require what the batch call has tested. Every rule stands in the steps of the site and of the
+// coordinator; the delivery only carries messages.
+
+ghost use mathlib.Core.Path.{_≡_};
+ghost use Prim.Native.Nat.{_+_, _*_, _<_, _≤_};
+ghost use lib.ListN.{length, getD, set};
+ghost use Rattle.model.specs.Messages.{noMessage, toCoordinator};
+ghost use Rattle.delivery.specs.Log.{putRecord};
+ghost use Rattle.delivery.specs.Sending.{noRecord, joined, withoutHead, withRecord, oneCounted, sent, sentIf, loggedIf, SendAsks};
+use model::CoordinatorRecord;
+use model::Message;
+use model::SiteRecord;
+use model::Sites;
+
+// The messages that wait to be handed over: two at most, since every hand-over is answered by one at
+// most. An absent one is all zeros.
+pub struct Queue {
+    pub count: u32,
+    pub first: Message,
+    pub second: Message,
+}
+
+// A delivery under way: the records of the network, the messages written to the log so far, and those
+// that wait.
+pub struct Underway {
+    pub sites: Sites,
+    pub coordinator: CoordinatorRecord,
+    pub written: u64,
+    pub waiting: Queue,
+}
+
+// A message waits last.
+fn join(queue: Queue, message: Message) -> Queue
+    ensures { λ r. ⌜ r ≡ joined queue message ⌝ }
+{
+    if queue.count == 0 {
+        return Queue {
+            count: 1,
+            first: message,
+            second: coordinator_steps::no_message(),
+        };
+    }
+    let first = queue.first;
+    Queue {
+        count: 2,
+        first: first,
+        second: message,
+    }
+}
+
+// The messages that wait without their head.
+fn take_head(queue: Queue) -> Queue
+    ensures { λ r. ⌜ r ≡ withoutHead queue ⌝ }
+{
+    let none = coordinator_steps::no_message();
+    if queue.count == 2 {
+        let second = queue.second;
+        return Queue {
+            count: 1,
+            first: second,
+            second: none,
+        };
+    }
+    Queue {
+        count: 0,
+        first: none,
+        second: none,
+    }
+}
+
+// A record of the log.
+fn write_record(log: &mut [u64], place: u64, message: Message)
+    requires { ⌜ 4 * place + 4 ≤ length (now log) ⌝ }
+    ensures { λ r. ⌜ now (log .exit) ≡ putRecord (now (log .entry)) place message ⌝ }
+{
+    let at = 4 * (place as usize);
+    log[at] = message.kind as u64;
+    log[at + 1] = message.site as u64;
+    log[at + 2] = message.a;
+    log[at + 3] = message.b;
+}
+
+// The record of one site.
+fn record_of(sites: Sites, which: usize) -> SiteRecord
+    requires { ⌜ which < 32 ⌝ }
+    ensures { λ r. ⌜ r ≡ getD (sites .records) which noRecord ⌝ }
+{
+    sites.records[which]
+}
+
+// The record of one site changed.
+fn with_record(sites: Sites, which: usize, numbers: SiteRecord) -> Sites
+    requires { ⌜ which < 32 ⌝ }
+    ensures { λ r. ⌜ r ≡ withRecord sites which numbers ⌝ }
+{
+    let mut next = sites;
+    next.records[which] = numbers;
+    next
+}
+
+// A message goes out: it is written to the log, counted, and waits last.
+fn send(underway: Underway, message: Message, log: &mut [u64]) -> Underway
+    requires { ⌜ SendAsks underway (now log) ⌝ }
+    ensures { λ r. ⌜ (r ≡ sent underway message) × (now (log .exit) ≡ putRecord (now (log .entry)) (underway .written) message) ⌝ }
+{
+    write_record(log, underway.written, message);
+    let mut sites = underway.sites;
+    sites.messages = sites.messages + 1;
+    let waiting = underway.waiting;
+    let mut next = underway;
+    next.sites = sites;
+    next.written = underway.written + 1;
+    next.waiting = join(waiting, message);
+    next
+}
+
+// The answer of a step goes out, if it has one.
+fn send_answer(underway: Underway, count: u32, message: Message, log: &mut [u64]) -> Underway
+    requires { ⌜ ((count ≡ 0 → ⊥) → SendAsks underway (now log)) ⌝ }
+    ensures { λ r. ⌜ (r ≡ sentIf count underway message) × (now (log .exit) ≡ loggedIf count (now (log .entry)) (underway .written) message) ⌝ }
+{
+    if count == 0 {
+        return underway;
+    }
+    send(underway, message, log)
+}
+
+// Whether a message is for the coordinator: the kinds 1, 2, 4 and 6.
+fn to_coordinator(message: Message) -> bool
+    ensures { λ r. ⌜ r ≡ toCoordinator message ⌝ }
+{
+    if message.kind == 1 {
+        return true;
+    }
+    if message.kind == 2 {
+        return true;
+    }
+    if message.kind == 4 {
+        return true;
+    }
+    message.kind == 6
+}

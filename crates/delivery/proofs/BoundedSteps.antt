@@ -2,6 +2,8 @@
 -- over moves its amount from what waits to an estimate, and nothing else touches them, but for a value
 -- that is counted while the threshold is 1: then all value counts together are the total.
 --
+--   quiet-receives, quiet-site, quiet-announced   what each step leaves as it was
+--   answers-one         a hand-over is answered by one message at most
 --   bounded-handed      the head of the queue is handed over
 --   bounded-asked       the next kind 7 is asked for
 --   reached-bounded     every delivery that was reached
@@ -46,12 +48,13 @@ use Rattle.delivery.proofs.StageNumbers.{at-stage, total-small}
 -- ---- At the coordinator
 
 -- What a step of the coordinator does to estimates and value counts, and that its answer is no kind 1.
-record Quiet (c : Coordinator) (m : Message) (after : CoordinatorStep) : Type 0 where
-  estimate-rises : (item : ℕ)
+pub record Quiet (c : Coordinator) (m : Message) (after : CoordinatorStep) : Type 0 where
+  pub estimate-rises : (item : ℕ)
       → getD (after .coordinator .estimates) item 0
       ≤ getD (c .estimates) item 0 + (if isItemReport m then m .b else 0)
-  no-items : itemsWaiting (after .messages) ≡ 0
-  histogram-kept : (after .coordinator .threshold ≡ 1 → ⊥)
+  pub no-items : itemsWaiting (after .messages) ≡ 0
+  pub one-answer : length (after .messages) ≤ 1
+  pub histogram-kept : (after .coordinator .threshold ≡ 1 → ⊥)
       → after .coordinator .histogram ≡ c .histogram
 
 -- A number of a list after another number was added to one of them.
@@ -80,6 +83,7 @@ module _ (settings : Settings) (c : Coordinator) (m : Message) where
   quiet-item is-item = record {
     estimate-rises = λ item. rw is-item (getD-added (c .estimates) (m .a) (m .b) item);
     no-items = refl;
+    one-answer = omega arith;
     histogram-kept = λ _. refl;
   }
 
@@ -88,11 +92,13 @@ module _ (settings : Settings) (c : Coordinator) (m : Message) where
   quiet-count true closes = record {
     estimate-rises = λ item. omega arith;
     no-items = rw closes;
+    one-answer = rw closes (omega arith);
     histogram-kept = λ more. rw (ne-eqb (c .threshold) 1 more);
   }
   quiet-count false stays = record {
     estimate-rises = λ item. omega arith;
     no-items = rw stays;
+    one-answer = rw stays (omega arith);
     histogram-kept = λ more. rw (ne-eqb (c .threshold) 1 more);
   }
 
@@ -101,11 +107,13 @@ module _ (settings : Settings) (c : Coordinator) (m : Message) where
   quiet-closed total true probes = rw probes (record {
     estimate-rises = λ item. omega arith;
     no-items = refl;
+    one-answer = omega arith;
     histogram-kept = λ _. refl;
   })
   quiet-closed total false announces = rw announces (record {
     estimate-rises = λ item. omega arith;
     no-items = refl;
+    one-answer = omega arith;
     histogram-kept = λ _. refl;
   })
 
@@ -114,6 +122,7 @@ module _ (settings : Settings) (c : Coordinator) (m : Message) where
   quiet-poll site true more = rw more (record {
     estimate-rises = λ item. omega arith;
     no-items = refl;
+    one-answer = omega arith;
     histogram-kept = λ _. refl;
   })
   quiet-poll site false last = rw last (quiet-closed (c .total + m .a) _ refl)
@@ -123,11 +132,13 @@ module _ (settings : Settings) (c : Coordinator) (m : Message) where
   quiet-narrowed low high true done = rw done (record {
     estimate-rises = λ item. omega arith;
     no-items = refl;
+    one-answer = omega arith;
     histogram-kept = λ _. refl;
   })
   quiet-narrowed low high false wide = rw wide (record {
     estimate-rises = λ item. omega arith;
     no-items = refl;
+    one-answer = omega arith;
     histogram-kept = λ _. refl;
   })
 
@@ -144,6 +155,7 @@ module _ (settings : Settings) (c : Coordinator) (m : Message) where
   quiet-probe site low high count true more = rw more (record {
     estimate-rises = λ item. omega arith;
     no-items = refl;
+    one-answer = omega arith;
     histogram-kept = λ _. refl;
   })
   quiet-probe site low high count false last =
@@ -160,32 +172,64 @@ module _ (settings : Settings) (c : Coordinator) (m : Message) where
   quiet-in (Announcing site) = record {
     estimate-rises = λ item. omega arith;
     no-items = refl;
+    one-answer = omega arith;
     histogram-kept = λ _. refl;
   }
 
-  quiet-receives : Quiet c m (coordinatorReceives settings c m)
+  pub quiet-receives : Quiet c m (coordinatorReceives settings c m)
   quiet-receives = quiet-in (c .phase)
 
 -- ---- At a site
 
-record QuietSite (site : Site) (after : SiteStep) : Type 0 where
-  counters-kept : after .site .counters ≡ site .counters
-  arrivals-kept : after .site .arrivals ≡ site .arrivals
-  no-items : itemsWaiting (after .messages) ≡ 0
+pub record QuietSite (site : Site) (after : SiteStep) : Type 0 where
+  pub counters-kept : after .site .counters ≡ site .counters
+  pub histogram-kept : after .site .histogram ≡ site .histogram
+  pub arrivals-kept : after .site .arrivals ≡ site .arrivals
+  pub no-items : itemsWaiting (after .messages) ≡ 0
+  pub one-answer : length (after .messages) ≤ 1
 
-quiet-site : (site : Site) (m : Message) → QuietSite site (siteReceives site m)
+pub quiet-site : (site : Site) (m : Message) → QuietSite site (siteReceives site m)
 quiet-site site m = by-kind (isPoll m) refl (isProbe m) refl
   where
     by-kind : (poll : Bool) → isPoll m ≡ poll → (probe : Bool) → isProbe m ≡ probe
         → QuietSite site (siteReceives site m)
     by-kind true poll-is probe probe-is =
-        rw poll-is (record { counters-kept = refl; arrivals-kept = refl; no-items = refl })
+        rw poll-is (record {
+          counters-kept = refl;
+          histogram-kept = refl;
+          arrivals-kept = refl;
+          no-items = refl;
+          one-answer = omega arith;
+        })
     by-kind false poll-is true probe-is =
         rw (poll-is, probe-is)
-        (record { counters-kept = refl; arrivals-kept = refl; no-items = refl })
+        (record {
+          counters-kept = refl;
+          histogram-kept = refl;
+          arrivals-kept = refl;
+          no-items = refl;
+          one-answer = omega arith;
+        })
     by-kind false poll-is false probe-is =
         rw (poll-is, probe-is)
-        (record { counters-kept = refl; arrivals-kept = refl; no-items = refl })
+        (record {
+          counters-kept = refl;
+          histogram-kept = refl;
+          arrivals-kept = refl;
+          no-items = refl;
+          one-answer = omega arith;
+        })
+
+-- ---- One answer at most
+
+pub answers-one : (settings : Settings) (network : Network) (m : Message)
+    → length (handOver settings network m .messages) ≤ 1
+answers-one settings network m = by-way (toCoordinator m) refl
+  where
+    by-way : (way : Bool) → toCoordinator m ≡ way
+        → length (handOver settings network m .messages) ≤ 1
+    by-way true way = rw way (quiet-receives settings (network .coordinator) m .one-answer)
+    by-way false way = rw way (quiet-site (siteAt network (m .site)) m .one-answer)
 
 -- ---- The two steps of a delivery
 
@@ -279,23 +323,49 @@ pub record QuietAnnounced (c : Coordinator) (after : CoordinatorStep) : Type 0 w
   pub estimates-kept : after .coordinator .estimates ≡ c .estimates
   pub histogram-kept : after .coordinator .histogram ≡ c .histogram
   pub no-items : itemsWaiting (after .messages) ≡ 0
+  pub one-answer : length (after .messages) ≤ 1
 
 pub quiet-announced : (settings : Settings) (c : Coordinator) (phase : Phase)
     → QuietAnnounced c (announcedIn settings c phase)
 quiet-announced settings c Idle =
-    record { estimates-kept = refl; histogram-kept = refl; no-items = refl }
+    record {
+      estimates-kept = refl;
+      histogram-kept = refl;
+      no-items = refl;
+      one-answer = omega arith;
+    }
 quiet-announced settings c (Collecting site) =
-    record { estimates-kept = refl; histogram-kept = refl; no-items = refl }
+    record {
+      estimates-kept = refl;
+      histogram-kept = refl;
+      no-items = refl;
+      one-answer = omega arith;
+    }
 quiet-announced settings c (Probing site low high count) =
-    record { estimates-kept = refl; histogram-kept = refl; no-items = refl }
+    record {
+      estimates-kept = refl;
+      histogram-kept = refl;
+      no-items = refl;
+      one-answer = omega arith;
+    }
 quiet-announced settings c (Announcing site) = by-last (ltb (site + 1) (settings .sites)) refl
   where
     by-last : (more : Bool) → ltb (site + 1) (settings .sites) ≡ more
         → QuietAnnounced c (announcedIn settings c (Announcing site))
     by-last true more =
-        rw more (record { estimates-kept = refl; histogram-kept = refl; no-items = refl })
+        rw more (record {
+          estimates-kept = refl;
+          histogram-kept = refl;
+          no-items = refl;
+          one-answer = omega arith;
+        })
     by-last false last =
-        rw last (record { estimates-kept = refl; histogram-kept = refl; no-items = refl })
+        rw last (record {
+          estimates-kept = refl;
+          histogram-kept = refl;
+          no-items = refl;
+          one-answer = omega arith;
+        })
 
 pub bounded-asked : (settings : Settings) (network : Network) (waiting : List Message)
     → Bounded network waiting

@@ -4,3 +4,8 @@ pub mod StageNumbers
 pub mod BoundedSteps
 pub mod LogLaws
 pub mod HoldingLaws
+pub mod GoingLaws
+pub mod StepLaws
+pub mod HandLaws
+pub mod HandToCoordinator
+pub mod HandToSite

@@ -7,9 +7,10 @@
 --   Fits                   what was given has room for the settings' network
 --   Going                  a delivery that was reached from an accepted arrival at a sound network
 --   Delivering             some delivery goes on in a state: what a step of it requires
+--   StepAsks, StepSays     a step of it
 --   ArrivalAsks            a network at rest in a state, and an arrival that it accepts
 use mathlib.Core.Path.{_≡_}
-use mathlib.Core.Bool.{Bool, not, _||_}
+use mathlib.Core.Bool.{Bool, true, not, _||_}
 use mathlib.Core.List.{List, [], _++_}
 use Prim.Native.Nat.{ℕ, _+_, _≤_}
 use lib.ListN.{length}
@@ -28,7 +29,7 @@ use Rattle.model.specs.Network.{Network, Delivered, afterArrival}
 use Rattle.model.specs.NetworkMemory.{siteRecords, sitesMemory, sitesWords}
 use Rattle.model.specs.Runs.{refusalIn}
 use Rattle.model.specs.SoundNetwork.{Sound}
-use Rattle.model.specs.DeliveryClaims.{Delivery, delivery, deliveryOf}
+use Rattle.model.specs.DeliveryClaims.{Delivery, delivery, deliveryStep, deliveryOf}
 use Rattle.model.specs.SoundClaims.{Reached}
 use Rattle.delivery.specs.declared.Underway.{Underway}
 use Rattle.delivery.specs.Log.{logRoom, messageNumbers}
@@ -135,9 +136,15 @@ abbrev pub goesOn : Underway → Bool
 goesOn underway =
     not (isZero (underway .waiting .count)) || isAnnouncing (underway .coordinator .phase)
 
+-- A step of a delivery that goes on, and what it comes to, whatever delivery the state holds.
+pub record StepAsks (settings : Settings) (held : State) : Type 0 where
+  pub delivering : Delivering settings held
+  pub goes-on : goesOn (held .underway) ≡ true
+
+pub record StepSays (settings : Settings) (before after : State) : Type 0 where
+  pub next : (u : Delivering settings before)
+      → Holds settings (u .given) (u .earlier) (deliveryStep settings (u .now)) after
+
 -- A delivery that came to rest.
 abbrev pub rested : Delivered → Delivery
 rested after = delivery (after .network) [] (after .messages)
-
-abbrev pub afterAll : {settings : Settings} {held : State} → Delivering settings held → Delivery
-afterAll {settings} u = rested (afterArrival settings (u .network) (u .arrival))

@@ -7,11 +7,15 @@
 ghost use mathlib.Core.Path.{_≡_};
 ghost use Prim.Native.Nat.{_+_, _*_, _<_, _≤_};
 ghost use lib.ListN.{length, getD, set};
-ghost use Rattle.model.specs.Messages.{noMessage, toCoordinator};
+ghost use Rattle.model.specs.Messages.{toCoordinator};
 ghost use Rattle.delivery.specs.Log.{putRecord};
 ghost use Rattle.delivery.specs.Sending.{noRecord, joined, withoutHead, withRecord, oneCounted, sent, sentIf, loggedIf, SendAsks};
+ghost use Rattle.delivery.specs.Holding.{state, goesOn, StepAsks, StepSays};
+use counters::Word;
 use model::CoordinatorRecord;
 use model::Message;
+use model::Phase;
+use model::Settings;
 use model::SiteRecord;
 use model::Sites;
 
@@ -142,4 +146,71 @@ fn to_coordinator(message: Message) -> bool
         return true;
     }
     message.kind == 6
+}
+
+// Whether a message waits, or the coordinator announces.
+fn goes_on(underway: Underway) -> bool
+    ensures { λ r. ⌜ r ≡ goesOn underway ⌝ }
+{
+    let waiting = underway.waiting;
+    if waiting.count != 0 {
+        return true;
+    }
+    let coordinator = underway.coordinator;
+    let phase = coordinator.phase;
+    match phase {
+        Phase::Idle => false,
+        Phase::Collecting(_) => false,
+        Phase::Probing(_, _, _, _) => false,
+        Phase::Announcing(_) => true,
+    }
+}
+
+// One step of a delivery: the head of the messages that wait is handed over, or, where none waits, the
+// next announcement is asked for; the answer goes out.
+fn take_step(
+    settings: Settings,
+    underway: Underway,
+    site_memory: &[Word],
+    coordinator_memory: &mut [u64],
+    log: &mut [u64],
+) -> Underway
+    requires { ⌜ StepAsks settings (state underway (now «site_memory») (now «coordinator_memory») (now log)) ⌝ }
+    ensures { λ r. ⌜ StepSays settings (state underway (now («site_memory» .entry)) (now («coordinator_memory» .entry)) (now (log .entry))) (state r (now («site_memory» .entry)) (now («coordinator_memory» .exit)) (now (log .exit))) ⌝ }
+{
+    let mut next = underway;
+    let waiting = underway.waiting;
+    if waiting.count == 0 {
+        let coordinator = underway.coordinator;
+        let answer = coordinator_steps::announce_step(settings, coordinator);
+        let after = answer.coordinator;
+        let out = answer.out;
+        next.coordinator = after;
+        return send_answer(next, answer.count, out, log);
+    }
+    let message = waiting.first;
+    next.waiting = take_head(waiting);
+    if to_coordinator(message) {
+        let coordinator = underway.coordinator;
+        let answer = coordinator_steps::receive_step(
+            settings,
+            coordinator,
+            message,
+            coordinator_memory,
+        );
+        let after = answer.coordinator;
+        let out = answer.out;
+        next.coordinator = after;
+        return send_answer(next, answer.count, out, log);
+    }
+    let sites = underway.sites;
+    let which = message.site as usize;
+    let start = which * site_memory::site_words(settings);
+    let part = &site_memory[start..];
+    let numbers = record_of(sites, which);
+    let answer = site_steps::receive_step(settings, numbers, message, part);
+    let after = answer.site;
+    let out = answer.reply;
+    next.sites = with_record(sites, which, after);
+    send_answer(next, answer.count, out, log)
 }

@@ -5,6 +5,7 @@
 --   AllStorable                    every site fits its part
 --   length-sitesMemory             writing keeps the length
 --   sitesMemory-set                site j written to its part: that site set among all
+--   sitesMemory-kept               a site set with the same counters and values: nothing is written
 --   siteRecords-set                the same of the records
 -- Letter: j a site.
 use mathlib.Core.Path.{_≡_, refl, ap, sym, _∙_}
@@ -168,3 +169,16 @@ sitesMemory-set settings (first ∷ sites) memory (suc j) site all fits grows lo
     ∙ ap (λ (l : List ℕ). part ++ l)
     (sitesMemory-set settings sites (drop words memory) j site (later all) fits grows
     (rest-long settings (length sites) memory long) (omega arith))
+
+-- Counters and values are all that stands in memory.
+pub sitesMemory-kept : (settings : Settings) (sites : List Site) (memory : List ℕ) (j : ℕ) (site : Site)
+    → site .counters ≡ getD sites j freshSite .counters
+    → site .histogram ≡ getD sites j freshSite .histogram
+    → sitesMemory settings (set sites j site) memory ≡ sitesMemory settings sites memory
+sitesMemory-kept settings [] memory j site counters-kept histogram-kept = refl
+sitesMemory-kept settings (first ∷ sites) memory zero site counters-kept histogram-kept =
+    rw (counters-kept, histogram-kept)
+sitesMemory-kept settings (first ∷ sites) memory (suc j) site counters-kept histogram-kept =
+    ap (λ (l : List ℕ). siteMemory settings first (take (siteWords settings) memory) ++ l)
+    (sitesMemory-kept settings sites (drop (siteWords settings) memory) j site
+    counters-kept histogram-kept)

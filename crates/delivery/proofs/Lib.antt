@@ -6,6 +6,9 @@ pub mod LogLaws
 pub mod HoldingLaws
 pub mod GoingLaws
 pub mod StepLaws
+pub mod DeliverLaws
+pub mod SendLaws
+pub mod BeginLaws
 pub mod HandLaws
 pub mod HandToCoordinator
 pub mod HandToSite

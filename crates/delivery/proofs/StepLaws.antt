@@ -49,7 +49,7 @@ use Rattle.delivery.proofs.GoingLaws.{going-fit, going-stage, going-bou
 
 -- ---- The messages that wait
 
-none-waits : (queue : Queue) (waiting : List Message)
+pub none-waits : (queue : Queue) (waiting : List Message)
     → queue ≡ queueOf waiting
     → queue .count ≡ 0
     → waiting ≡ []

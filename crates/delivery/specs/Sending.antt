@@ -3,8 +3,9 @@
 --   queueOf messages              the messages that wait, as code carries them: two at most
 --   joined, withoutHead           a message waits last; the head is taken
 --   withRecord                    one site's record changed
---   sent, sentIf, loggedIf        a message goes out; only if there is one
---   SendAsks                      what sending asks: a free record, and a count that is not too large
+--   sent, sentIf, sentTwo         a message goes out; only if there is one; none, one or two
+--   loggedIf, loggedTwo           what is written to the log then
+--   SendAsks, SendTwoAsks         what sending asks: free records, and a count that is not too large
 use mathlib.Core.List.{List}
 use Prim.Native.Nat.{ℕ, _+_, _*_, _≤_}
 use lib.Dec.{eqb}
@@ -72,6 +73,21 @@ sentIf count underway m = if isZero count then underway else sent underway m
 abbrev pub loggedIf : ℕ → List ℕ → ℕ → Message → List ℕ
 loggedIf count log place m = if isZero count then log else putRecord log place m
 
+-- An arrival sends none, one or two.
+abbrev pub sentTwo : ℕ → Underway → Message → Message → Underway
+sentTwo count underway first second =
+    if eqb count 2 then sent (sentIf count underway first) second else sentIf count underway first
+
+abbrev pub loggedTwo : ℕ → List ℕ → ℕ → Message → Message → List ℕ
+loggedTwo count log place first second =
+    if eqb count 2
+    then putRecord (loggedIf count log place first) (place + 1) second
+    else loggedIf count log place first
+
 pub record SendAsks (underway : Underway) (log : List ℕ) : Type 0 where
   pub room : 4 * underway .written + 4 ≤ length log
+  pub count-within : underway .sites .messages ≤ messageLimit + underway .written
+
+pub record SendTwoAsks (count : ℕ) (underway : Underway) (log : List ℕ) : Type 0 where
+  pub room : 4 * underway .written + 4 * count ≤ length log
   pub count-within : underway .sites .messages ≤ messageLimit + underway .written

@@ -9,9 +9,10 @@ ghost use Prim.Native.Nat.{_+_, _*_, _<_, _≤_};
 ghost use lib.ListN.{length, getD, set};
 ghost use Rattle.model.specs.Messages.{toCoordinator};
 ghost use Rattle.delivery.specs.Log.{putRecord};
-ghost use Rattle.delivery.specs.Sending.{noRecord, joined, withoutHead, withRecord, oneCounted, sent, sentIf, loggedIf, SendAsks};
-ghost use Rattle.delivery.specs.Holding.{state, goesOn, StepAsks, StepSays};
+ghost use Rattle.delivery.specs.Sending.{noRecord, joined, withoutHead, withRecord, oneCounted, sent, sentIf, sentTwo, loggedIf, loggedTwo, SendAsks, SendTwoAsks};
+ghost use Rattle.delivery.specs.Holding.{state, goesOn, Delivering, StepAsks, StepSays, EndSays, ArrivalAsks, BeginAsks, BeginSays, ArrivalSays};
 use counters::Word;
+use model::Arrival;
 use model::CoordinatorRecord;
 use model::Message;
 use model::Phase;
@@ -132,6 +133,24 @@ fn send_answer(underway: Underway, count: u32, message: Message, log: &mut [u64]
     send(underway, message, log)
 }
 
+// The messages of an arrival go out, of which there are `count`.
+fn send_two(
+    underway: Underway,
+    count: u32,
+    first: Message,
+    second: Message,
+    log: &mut [u64],
+) -> Underway
+    requires { ⌜ SendTwoAsks count underway (now log) ⌝ }
+    ensures { λ r. ⌜ (r ≡ sentTwo count underway first second) × (now (log .exit) ≡ loggedTwo count (now (log .entry)) (underway .written) first second) ⌝ }
+{
+    let next = send_answer(underway, count, first, log);
+    if count == 2 {
+        return send(next, second, log);
+    }
+    next
+}
+
 // Whether a message is for the coordinator: the kinds 1, 2, 4 and 6.
 fn to_coordinator(message: Message) -> bool
     ensures { λ r. ⌜ r ≡ toCoordinator message ⌝ }
@@ -213,4 +232,62 @@ fn take_step(
     let out = answer.reply;
     next.sites = with_record(sites, which, after);
     send_answer(next, answer.count, out, log)
+}
+
+// A delivery to its end.
+fn deliver(
+    settings: Settings,
+    first: Underway,
+    site_memory: &[Word],
+    coordinator_memory: &mut [u64],
+    log: &mut [u64],
+) -> Underway
+    requires { ⌜ Delivering settings (state first (now «site_memory») (now «coordinator_memory») (now log)) ⌝ }
+    ensures { λ r. ⌜ EndSays settings (state first (now («site_memory» .entry)) (now («coordinator_memory» .entry)) (now (log .entry))) (state r (now («site_memory» .entry)) (now («coordinator_memory» .exit)) (now (log .exit))) ⌝ }
+{
+    let mut underway = first;
+    while goes_on(underway) {
+        underway = take_step(settings, underway, site_memory, coordinator_memory, log);
+    }
+    underway
+}
+
+// An arrival at its site, and its messages go out.
+fn begin(
+    settings: Settings,
+    underway: Underway,
+    arrival: Arrival,
+    site_memory: &mut [Word],
+    log: &mut [u64],
+) -> Underway
+    requires { ⌜ BeginAsks settings arrival underway (now «site_memory») (now log) ⌝ }
+    ensures { λ r. ⌜ BeginSays settings arrival underway (now («site_memory» .entry)) (now (log .entry)) r (now («site_memory» .exit)) (now (log .exit)) ⌝ }
+{
+    let sites = underway.sites;
+    let which = arrival.site as usize;
+    let start = which * site_memory::site_words(settings);
+    let numbers = record_of(sites, which);
+    let observed = site_steps::observe_step(settings, numbers, arrival, &mut site_memory[start..]);
+    let after = observed.site;
+    let first = observed.first;
+    let second = observed.second;
+    let mut next = underway;
+    next.sites = with_record(sites, which, after);
+    send_two(next, observed.count, first, second, log)
+}
+
+// An accepted arrival with full delivery. A record of the log is written and counted for each message.
+pub fn take_arrival(
+    settings: Settings,
+    underway: Underway,
+    arrival: Arrival,
+    site_memory: &mut [Word],
+    coordinator_memory: &mut [u64],
+    log: &mut [u64],
+) -> Underway
+    requires { ⌜ ArrivalAsks settings arrival (state underway (now «site_memory») (now «coordinator_memory») (now log)) ⌝ }
+    ensures { λ r. ⌜ ArrivalSays settings arrival (state underway (now («site_memory» .entry)) (now («coordinator_memory» .entry)) (now (log .entry))) (state r (now («site_memory» .exit)) (now («coordinator_memory» .exit)) (now (log .exit))) ⌝ }
+{
+    let begun = begin(settings, underway, arrival, site_memory, log);
+    deliver(settings, begun, site_memory, coordinator_memory, log)
 }

@@ -4,6 +4,7 @@ pub mod SettingsLaws
 pub mod Digits
 pub mod DecimalLaws
 pub mod LineLaws
+pub mod ReadBack
 pub mod Halving
 pub mod Threshold
 pub mod Growth
@@ -40,6 +41,7 @@ pub mod RunLaws
 pub mod RunInvariant
 pub mod Theorem
 pub mod ReadBack
+pub mod Instances
 pub mod SoundCounters
 pub mod SoundSites
 pub mod CoordinatorSound

@@ -141,12 +141,12 @@ module _ (settings : Settings) (network : Network) (arrival : Arrival)
       sound-at-rest fit stage (rw idle)
 
   -- A delivery that was reached, with the steps that are left.
-  record StillLeft (n : ℕ) (d : Delivery) : Type 0 where
-    left : ℕ
-    in-all : n + left ≡ deliveryFuel settings
-    mid : MidDelivery settings final all left d
+  pub record StillLeft (n : ℕ) (d : Delivery) : Type 0 where
+    pub left : ℕ
+    pub in-all : n + left ≡ deliveryFuel settings
+    pub mid : MidDelivery settings final all left d
 
-  reached-left : (n : ℕ) (d : Delivery) → Reached settings start n d → StillLeft n d
+  pub reached-left : (n : ℕ) (d : Delivery) → Reached settings start n d → StillLeft n d
   reached-left n d begun =
       record { left = deliveryFuel settings; in-all = omega arith; mid = mid-start }
   reached-left n d (handed before now m waiting log earlier) =

@@ -1,0 +1,55 @@
+-- The head of the messages that wait, about to be handed over: it is accepted, and the log has room for
+-- the answer.
+--
+--   head-accepted       by whom it is for
+--   rest-waits          the messages that wait when the head was taken
+--   room, stored-then   what the hand-over comes to fits the log, and lent memory
+use mathlib.Core.Path.{_≡_, ap, _∙_}
+use mathlib.Core.List.{_++_}
+use Prim.Native.Nat.{_+_, _-_, _*_, _≤_}
+use native.Mathlib.Omega.{arith}
+use lib.ListN.{length}
+use Rattle.model.specs.declared.Settings.{Settings}
+use Rattle.model.specs.declared.Message.{Message}
+use Rattle.model.specs.Refusals.{accepted}
+use Rattle.model.specs.Network.{Network, handOver}
+use Rattle.model.specs.DeliveryClaims.{messageRefusal}
+use Rattle.model.proofs.MidDelivery.{hand-on}
+use Rattle.delivery.specs.declared.Queue.{Queue}
+use Rattle.delivery.specs.Sending.{queueOf, withoutHead}
+use Rattle.delivery.specs.Holding.{State, Fits, Delivering}
+use Rattle.delivery.proofs.LogLaws.{withoutHead-queueOf}
+use Rattle.delivery.proofs.HoldingLaws.{Stored}
+use Rattle.delivery.proofs.GoingLaws.{going-fit, going-stage, going-stored, going-room, going-handed}
+use Rattle.delivery.proofs.StepLaws.{Handing}
+
+module _ {settings : Settings} {held : State} (u : Delivering settings held)
+    (hand : Handing settings held u) where
+  abbrev pub now : Network
+  now = u .now .network
+
+  abbrev pub m : Message
+  m = held .underway .waiting .first
+
+  abbrev pub fits : Fits settings (u .given)
+  fits = hand .going .accepting .fits
+
+  pub head-accepted : messageRefusal settings now m ≡ accepted
+  head-accepted =
+      hand-on (going-fit (hand .going .accepting)) (going-stage (hand .going)) .head-accepted
+
+  pub few-rest : length (hand .rest) ≤ 1
+  few-rest = omega (arith, hand .going .few-waiting)
+
+  -- The messages that wait when the head was taken.
+  pub rest-waits : (queue : Queue) → queue ≡ withoutHead (held .underway .waiting)
+      → queue ≡ queueOf (hand .rest)
+  rest-waits queue is =
+      is ∙ ap withoutHead (hand .holds .waiting) ∙ withoutHead-queueOf m (hand .rest) few-rest
+
+  pub room : 4 * length (u .earlier ++ (u .now .log ++ handOver settings now m .messages))
+      ≤ length (u .given .log)
+  room = going-room (going-handed (hand .going))
+
+  pub stored-then : Stored settings (handOver settings now m .network)
+  stored-then = going-stored (going-handed (hand .going))

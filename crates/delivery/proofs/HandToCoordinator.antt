@@ -1,0 +1,122 @@
+-- A message for the coordinator, handed over as the code does it.
+--
+--   coordinator-asks     what the coordinator's step requires
+--   coordinator-sends    what sending its answer requires
+--   coordinator-holds    what the state holds when the answer went out
+use mathlib.Core.Path.{_≡_, ap, _∙_, subst, subst⁻¹}
+use mathlib.Core.Bool.{true}
+use mathlib.Core.List.{List, _++_}
+use Prim.Native.Nat.{ℕ, _+_, _*_, _≤_}
+use native.Mathlib.Omega.{arith}
+use lib.ListN.{length}
+use Rattle.model.specs.declared.Settings.{Settings}
+use Rattle.model.specs.declared.Message.{Message}
+use Rattle.model.specs.Messages.{toCoordinator}
+use Rattle.model.specs.Coordinator.{Coordinator, CoordinatorStep, coordinatorReceives}
+use Rattle.model.specs.CoordinatorMemory.{coordinatorIn}
+use Rattle.model.specs.Network.{Network, withCoordinator}
+use Rattle.model.specs.DeliveryClaims.{delivery, deliveryStep}
+use Rattle.coordinator_steps.specs.declared.Answered as CoordinatorAnswer
+use Rattle.coordinator_steps.specs.Steps.{Does}
+use Rattle.coordinator_steps.specs.Ready.{CoordinatorReady, StepAsks}
+use Rattle.delivery.specs.declared.Queue.{Queue}
+use Rattle.delivery.specs.declared.Underway.{Underway}
+use Rattle.delivery.specs.Sending.{withoutHead, sentIf, loggedIf, SendAsks}
+use Rattle.delivery.specs.Holding.{State, state, Holds, Fits, Delivering}
+use Rattle.delivery.proofs.StageNumbers.{coordinator-ready}
+use Rattle.delivery.proofs.BoundedSteps.{quiet-receives}
+use Rattle.delivery.proofs.HoldingLaws.{coordinator-read, coordinator-memory-length, holds-coordinator, coordinator-again}
+use Rattle.delivery.proofs.GoingLaws.{going-fit, going-stage, going-bounded, going-stored}
+use Rattle.delivery.proofs.StepLaws.{Handing, answer-sends, answer-holds}
+use Rattle.delivery.proofs.HandLaws.{head-accepted, few-rest, rest-waits, room, stored-then}
+
+module _ {settings : Settings} {held : State} (u : Delivering settings held)
+    (hand : Handing settings held u) where
+  abbrev now : Network
+  now = u .now .network
+
+  abbrev m : Message
+  m = held .underway .waiting .first
+
+  abbrev fits : Fits settings (u .given)
+  fits = hand .going .accepting .fits
+
+  module _ (way : toCoordinator m ≡ true) where
+    abbrev c : Coordinator
+    c = now .coordinator
+
+    abbrev after : CoordinatorStep
+    after = coordinatorReceives settings c m
+
+    c-read : coordinatorIn settings (held .underway .coordinator) (held .coordinatorMemory) ≡ c
+    c-read = coordinator-read fits (going-stored (hand .going)) (hand .holds)
+
+    pub coordinator-asks : StepAsks settings (held .underway .coordinator) m (held .coordinatorMemory)
+    coordinator-asks = record {
+      settings-accepted = fits .settings-accepted;
+      memory-long = omega (
+        arith,
+        coordinator-memory-length fits (going-stored (hand .going)) (hand .holds),
+        fits .coordinator-memory-long,
+      );
+      ready = subst⁻¹ (CoordinatorReady settings) c-read
+          (coordinator-ready (going-fit (hand .going .accepting)) (going-stage (hand .going))
+          (going-bounded (hand .going)));
+      message-accepted = rw c-read (rw way at (head-accepted u hand));
+    }
+
+    module _ (answer : CoordinatorAnswer.Answered) (memory : List ℕ) (queue : Queue)
+        (does : Does
+        (coordinatorReceives settings
+        (coordinatorIn settings (held .underway .coordinator) (held .coordinatorMemory)) m)
+        (held .coordinatorMemory) memory answer)
+        (queue-is : queue ≡ withoutHead (held .underway .waiting)) where
+      did : Does after (held .coordinatorMemory) memory answer
+      did =
+          subst (λ (x : Coordinator).
+          Does (coordinatorReceives settings x m) (held .coordinatorMemory) memory answer)
+          c-read does
+
+      abbrev next : Underway
+      next = record {
+        sites = held .underway .sites;
+        coordinator = answer .coordinator;
+        written = held .underway .written;
+        waiting = queue;
+      }
+
+      changed : Holds settings (u .given) (u .earlier)
+          (delivery (withCoordinator now (after .coordinator)) (hand .rest) (u .now .log))
+          (state next (held .siteMemory) memory (held .log))
+      changed =
+          let then = rw way at (stored-then u hand) in
+          holds-coordinator (hand .holds) (after .coordinator) (hand .rest) (answer .coordinator)
+          queue memory
+          (ap (λ (a : CoordinatorAnswer.Answered). a .coordinator) (did .answer))
+          (rest-waits u hand queue queue-is)
+          (did .memory
+          ∙ coordinator-again (hand .holds) (after .coordinator)
+          (going-stored (hand .going) .coordinator-stored) (then .coordinator-stored))
+
+      abbrev room-then : 4 * length (u .earlier ++ (u .now .log ++ after .messages))
+          ≤ length (u .given .log)
+      room-then = rw way at (room u hand)
+
+      abbrev count-is : answer .count ≡ length (after .messages)
+      count-is = ap (λ (a : CoordinatorAnswer.Answered). a .count) (did .answer)
+
+      pub coordinator-sends : (answer .count ≡ 0 → ⊥) → SendAsks next (held .log)
+      coordinator-sends =
+          answer-sends changed (after .messages) (answer .count) (answer .out) count-is room-then fits
+
+      pub coordinator-holds : (result : Underway) (written : List ℕ)
+          → result ≡ sentIf (answer .count) next (answer .out)
+          → written ≡ loggedIf (answer .count) (held .log) (held .underway .written) (answer .out)
+          → Holds settings (u .given) (u .earlier) (deliveryStep settings (u .now))
+          (state result (held .siteMemory) memory written)
+      coordinator-holds result written result-is written-is =
+          rw (hand .step-is, way)
+          (answer-holds changed (after .messages) (answer .count) (answer .out) count-is room-then
+          (quiet-receives settings c m .one-answer)
+          (ap (λ (a : CoordinatorAnswer.Answered). a .out) (did .answer))
+          (few-rest u hand) result written result-is written-is)

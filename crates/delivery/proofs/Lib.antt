@@ -1,0 +1,14 @@
+-- The laws that the delivery's functions are proved by.
+pub mod BoundedLaws
+pub mod StageNumbers
+pub mod BoundedSteps
+pub mod LogLaws
+pub mod HoldingLaws
+pub mod GoingLaws
+pub mod StepLaws
+pub mod DeliverLaws
+pub mod SendLaws
+pub mod BeginLaws
+pub mod HandLaws
+pub mod HandToCoordinator
+pub mod HandToSite

@@ -1,0 +1,244 @@
+-- One step of a delivery, as the code takes it: what the steps of the coordinator and of a site require
+-- there, and what the state holds when the answer went out.
+--
+--   none-waits, handing        the messages that wait, from their number and head
+--   Asking, ask-asks, asked-sends, asked-holds       the next kind 7 is asked for
+--   coordinator-asks, coordinator-sends, coordinator-holds   a message for the coordinator
+--   site-asks, site-sends, site-holds                a message for a site
+use mathlib.Core.Path.{_≡_, refl, sym, ap, _∙_, subst, subst⁻¹, subst₂}
+use mathlib.Core.Bool.{Bool, true, false, _||_, not}
+use mathlib.Core.List.{List, [], _∷_, _++_}
+use Prim.Native.Nat.{ℕ, zero, suc, _+_, _-_, _*_, _≤_, _<_}
+use native.Mathlib.Omega.{arith}
+use lib.ListN.{length, getD, set, take, drop, length-append, length-drop}
+use lib.Seq.{take-all}
+use Rattle.model.specs.declared.Settings.{Settings}
+use Rattle.model.specs.declared.Arrival.{Arrival}
+use Rattle.model.specs.declared.Message.{Message}
+use Rattle.model.specs.declared.Sites.{Sites}
+use Rattle.model.specs.declared.SiteRecord.{SiteRecord}
+use Rattle.model.specs.Refusals.{accepted}
+use Rattle.model.specs.Choice.{isZero}
+use Rattle.model.specs.Messages.{noMessage, toCoordinator}
+use Rattle.model.specs.Site.{Site, SiteStep, siteReceives}
+use Rattle.model.specs.SiteMemory.{siteWords, siteIn, siteRecord}
+use Rattle.model.specs.Coordinator.{Coordinator, CoordinatorStep, coordinatorReceives, announced, isAnnouncing}
+use Rattle.model.specs.CoordinatorMemory.{coordinatorIn, coordinatorMemory}
+use Rattle.model.specs.Network.{Network, siteAt, withSite, withCoordinator, handOver, askAnnouncement}
+use Rattle.model.specs.NetworkMemory.{sitesMemory}
+use Rattle.model.specs.DeliveryClaims.{Delivery, delivery, joining, deliveryStep, messageRefusal}
+use Rattle.model.proofs.MidDelivery.{hand-on}
+use Rattle.model.proofs.SoundStages.{stage-coordinator}
+use Rattle.site_memory.specs.Ready.{SiteReady, StepReady}
+use Rattle.site_steps.specs.declared.Answered as SiteAnswer
+use Rattle.site_steps.specs.Steps.{ReceiveAsks, receivedIn, ReceiveStepSays}
+use Rattle.site_steps.proofs.ReceiveLaws.{Due, message-due}
+use Rattle.coordinator_steps.specs.declared.Answered as CoordinatorAnswer
+use Rattle.coordinator_steps.specs.Steps.{answerOf, Does}
+use Rattle.coordinator_steps.specs.Ready.{CoordinatorReady, StepAsks, AnnounceAsks, PhaseShape}
+use Rattle.network_memory.proofs.SitesMemoryLaws.{sitesMemory-kept}
+use Rattle.delivery.specs.declared.Queue.{Queue}
+use Rattle.delivery.specs.declared.Underway.{Underway}
+use Rattle.delivery.specs.Sending.{noRecord, queueOf, withoutHead, withRecord, sentIf, loggedIf, SendAsks}
+use Rattle.delivery.specs.Holding.{Given, State, state, Holds, Fits, Going, Delivering, goesOn}
+use Rattle.delivery.proofs.StageNumbers.{at-stage, site-ready, coordinator-shape, coordinator-ready}
+use Rattle.delivery.proofs.BoundedSteps.{answers-one, quiet-site, quiet-announced}
+use Rattle.delivery.proofs.LogLaws.{withoutHead-queueOf}
+use Rattle.delivery.proofs.HoldingLaws.{Stored, StoredCoordinator, record-read, part-long, part-starts, site-read, coordinator-read, coordinator-memory-length, send-asks, holds-answer, holds-coordinator, coordinator-again, holds-site}
+use Rattle.delivery.proofs.GoingLaws.{going-fit, going-stage, going-bounded, going-stored, going-room, going-handed, going-asked, stored-coordinator}
+
+-- ---- The messages that wait
+
+pub none-waits : (queue : Queue) (waiting : List Message)
+    → queue ≡ queueOf waiting
+    → queue .count ≡ 0
+    → waiting ≡ []
+none-waits queue [] is none = refl
+none-waits queue (m ∷ waiting) is none =
+    absurd (omega (arith, ap (λ (q : Queue). q .count) is))
+
+record HeadWaits (queue : Queue) (waiting : List Message) : Type 0 where
+  rest : List Message
+  is : waiting ≡ queue .first ∷ rest
+
+head-waits : (queue : Queue) (waiting : List Message)
+    → queue ≡ queueOf waiting
+    → (queue .count ≡ 0 → ⊥)
+    → HeadWaits queue waiting
+head-waits queue [] is some = absurd (some (ap (λ (q : Queue). q .count) is))
+head-waits queue (m ∷ rest) is some = record {
+  rest = rest;
+  is = ap (λ (x : Message). x ∷ rest) (sym (ap (λ (q : Queue). q .first) is));
+}
+
+-- A delivery whose head is the message that the code sees.
+pub record Handing (settings : Settings) (held : State) (u : Delivering settings held) : Type 0 where
+  pub rest : List Message
+  pub going : Going settings (u .given) (u .earlier) (u .network) (u .arrival) (u .steps)
+      (delivery (u .now .network) (held .underway .waiting .first ∷ rest) (u .now .log))
+  pub holds : Holds settings (u .given) (u .earlier)
+      (delivery (u .now .network) (held .underway .waiting .first ∷ rest) (u .now .log)) held
+  pub step-is : deliveryStep settings (u .now)
+      ≡ joining (handOver settings (u .now .network) (held .underway .waiting .first)) rest
+      (u .now .log)
+
+pub handing : {settings : Settings} {held : State} (u : Delivering settings held)
+    → (held .underway .waiting .count ≡ 0 → ⊥)
+    → Handing settings held u
+handing {settings} {held} u some =
+    let head = head-waits (held .underway .waiting) (u .now .waiting) (u .holds .waiting) some in
+    let m = held .underway .waiting .first in
+    let is : u .now ≡ delivery (u .now .network) (m ∷ head .rest) (u .now .log) =
+    ap (λ (waiting : List Message). delivery (u .now .network) waiting (u .now .log)) (head .is) in
+    record {
+      rest = head .rest;
+      going = subst (Going settings (u .given) (u .earlier) (u .network) (u .arrival) (u .steps))
+          is (u .going);
+      holds = subst (λ (d : Delivery). Holds settings (u .given) (u .earlier) d held)
+          is (u .holds);
+      step-is = ap (deliveryStep settings) is;
+    }
+
+-- A coordinator that announces, and nothing waits.
+pub record Asking (settings : Settings) (held : State) (u : Delivering settings held) : Type 0 where
+  pub announces : isAnnouncing (u .now .network .coordinator .phase) ≡ true
+  pub going : Going settings (u .given) (u .earlier) (u .network) (u .arrival) (u .steps)
+      (delivery (u .now .network) [] (u .now .log))
+  pub holds : Holds settings (u .given) (u .earlier)
+      (delivery (u .now .network) [] (u .now .log)) held
+  pub step-is : deliveryStep settings (u .now)
+      ≡ joining (askAnnouncement settings (u .now .network)) [] (u .now .log)
+
+pub asking : {settings : Settings} {held : State} (u : Delivering settings held)
+    → held .underway .waiting .count ≡ 0
+    → goesOn (held .underway) ≡ true
+    → Asking settings held u
+asking {settings} {held} u none goes =
+    let is : u .now ≡ delivery (u .now .network) [] (u .now .log) =
+    ap (λ (waiting : List Message). delivery (u .now .network) waiting (u .now .log))
+    (none-waits (held .underway .waiting) (u .now .waiting) (u .holds .waiting) none) in
+    let announces : isAnnouncing (u .now .network .coordinator .phase) ≡ true =
+    rw (none, u .holds .coordinator) at goes in
+    record {
+      announces = announces;
+      going = subst (Going settings (u .given) (u .earlier) (u .network) (u .arrival) (u .steps))
+          is (u .going);
+      holds = subst (λ (d : Delivery). Holds settings (u .given) (u .earlier) d held)
+          is (u .holds);
+      step-is = ap (deliveryStep settings) is ∙ rw announces;
+    }
+
+-- ---- The answer goes out
+
+module _ {settings : Settings} {given : Given} {earlier : List Message}
+    {network : Network} {waiting log : List Message} {held : State}
+    (holds : Holds settings given earlier (delivery network waiting log) held)
+    (out : List Message)
+    (count : ℕ)
+    (m : Message)
+    (count-is : count ≡ length out)
+    (room : 4 * length (earlier ++ (log ++ out)) ≤ length (given .log)) where
+  pub answer-sends : Fits settings given → (count ≡ 0 → ⊥) → SendAsks (held .underway) (held .log)
+  answer-sends fits some = by-answer out count-is room
+    where
+      by-answer : (answer : List Message) → count ≡ length answer
+          → 4 * length (earlier ++ (log ++ answer)) ≤ length (given .log)
+          → SendAsks (held .underway) (held .log)
+      by-answer [] is fits-log = absurd (some is)
+      by-answer (x ∷ xs) is fits-log =
+          send-asks fits holds
+          (omega (
+            arith,
+            fits-log,
+            length-append earlier (log ++ (x ∷ xs)),
+            length-append log (x ∷ xs),
+            length-append earlier log,
+          ))
+
+  pub answer-holds : length out ≤ 1
+      → m ≡ getD out 0 noMessage
+      → length waiting ≤ 1
+      → (result : Underway) (written : List ℕ)
+      → result ≡ sentIf count (held .underway) m
+      → written ≡ loggedIf count (held .log) (held .underway .written) m
+      → Holds settings given earlier (delivery network (waiting ++ out) (log ++ out))
+      (state result (held .siteMemory) (held .coordinatorMemory) written)
+  answer-holds one m-is few result written result-is written-is =
+      subst₂ (λ (r : Underway) (l : List ℕ).
+      Holds settings given earlier (delivery network (waiting ++ out) (log ++ out))
+      (state r (held .siteMemory) (held .coordinatorMemory) l))
+      (sym result-is) (sym written-is)
+      (holds-answer out count m holds one count-is m-is few room)
+
+-- ---- The next kind 7
+
+module _ {settings : Settings} {held : State} (u : Delivering settings held)
+    (ask : Asking settings held u) where
+  abbrev c : Coordinator
+  c = u .now .network .coordinator
+
+  pub ask-asks : AnnounceAsks settings (held .underway .coordinator)
+  ask-asks = record {
+    settings-accepted = u .going .accepting .fits .settings-accepted;
+    phase-shape =
+        rw (ask .holds .coordinator)
+        (coordinator-shape
+        (stage-coordinator (going-fit (ask .going .accepting)) (going-stage (ask .going)))
+        .phase-shape);
+  }
+
+  module _ (answer : CoordinatorAnswer.Answered)
+      (is : (memory : List ℕ)
+      → answer ≡ answerOf (announced settings (coordinatorIn settings (held .underway .coordinator) memory))) where
+    abbrev after : CoordinatorStep
+    after = announced settings c
+
+    answer-is : answer ≡ answerOf after
+    answer-is =
+        is (held .coordinatorMemory)
+        ∙ ap (λ (x : Coordinator). answerOf (announced settings x))
+        (coordinator-read (ask .going .accepting .fits) (going-stored (ask .going)) (ask .holds))
+
+    abbrev next : Underway
+    next = record {
+      sites = held .underway .sites;
+      coordinator = answer .coordinator;
+      written = held .underway .written;
+      waiting = held .underway .waiting;
+    }
+
+    changed : Holds settings (u .given) (u .earlier)
+        (delivery (withCoordinator (u .now .network) (after .coordinator)) [] (u .now .log))
+        (state next (held .siteMemory) (held .coordinatorMemory) (held .log))
+    changed =
+        let quiet = quiet-announced settings c (c .phase) in
+        holds-coordinator (ask .holds) (after .coordinator) [] (answer .coordinator)
+        (held .underway .waiting) (held .coordinatorMemory)
+        (ap (λ (a : CoordinatorAnswer.Answered). a .coordinator) answer-is)
+        (ask .holds .waiting)
+        (ask .holds .coordinator-memory
+        ∙ sym (rw (quiet .estimates-kept, quiet .histogram-kept)))
+
+    room : 4 * length (u .earlier ++ (u .now .log ++ after .messages)) ≤ length (u .given .log)
+    room = going-room (going-asked (ask .going) (ask .announces))
+
+    count-is : answer .count ≡ length (after .messages)
+    count-is = ap (λ (a : CoordinatorAnswer.Answered). a .count) answer-is
+
+    pub asked-sends : (answer .count ≡ 0 → ⊥) → SendAsks next (held .log)
+    asked-sends =
+        answer-sends changed (after .messages) (answer .count) (answer .out) count-is room
+        (ask .going .accepting .fits)
+
+    pub asked-holds : (result : Underway) (written : List ℕ)
+        → result ≡ sentIf (answer .count) next (answer .out)
+        → written ≡ loggedIf (answer .count) (held .log) (held .underway .written) (answer .out)
+        → Holds settings (u .given) (u .earlier) (deliveryStep settings (u .now))
+        (state result (held .siteMemory) (held .coordinatorMemory) written)
+    asked-holds result written result-is written-is =
+        subst⁻¹ (λ (d : Delivery). Holds settings (u .given) (u .earlier) d
+        (state result (held .siteMemory) (held .coordinatorMemory) written)) (ask .step-is)
+        (answer-holds changed (after .messages) (answer .count) (answer .out) count-is room
+        (quiet-announced settings c (c .phase) .one-answer)
+        (ap (λ (a : CoordinatorAnswer.Answered). a .out) answer-is)
+        (omega arith) result written result-is written-is)

@@ -1,0 +1,56 @@
+-- `delivery::goes_on` meets its contract: by what waits, then by phase.
+use borrow.Author.Tests.{eq-eqb, ne-eqb}
+use borrow.Author.Needs.{needs}
+use Rattle.delivery.proofs.goes_on.Statement.{statement}
+use Rattle.delivery.proofs.goes_on.Tie as tie
+
+returns : tie.Need-returns
+returns c =
+    let queue = c .before .before .before .args .underway .waiting in
+    rw (ne-eqb (queue .count) 0 (c .if1 .taken))
+
+enum-told : tie.Need-enum-told
+enum-told c = search needs
+
+enum-told-2 : tie.Need-enum-told-2
+enum-told-2 c = search needs
+
+enum-told-3 : tie.Need-enum-told-3
+enum-told-3 c = search needs
+
+enum-told-4 : tie.Need-enum-told-4
+enum-told-4 c = search needs
+
+returns-2 : tie.Need-returns-2
+returns-2 c =
+    let start = c .before .before .before .before .before .before in
+    rw (eq-eqb (start .args .underway .waiting .count) 0 (c .before .before .before .if1 .left), c .enum-told .given .1)
+
+returns-3 : tie.Need-returns-3
+returns-3 c =
+    let start = c .before .before .before .before .before .before in
+    rw (eq-eqb (start .args .underway .waiting .count) 0 (c .before .before .before .if1 .left), c .enum-told2 .given .1)
+
+returns-4 : tie.Need-returns-4
+returns-4 c =
+    let start = c .before .before .before .before .before .before in
+    rw (eq-eqb (start .args .underway .waiting .count) 0 (c .before .before .before .if1 .left), c .enum-told3 .given .1)
+
+returns-5 : tie.Need-returns-5
+returns-5 c =
+    let start = c .before .before .before .before .before .before in
+    rw (eq-eqb (start .args .underway .waiting .count) 0 (c .before .before .before .if1 .left), c .enum-told4 .given .1)
+
+pub goes-on-spec : {M : Type 1} → statement M
+goes-on-spec =
+    tie.close
+    (tie.spec
+    returns
+    enum-told
+    enum-told-2
+    enum-told-3
+    enum-told-4
+    returns-2
+    returns-3
+    returns-4
+    returns-5)

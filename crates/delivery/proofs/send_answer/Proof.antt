@@ -1,0 +1,24 @@
+-- `delivery::send_answer` meets its contract: by whether there is an answer.
+use mathlib.Core.Path.{refl}
+use borrow.Author.Tests.{eq-eqb, ne-eqb}
+use borrow.Author.Needs.{needs}
+use Rattle.delivery.proofs.send_answer.Statement.{statement}
+use Rattle.delivery.proofs.send_answer.Tie as tie
+
+returns : tie.Need-returns
+returns c = rw (eq-eqb (c .before .before .args .count) 0 (c .if1 .taken)) (refl, refl)
+
+send-requires : tie.Need-send-requires
+send-requires c κs = c .before .before .before .pre (c .before .if1 .left)
+
+same-length : tie.Need-same-length
+same-length c = search needs
+
+returns-2 : tie.Need-returns-2
+returns-2 c =
+    let start = c .before .before .before .before .before .before in
+    rw (ne-eqb (start .args .count) 0 (c .before .before .before .before .if1 .left))
+    (c .before .before .send .ensures)
+
+pub send-answer-spec : {M : Type 1} → statement M
+send-answer-spec = tie.close (tie.spec returns send-requires same-length returns-2)

@@ -1,0 +1,93 @@
+-- Messages that go out in a delivery: each is written to the log, counted, and waits last.
+--
+--   queueOf messages              the messages that wait, as code carries them: two at most
+--   joined, withoutHead           a message waits last; the head is taken
+--   withRecord                    one site's record changed
+--   sent, sentIf, sentTwo         a message goes out; only if there is one; none, one or two
+--   loggedIf, loggedTwo           what is written to the log then
+--   SendAsks, SendTwoAsks         what sending asks: free records, and a count that is not too large
+use mathlib.Core.List.{List}
+use Prim.Native.Nat.{ℕ, _+_, _*_, _≤_}
+use lib.Dec.{eqb}
+use lib.ListN.{length, getD, set}
+use Rattle.model.specs.declared.Message.{Message}
+use Rattle.model.specs.declared.SiteRecord.{SiteRecord}
+use Rattle.model.specs.declared.Sites.{Sites}
+use Rattle.model.specs.Choice.{if_then_else_, isZero}
+use Rattle.model.specs.Limits.{messageLimit}
+use Rattle.model.specs.Messages.{noMessage}
+use Rattle.delivery.specs.declared.Queue.{Queue}
+use Rattle.delivery.specs.declared.Underway.{Underway}
+use Rattle.delivery.specs.Log.{putRecord}
+
+-- ---- The messages that wait
+
+abbrev pub queueOf : List Message → Queue
+queueOf messages = record {
+  count = length messages;
+  first = getD messages 0 noMessage;
+  second = getD messages 1 noMessage;
+}
+
+abbrev pub nothingWaits : Queue
+nothingWaits = record { count = 0; first = noMessage; second = noMessage }
+
+abbrev pub oneWaits : Message → Queue
+oneWaits m = record { count = 1; first = m; second = noMessage }
+
+abbrev pub joined : Queue → Message → Queue
+joined queue m =
+    if isZero (queue .count) then oneWaits m
+    else record { count = 2; first = queue .first; second = m }
+
+abbrev pub withoutHead : Queue → Queue
+withoutHead queue = if eqb (queue .count) 2 then oneWaits (queue .second) else nothingWaits
+
+-- ---- Records
+
+-- Where no record stands.
+abbrev pub noRecord : SiteRecord
+noRecord = record { arrivals = 0; pending = 0; threshold = 0; used = 0 }
+
+abbrev pub withRecord : Sites → ℕ → SiteRecord → Sites
+withRecord sites which numbers =
+    record { records = set (sites .records) which numbers; messages = sites .messages }
+
+-- ---- A message goes out
+
+abbrev pub oneCounted : Sites → Sites
+oneCounted sites = record { records = sites .records; messages = sites .messages + 1 }
+
+abbrev pub sent : Underway → Message → Underway
+sent underway m = record {
+  sites = oneCounted (underway .sites);
+  coordinator = underway .coordinator;
+  written = underway .written + 1;
+  waiting = joined (underway .waiting) m;
+}
+
+-- A step answers with one message, or with none.
+abbrev pub sentIf : ℕ → Underway → Message → Underway
+sentIf count underway m = if isZero count then underway else sent underway m
+
+abbrev pub loggedIf : ℕ → List ℕ → ℕ → Message → List ℕ
+loggedIf count log place m = if isZero count then log else putRecord log place m
+
+-- An arrival sends none, one or two.
+abbrev pub sentTwo : ℕ → Underway → Message → Message → Underway
+sentTwo count underway first second =
+    if eqb count 2 then sent (sentIf count underway first) second else sentIf count underway first
+
+abbrev pub loggedTwo : ℕ → List ℕ → ℕ → Message → Message → List ℕ
+loggedTwo count log place first second =
+    if eqb count 2
+    then putRecord (loggedIf count log place first) (place + 1) second
+    else loggedIf count log place first
+
+pub record SendAsks (underway : Underway) (log : List ℕ) : Type 0 where
+  pub room : 4 * underway .written + 4 ≤ length log
+  pub count-within : underway .sites .messages ≤ messageLimit + underway .written
+
+pub record SendTwoAsks (count : ℕ) (underway : Underway) (log : List ℕ) : Type 0 where
+  pub room : 4 * underway .written + 4 * count ≤ length log
+  pub count-within : underway .sites .messages ≤ messageLimit + underway .written

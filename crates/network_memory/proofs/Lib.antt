@@ -1,0 +1,4 @@
+-- The sites' memory: one site's part read and written, and all sites together.
+pub mod OneSite
+pub mod SitesMemoryLaws
+pub mod SitesReading

@@ -1,0 +1,106 @@
+-- The contract of the batch call, document 01's call over many draws: by the model's `batchOf`, what
+-- number, records and every place of lent memory and log equal, refused or not.
+--
+--   logRoom log                   the records that a log has place for: four numbers each
+--   messageNumbers messages       the numbers of messages, as the log holds them
+--   messagesIn count log          the first messages that stand in a log
+--   BatchSays ..                  the promise
+use mathlib.Core.Path.{_≡_}
+use mathlib.Core.List.{List, [], _∷_}
+use Prim.Native.Nat.{ℕ, zero, suc, _+_, _/_}
+use lib.ListN.{length, getD, drop}
+use Rattle.model.specs.declared.Settings.{Settings}
+use Rattle.model.specs.declared.Arrival.{Arrival}
+use Rattle.model.specs.declared.Message.{Message}
+use Rattle.model.specs.declared.Sites.{Sites}
+use Rattle.model.specs.declared.CoordinatorRecord.{CoordinatorRecord}
+use Rattle.model.specs.Choice.{if_then_else_, isZero}
+use Rattle.model.specs.Messages.{message}
+use Rattle.model.specs.SiteMemory.{overwrite}
+use Rattle.model.specs.CoordinatorMemory.{coordinatorRecord, coordinatorMemory}
+use Rattle.model.specs.NetworkMemory.{siteRecords, sitesMemory, networkIn, networkRefusal}
+use Rattle.model.specs.Runs.{Batch, batchOf}
+use Rattle.tracker.specs.declared.BatchAnswer.{BatchAnswer}
+
+-- ---- The log
+
+abbrev pub logRoom : List ℕ → ℕ
+logRoom log = length log / 4
+
+-- "A message is four numbers: kind, deck, a, b."
+abbrev pub messageNumbers : List Message → List ℕ
+messageNumbers [] = []
+messageNumbers (m ∷ ms) = m .kind ∷ (m .site ∷ (m .a ∷ (m .b ∷ messageNumbers ms)))
+
+abbrev pub messagesIn : ℕ → List ℕ → List Message
+messagesIn zero log = []
+messagesIn (suc more) log =
+    message (getD log 0 0) (getD log 1 0) (getD log 2 0) (getD log 3 0)
+    ∷ messagesIn more (drop 4 log)
+
+-- ---- The call
+
+-- All that the call is given.
+pub record BatchCall : Type 0 where
+  pub settings : Settings
+  pub sites : Sites
+  pub coordinator : CoordinatorRecord
+  pub arrivals : List Arrival
+  pub siteMemory : List ℕ
+  pub coordinatorMemory : List ℕ
+  pub log : List ℕ
+
+-- What it leaves in lent memory.
+pub record BatchLent : Type 0 where
+  pub siteMemory : List ℕ
+  pub coordinatorMemory : List ℕ
+  pub log : List ℕ
+
+-- "4 and 11 are tested once, when a call starts."
+abbrev pub startRefusal : BatchCall → ℕ
+startRefusal call =
+    networkRefusal (call .settings) (call .sites) (call .coordinator) (call .siteMemory)
+    (call .coordinatorMemory)
+
+-- The model's batch on the network that records and memory hold.
+abbrev pub batchIn : BatchCall → Batch
+batchIn call =
+    batchOf (call .settings) (logRoom (call .log))
+    (networkIn (call .settings) (call .sites) (call .coordinator) (call .siteMemory)
+    (call .coordinatorMemory))
+    (call .arrivals)
+
+-- What a call hands back or leaves: something of the batch, or what it was given if it is refused
+-- when it starts.
+abbrev pub unlessRefused : {A : Type 0} → BatchCall → A → A → A
+unlessRefused call done given = if isZero (startRefusal call) then done else given
+
+-- The `Sites` value then: "the bench's count .. to which the many-draw call alone adds what it
+-- writes".
+abbrev pub sitesAfter : BatchCall → Sites
+sitesAfter call = record {
+  records = siteRecords (batchIn call .network .sites) (call .sites .records);
+  messages = call .sites .messages + length (batchIn call .messages);
+}
+
+pub record BatchSays (call : BatchCall) (lent : BatchLent) (answer : BatchAnswer) : Type 0 where
+  -- 1, 2, 3, 4, 11 at the start; then 5, 6, 7, 8, 14 before an arrival
+  pub refusal : answer .refusal ≡ unlessRefused call (batchIn call .refusal) (startRefusal call)
+  pub accepted : answer .accepted ≡ unlessRefused call (batchIn call .accepted) 0
+  pub written : answer .written ≡ unlessRefused call (length (batchIn call .messages)) 0
+  pub sites : answer .sites ≡ unlessRefused call (sitesAfter call) (call .sites)
+  pub coordinator : answer .coordinator
+      ≡ unlessRefused call (coordinatorRecord (batchIn call .network .coordinator))
+      (call .coordinator)
+  pub site-memory : lent .siteMemory
+      ≡ unlessRefused call
+      (sitesMemory (call .settings) (batchIn call .network .sites) (call .siteMemory))
+      (call .siteMemory)
+  pub coordinator-memory : lent .coordinatorMemory
+      ≡ unlessRefused call
+      (coordinatorMemory (batchIn call .network .coordinator) (call .coordinatorMemory))
+      (call .coordinatorMemory)
+  -- "Places of a list or log after the last one written keep what they held."
+  pub log : lent .log
+      ≡ unlessRefused call (overwrite (messageNumbers (batchIn call .messages)) (call .log))
+      (call .log)

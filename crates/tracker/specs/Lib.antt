@@ -1,0 +1,2 @@
+-- What the batch call promises.
+pub mod Batch

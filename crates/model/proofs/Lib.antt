@@ -40,7 +40,6 @@ pub mod ListLaws
 pub mod RunLaws
 pub mod RunInvariant
 pub mod Theorem
-pub mod ReadBack
 pub mod Instances
 pub mod SoundCounters
 pub mod SoundSites
@@ -67,4 +66,3 @@ pub mod ConsistentNetwork
 pub mod TakenLaws
 pub mod WorklistLaws
 pub mod TranscriptLaws
-pub mod Instances

@@ -1,17 +1,20 @@
 -- The three ways in which an item is counted, each from the tests that lead there: it has a
 -- counter, it takes the next unused one, or it replaces the one of least count.
-use Prim.Native.Nat.{ℕ, _+_, _*_, _<_, _≤_}
-use mathlib.Core.Path.{_≡_, refl, ap, sym, _∙_}
+--
+--   least-within, small-at                         places and counts within their bounds
+--   counted-own, counted-unused, counted-replaced   the promise of `count_item` for each way
+use Prim.Native.Nat.{ℕ, _+_, _<_, _≤_}
+use mathlib.Core.Path.{_≡_, ap, sym, _∙_}
 use mathlib.Core.List.{List, [], _∷_, _++_}
-use mathlib.Core.Bool.{Bool, true, false}
+use mathlib.Core.Bool.{true, false}
 use native.Mathlib.Omega.{arith}
-use lib.ListN.{length, getD, set, length-set, length-append}
+use lib.ListN.{length, set, length-set, length-append}
 use lib.Seq.{getD-set-same, getD-append-seam}
 use lib.Dec.{ltb}
 use borrow.Author.Tests.{lt-ltb, le-ltb}
-use Rattle.model.specs.Counters.{Counter, noCounter, counterAt, find, leastPlace, Placement, placementFor, placeOf, countersAfter, oneMoreOf, firstOf, replacing}
+use Rattle.model.specs.Counters.{Counter, noCounter, counterAt, find, leastPlace, Placement, placeOf, oneMoreOf, firstOf, replacing}
 use Rattle.model.specs.Counters.Placement.{own, unused, replaced}
-use Rattle.model.specs.SiteMemory.{countersIn, counterNumbers, overwrite}
+use Rattle.model.specs.SiteMemory.{countersIn}
 use Rattle.counters.specs.declared.Counted.{Counted}
 use Rattle.counters.specs.Stored.{storedAt, setCounter, counterOf}
 use Rattle.counters.specs.Count.{greatestWord, CountAsks, CountSays, placement, placeIn, countersThen}

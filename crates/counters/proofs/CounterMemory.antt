@@ -4,17 +4,18 @@
 --   length-countersIn, length-counterNumbers
 --   counters-kept       the counters that a memory holds, written over it, leave it as it is
 --   counters-read       counters written in front are read back
---   counterAt-countersIn, storedAt-counterNumbers   one counter of these
+--   counterAt-countersIn   one counter of these
 --   setCounter-set      a counter stored at a place in use
 --   setCounter-append   a counter stored at the next unused place
 --   set-reported        the last number of a counter set
+--   overwrite-set, overwrite-append   the same, over the memory that the counters were read from
 use Prim.Native.Nat.{ℕ, zero, suc, _+_, _*_, _<_, _≤_}
 use mathlib.Core.Path.{_≡_, refl, ap, sym, _∙_, subst⁻¹}
 use mathlib.Core.List.{List, [], _∷_, _++_}
 use native.Mathlib.Omega.{arith}
-use lib.ListN.{length, getD, set, drop, length-set, length-append}
-use lib.Seq.{getD-drop, drop-drop}
-use Rattle.laws.proofs.FlatMemory.{Four, four, four-suc}
+use lib.ListN.{length, set, drop, length-set}
+use lib.Seq.{getD-drop}
+use Rattle.laws.proofs.FlatMemory.{four, four-suc}
 use Rattle.model.specs.Counters.{Counter, counterAt}
 use Rattle.model.specs.SiteMemory.{countersIn, counterNumbers, overwrite}
 use Rattle.counters.specs.Stored.{storedAt, setCounter}

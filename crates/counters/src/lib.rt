@@ -1,6 +1,6 @@
 // The counters of one site in its lent memory (Space-Saving): the search for an item, the scan for
 // the least count, and the counting of an arrival's item. All functions here are internal steps:
-// each has a `requires`, which the entry points of crate `site` establish by their tests.
+// what they require, the entry points of crate `site` and the batch call establish by their tests.
 
 ghost use mathlib.Core.Path.{_≡_};
 ghost use Prim.Native.Nat.{_+_, _*_, _≤_};

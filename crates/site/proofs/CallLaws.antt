@@ -1,20 +1,20 @@
 -- What the calls on sites answer when they are refused and when they are not: the contracts of
 -- Calls from the refusal and, where there is none, from the step's promise.
+--
+--   observe-asks, observe-accepted, observe-refused     an arrival
+--   receive-asks, receive-accepted, receive-refused     a message
 use Prim.Native.Nat.{ℕ}
 use mathlib.Core.Path.{_≡_, sym, _∙_}
-use mathlib.Core.List.{List, []}
-use mathlib.Core.Bool.{Bool, true, false}
+use mathlib.Core.List.{List}
 use native.Mathlib.Omega.{arith}
-use lib.Dec.{leb, eqb}
+use lib.Dec.{leb}
 use borrow.Author.Tests.{eq-eqb, ne-eqb}
 use Rattle.model.specs.declared.Settings.{Settings}
 use Rattle.model.specs.declared.Arrival.{Arrival}
 use Rattle.model.specs.declared.Message.{Message}
 use Rattle.model.specs.declared.SiteRecord.{SiteRecord}
-use Rattle.model.specs.Choice.{isZero}
-use Rattle.model.specs.Refusals.{when, _orElse_, accepted, unknownSite}
+use Rattle.model.specs.Refusals.{accepted}
 use Rattle.model.specs.Messages.{noMessage}
-use Rattle.model.specs.Site.{arrivalRefusal, siteMessageRefusal}
 use Rattle.model.specs.SiteMemory.{siteIn, siteMemoryRefusal}
 use Rattle.model.proofs.RefusalLaws.{both-accepted, passed}
 use Rattle.site_memory.proofs.ReadyLaws.{step-ready}

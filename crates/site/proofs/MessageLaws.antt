@@ -1,8 +1,11 @@
 -- The tests of a message at a site, where its kind is known.
+--
+--   not-due-by-kind     a message that is neither a poll nor a probe
+--   wrong-by-limit      an announcement that is not below the threshold
 use Prim.Native.Nat.{ℕ, _≤_}
-use mathlib.Core.Path.{_≡_, refl, ap, sym, _∙_}
-use mathlib.Core.Bool.{Bool, true, false, _&&_, _||_, not}
-use lib.Dec.{leb, ltb, eqb}
+use mathlib.Core.Path.{_≡_, ap, sym}
+use mathlib.Core.Bool.{not}
+use lib.Dec.{ltb, eqb}
 use borrow.Author.Tests.{eq-eqb, ne-eqb, le-ltb}
 use Rattle.laws.proofs.Tests.{and-true}
 use Rattle.model.specs.declared.Message.{Message}

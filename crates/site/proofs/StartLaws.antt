@@ -1,5 +1,9 @@
 -- Starting all sites: their memory cleared place by place, and the answers of the start call.
-use Prim.Native.Nat.{ℕ, _+_, _*_, _<_, _≤_}
+--
+--   Clearing, clearing-start, clearing-on, clearing-end   the memory, place by place
+--   words-fit                                             how much memory that is at most
+--   start-settings, start-short, start-accepted           the answers
+use Prim.Native.Nat.{ℕ, _+_, _<_, _≤_}
 use mathlib.Core.Path.{_≡_, refl, ap, sym, _∙_}
 use mathlib.Core.List.{List}
 use native.Mathlib.Nat.{mul-le-mul}
@@ -9,7 +13,6 @@ use borrow.Author.Tests.{eq-eqb, ne-eqb, lt-ltb, le-ltb}
 use Rattle.laws.proofs.FlatMemory.{overwritten, filled-on}
 use Rattle.model.specs.declared.Settings.{Settings}
 use Rattle.model.specs.declared.Sites.{Sites}
-use Rattle.model.specs.Choice.{isZero}
 use Rattle.model.specs.Refusals.{accepted, memoryTooShort}
 use Rattle.model.specs.Settings.{settingsRefusal}
 use Rattle.model.specs.SiteMemory.{siteWords, overwrite}

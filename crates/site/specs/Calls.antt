@@ -7,8 +7,7 @@
 -- A refused call leaves record and memory as they were and hands out no message; a start hands back
 -- fresh records all the same.
 use mathlib.Core.Path.{_≡_}
-use mathlib.Core.Bool.{Bool}
-use mathlib.Core.List.{List, [], _++_}
+use mathlib.Core.List.{List, []}
 use Prim.Native.Nat.{ℕ}
 use lib.Dec.{leb, ltb}
 use lib.ListN.{length, getD, replicate}

@@ -1,17 +1,22 @@
 -- The consistency test of a site, row by row: which test refuses, and what is left when the others
 -- pass.
-use Prim.Native.Nat.{ℕ, suc, _+_, _-_, _*_, _<_, _≤_}
-use mathlib.Core.Path.{_≡_, refl, ap, sym, _∙_}
-use mathlib.Core.List.{List, [], _∷_}
+--
+--   item-unknown, parts-above, count-above, counter-passes     one counter
+--   Passing, passing-start, passing-on, passing-fails, passing-end   the counters, place by place
+--   used-above, arrivals-above, pending-above, threshold-above, counters-pass, counters-fail
+--                                                              a whole site
+--   settings-refused, memory-short, memory-tested              refusals 1, 2, 3; then 4, 11
+use Prim.Native.Nat.{ℕ, _+_, _<_, _≤_}
+use mathlib.Core.Path.{_≡_, ap, sym, _∙_}
+use mathlib.Core.List.{List}
 use mathlib.Core.Bool.{Bool, true, false, _&&_, not}
 use native.Mathlib.Omega.{arith}
-use lib.Dec.{eqb, ltb, leb}
+use lib.Dec.{eqb, ltb}
 use lib.ListN.{length, take, drop}
 use borrow.Author.Tests.{lt-ltb, le-ltb, le-leb, lt-leb}
 use Rattle.laws.proofs.Tests.{and-false, and-true}
 use Rattle.model.specs.declared.Settings.{Settings}
 use Rattle.model.specs.declared.SiteRecord.{SiteRecord}
-use Rattle.model.specs.Choice.{between}
 use Rattle.model.specs.Refusals.{when, _orElse_, accepted, memoryTooShort, memoryInconsistent}
 use Rattle.model.specs.Limits.{valueCount, siteLimit}
 use Rattle.model.specs.Settings.{settingsRefusal}

@@ -2,23 +2,23 @@
 --
 --   ready-of-consistent, consistent-of-ready   the test and the facts of a site, both ways
 --   step-ready, accepted-of-ready              the same with settings and length, for a call
-use Prim.Native.Nat.{ℕ, zero, suc, _+_, _*_, _<_, _≤_}
-use mathlib.Core.Path.{_≡_, refl, ap, sym, _∙_}
+use Prim.Native.Nat.{ℕ, zero, suc, _+_, _<_, _≤_}
+use mathlib.Core.Path.{_≡_, refl}
 use mathlib.Core.List.{List, [], _∷_}
-use mathlib.Core.Bool.{Bool, true, false, _&&_, not}
+use mathlib.Core.Bool.{true, not}
 use native.Mathlib.Omega.{arith}
-use lib.Dec.{eqb, ltb, leb}
-use lib.ListN.{length, take, drop, length-drop}
+use lib.Dec.{ltb}
+use lib.ListN.{length}
 use borrow.Author.Tests.{lt-ltb, le-ltb, le-leb, eq-eqb, ltb-true, leb-true, eqb-true, ltb-false, not-false}
 use Rattle.laws.proofs.Tests.{both-true}
 use Rattle.model.specs.declared.Settings.{Settings}
 use Rattle.model.specs.declared.SiteRecord.{SiteRecord}
-use Rattle.model.specs.Refusals.{when, _orElse_, accepted, memoryInconsistent}
-use Rattle.model.specs.Limits.{valueCount, siteLimit}
+use Rattle.model.specs.Refusals.{accepted}
+use Rattle.model.specs.Limits.{siteLimit}
 use Rattle.model.specs.Settings.{settingsRefusal}
 use Rattle.model.specs.Counters.{Counter, counterAt, unreported}
 use Rattle.model.specs.Site.{Site}
-use Rattle.model.specs.SiteMemory.{counterWords, siteWords, siteIn, countersIn, sum, counterConsistent, countersConsistent, siteConsistent, siteMemoryRefusal}
+use Rattle.model.specs.SiteMemory.{counterWords, siteWords, siteIn, sum, counterConsistent, countersConsistent, siteConsistent, siteMemoryRefusal}
 use Rattle.model.proofs.RefusalLaws.{both-accepted, passed}
 use Rattle.model.proofs.SettingsLaws.{within-of-between}
 use Rattle.counters.proofs.CounterMemory.{length-countersIn}

@@ -5,20 +5,19 @@
 --   upTo-sum                 the arrivals up to a value are a sum over the front
 --   Taken, taken-start, taken-on, taken-end, taken-short   the test of the sum, place by place
 --   Counting, counting-start, counting-on, counting-end    the count up to a value
-use Prim.Native.Nat.{ℕ, zero, suc, _+_, _*_, _<_, _≤_}
+use Prim.Native.Nat.{ℕ, zero, suc, _+_, _<_, _≤_}
 use mathlib.Core.Path.{_≡_, refl, ap, sym, _∙_}
 use mathlib.Core.List.{List, [], _∷_}
 use mathlib.Core.Bool.{Bool, true, false}
 use native.Mathlib.Numerals.{add-one}
 use native.Mathlib.Omega.{arith}
 use lib.Dec.{eqb}
-use lib.ListN.{length, getD, set, take, drop, length-drop}
+use lib.ListN.{length, getD, take, drop, length-drop}
 use lib.Seq.{getD-take, getD-drop, length-take-le, take-all}
 use borrow.Author.Tests.{eq-eqb, ne-eqb, eqb-true, eqb-false}
-use Rattle.model.specs.Limits.{valueCount, siteLimit}
+use Rattle.model.specs.Limits.{valueCount}
 use Rattle.model.specs.Site.{upTo, oneMoreAt}
 use Rattle.model.specs.SiteMemory.{sum}
-use Rattle.site_memory.specs.Contracts.{ValuesFit}
 
 pub valueCount-is : valueCount ≡ 1024
 unfolding valueCount

@@ -10,15 +10,14 @@ use mathlib.Core.Path.{_≡_, refl, ap, sym, _∙_}
 use mathlib.Core.List.{List, _++_}
 use mathlib.Core.Bool.{Bool, true, false}
 use native.Mathlib.Omega.{arith}
-use lib.Dec.{leb}
-use lib.ListN.{length, getD, set, take, drop, length-set}
-use Rattle.laws.proofs.FlatMemory.{overwritten, getD-overwritten, two-parts}
+use lib.ListN.{length, getD, set, drop, length-set}
+use Rattle.laws.proofs.FlatMemory.{getD-overwritten, two-parts}
 use Rattle.model.specs.declared.Settings.{Settings}
 use Rattle.model.specs.declared.SiteRecord.{SiteRecord}
 use Rattle.model.specs.declared.Arrival.{Arrival}
 use Rattle.model.specs.Choice.{if_then_else_}
 use Rattle.model.specs.Limits.{valueCount}
-use Rattle.model.specs.Counters.{Counter, counterAt, unreported}
+use Rattle.model.specs.Counters.{Counter, counterAt}
 use Rattle.model.specs.Site.{Site, observed, oneMoreAt, placeFor, countersWith, reportAt, reportsItem}
 use Rattle.model.specs.SiteMemory.{counterWords, siteWords, siteIn, siteMemory, counterNumbers, overwrite}
 use Rattle.counters.proofs.CounterMemory.{length-counterNumbers, withReported, set-reported}

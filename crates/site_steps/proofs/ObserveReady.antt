@@ -2,14 +2,15 @@
 -- and memory.
 --
 --   ready-observed    the model's site
---   ready-again       its record and the memory that it was written to
-use Prim.Native.Nat.{ℕ, _+_, _-_, _<_, _≤_}
-use mathlib.Core.Path.{_≡_, refl, ap, sym, _∙_, subst⁻¹}
+--   ready-written     any ready site, written to memory, is ready there
+--   ready-again       record and memory after the step of an arrival
+use Prim.Native.Nat.{ℕ, _+_, _<_, _≤_}
+use mathlib.Core.Path.{_≡_, refl, ap, _∙_, subst⁻¹}
 use mathlib.Core.List.{List}
 use mathlib.Core.Bool.{Bool, true, false}
 use native.Mathlib.Omega.{arith}
 use lib.Dec.{leb, eqb}
-use lib.ListN.{length, getD, set, length-set}
+use lib.ListN.{length, length-set}
 use lib.Seq.{getD-set-same, getD-set-other}
 use borrow.Author.Tests.{leb-true, leb-false, eqb-true, eqb-false}
 use Rattle.model.specs.declared.Settings.{Settings}
@@ -17,16 +18,15 @@ use Rattle.model.specs.declared.SiteRecord.{SiteRecord}
 use Rattle.model.specs.declared.Arrival.{Arrival}
 use Rattle.model.specs.Choice.{if_then_else_}
 use Rattle.model.specs.Refusals.{accepted}
-use Rattle.model.specs.Limits.{valueCount}
 use Rattle.model.specs.Counters.{Counter, noCounter, counterAt, unreported, afterReport}
-use Rattle.model.specs.Site.{Site, arrivalRefusal, observed, placeFor, countersWith, reportAt, reportsItem, reportsCount}
+use Rattle.model.specs.Site.{Site, arrivalRefusal, observed, placeFor, countersWith, reportAt, reportsItem}
 use Rattle.model.specs.SiteMemory.{siteWords, siteIn, siteRecord, siteMemory}
 use Rattle.model.proofs.SettingsLaws.{settled}
 use Rattle.site_memory.specs.Ready.{CounterReady, SiteReady, StepReady}
 use Rattle.site_memory.proofs.ValueLaws.{valueCount-is, sum-one-more}
 use Rattle.site_memory.proofs.SiteMemoryLaws.{length-siteMemory, siteIn-siteMemory}
 use Rattle.site_steps.proofs.Placements.{Acceptable, acceptable, JustCounted, Grown, grown}
-use Rattle.site_steps.proofs.ObserveMemory.{countersReported, length-countersReported}
+use Rattle.site_steps.proofs.ObserveMemory.{length-countersReported}
 
 -- ---- The counters
 

@@ -3,13 +3,13 @@
 --   by-placement     what holds of each way of counting holds of the way that is taken
 --   Grown, grown     the counters then, for a site that was ready
 --   Acceptable, acceptable   what an accepted arrival is worth
-use Prim.Native.Nat.{ℕ, zero, suc, _+_, _-_, _<_, _≤_}
-use mathlib.Core.Path.{_≡_, refl, ap, sym, _∙_}
-use mathlib.Core.List.{List, [], _∷_, _++_}
+use Prim.Native.Nat.{ℕ, _+_, _<_, _≤_}
+use mathlib.Core.Path.{_≡_, refl}
+use mathlib.Core.List.{List, [], _∷_}
 use mathlib.Core.Bool.{Bool, true, false}
 use native.Mathlib.Omega.{arith}
-use lib.Dec.{ltb, leb, eqb}
-use lib.ListN.{length, getD, set, length-set, length-append, List·getD-append}
+use lib.Dec.{ltb, leb}
+use lib.ListN.{length, set, length-set, length-append, List·getD-append}
 use lib.Seq.{getD-set-same, getD-set-other, getD-append-seam}
 use borrow.Author.Tests.{ltb-true, ltb-false, leb-false}
 use Rattle.model.specs.declared.Settings.{Settings}
@@ -18,7 +18,7 @@ use Rattle.model.specs.Refusals.{accepted}
 use Rattle.model.specs.Limits.{topValue, siteLimit}
 use Rattle.model.specs.Counters.{Counter, noCounter, counterAt, unreported, find, leastPlace, Placement, placementFor, placeOf, countersAfter, oneMoreOf, firstOf, replacing}
 use Rattle.model.specs.Counters.Placement.{own, unused, replaced}
-use Rattle.model.specs.Site.{Site, addressRefusal, arrivalRefusal, placementIn, placeFor, countersWith}
+use Rattle.model.specs.Site.{Site, addressRefusal, arrivalRefusal, placeFor, countersWith}
 use Rattle.model.proofs.RefusalLaws.{both-accepted, passed}
 use Rattle.counters.proofs.Search.{leastPlace-lt}
 use Rattle.site_memory.specs.Ready.{CounterReady, SiteReady}

@@ -1,27 +1,28 @@
 -- A message at a site: the site is the model's, and a site that was ready is ready again.
 --
---   Due, due               what a message that is not refused is worth
+--   Due, message-due       what a message that is not refused is worth
 --   ready-received         the model's site after a message
---   ready-after-message    its record and memory
-use Prim.Native.Nat.{ℕ, _+_, _<_, _≤_}
-use mathlib.Core.Path.{_≡_, refl, ap, sym, _∙_, subst, subst⁻¹}
+--   siteIn-received        a message leaves counters and values as they were
+--   ready-after-message    record and memory after a message
+--   record-with            the record of a site that was read
+use Prim.Native.Nat.{ℕ, _<_, _≤_}
+use mathlib.Core.Path.{_≡_, refl, sym, _∙_, subst, subst⁻¹}
 use mathlib.Core.List.{List}
 use mathlib.Core.Bool.{Bool, true, false, _&&_, _||_, not, false≢true}
 use native.Mathlib.Omega.{arith}
-use lib.Dec.{leb, ltb, eqb}
-use lib.ListN.{length, take, drop}
+use lib.Dec.{leb, ltb}
+use lib.ListN.{length}
 use borrow.Author.Tests.{leb-false, ltb-false, not-false}
 use Rattle.laws.proofs.Tests.{first-fails, second-fails}
 use Rattle.model.specs.declared.Settings.{Settings}
 use Rattle.model.specs.declared.SiteRecord.{SiteRecord}
 use Rattle.model.specs.declared.Message.{Message}
-use Rattle.model.specs.Choice.{if_then_else_, isZero}
 use Rattle.model.specs.Refusals.{accepted}
 use Rattle.model.specs.Limits.{topValue, siteLimit}
 use Rattle.model.specs.Messages.{isPoll, isProbe, isAnnouncement}
 use Rattle.model.specs.Counters.{Counter, counterAt}
-use Rattle.model.specs.Site.{Site, SiteStep, withPending, withThreshold, dueAtSite, wrongAtSite, siteMessageRefusal, siteReceives}
-use Rattle.model.specs.SiteMemory.{counterWords, siteIn, siteRecord, countersIn}
+use Rattle.model.specs.Site.{Site, withPending, withThreshold, dueAtSite, wrongAtSite, siteMessageRefusal, siteReceives}
+use Rattle.model.specs.SiteMemory.{siteIn, siteRecord, countersIn}
 use Rattle.model.proofs.RefusalLaws.{passed}
 use Rattle.counters.proofs.CounterMemory.{length-countersIn}
 use Rattle.site_memory.specs.Ready.{CounterReady, SiteReady, StepReady}

@@ -1,7 +1,11 @@
 -- An arrival stored in a site's memory, call by call: what each part requires follows from the
 -- readiness of the site, and the parts together are the model's step.
-use Prim.Native.Nat.{ℕ, _+_, _*_, _<_, _≤_}
-use mathlib.Core.Path.{_≡_, refl, ap, sym, _∙_, subst₂}
+--
+--   count-asks, report-asks, value-place, value-small   what each call requires
+--   stored-arrival     the promise of `store_arrival`
+--   observed-step      the promise of `observe_step`
+use Prim.Native.Nat.{ℕ, _+_, _<_, _≤_}
+use mathlib.Core.Path.{_≡_, ap, sym, _∙_, subst₂}
 use mathlib.Core.List.{List}
 use mathlib.Core.Bool.{Bool}
 use native.Mathlib.Omega.{arith}
@@ -14,15 +18,15 @@ use Rattle.model.specs.declared.Message.{Message}
 use Rattle.model.specs.Choice.{if_then_else_}
 use Rattle.model.specs.Messages.{message}
 use Rattle.model.specs.Limits.{valueCount, siteLimit}
-use Rattle.model.specs.Counters.{Counter, counterAt, unreported}
-use Rattle.model.specs.Site.{Site, observed, oneMoreAt, placeFor, countersWith, reportsItem}
-use Rattle.model.specs.SiteMemory.{counterWords, siteWords, siteIn, siteRecord, siteMemory, sum, counterNumbers, overwrite}
+use Rattle.model.specs.Counters.{Counter, counterAt}
+use Rattle.model.specs.Site.{Site, observed, oneMoreAt, placeFor, countersWith}
+use Rattle.model.specs.SiteMemory.{counterWords, siteIn, siteRecord, counterNumbers, overwrite}
 use Rattle.model.proofs.SettingsLaws.{Settled, settled}
 use Rattle.counters.specs.declared.Counted.{Counted}
 use Rattle.counters.specs.Stored.{counterOf}
 use Rattle.counters.specs.Count.{greatestWord, CountAsks, CountSays}
 use Rattle.counters.proofs.CounterMemory.{length-countersIn}
-use Rattle.site_memory.specs.Ready.{SiteReady, StepReady}
+use Rattle.site_memory.specs.Ready.{SiteReady}
 use Rattle.site_memory.proofs.ValueLaws.{valueCount-is, getD-le-sum}
 use Rattle.site_steps.specs.Steps.{ObserveAsks, ReportAsks, ReportSays, StoreSays, messagesDue, GatherSays, ObserveStepSays}
 use Rattle.site_steps.specs.declared.StoredArrival.{StoredArrival}

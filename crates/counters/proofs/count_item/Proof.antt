@@ -1,11 +1,10 @@
 -- `counters::count_item` meets its contract: each way of counting by its law in CountLaws.
 use Prim.Native.Nat.{_<_}
-use mathlib.Core.Path.{_≡_, refl, ap}
+use mathlib.Core.Path.{refl, ap}
 use native.Mathlib.Omega.{arith}
 use borrow.Author.Needs.{needs}
 use Rattle.model.specs.Counters.{Counter}
 use Rattle.counters.specs.Stored.{counterOf}
-use Rattle.counters.proofs.CounterMemory.{counterAt-countersIn}
 use Rattle.counters.proofs.CountLaws.{counted-own, counted-unused, counted-replaced, small-at, least-within}
 use Rattle.counters.proofs.count_item.Statement.{statement}
 use Rattle.counters.proofs.count_item.Tie as tie

@@ -1,8 +1,6 @@
 -- `counters::find_counter` meets its contract. The loop's invariant: what is sought stands from
 -- place i on. The measure is the number of counters left.
 use Prim.Native.Nat.{_-_}
-use mathlib.Core.Path.{_≡_, sym, _∙_, ap}
-use native.Mathlib.Omega.{arith}
 use borrow.Author.Needs.{needs}
 use Rattle.counters.proofs.Search.{Searching, find-start, find-end, find-here, find-on}
 use Rattle.counters.proofs.find_counter.Statement.{statement}

@@ -1,9 +1,8 @@
 -- `counters::least_counter` meets its contract. The loop's invariant: the scan goes on from place i
 -- with the best place so far. The measure is the number of counters left.
 use Prim.Native.Nat.{_-_}
-use mathlib.Core.Path.{_≡_, sym, _∙_}
+use mathlib.Core.Path.{sym, _∙_}
 use mathlib.Core.Logic.{⊎-elim}
-use native.Mathlib.Omega.{arith}
 use borrow.Author.Needs.{needs}
 use Rattle.counters.proofs.Search.{Scanning, least-start, least-end, least-new, least-old}
 use Rattle.counters.proofs.least_counter.Statement.{statement}

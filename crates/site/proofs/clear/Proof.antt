@@ -1,8 +1,6 @@
 -- `site::clear` meets its contract. The loop's invariant: the first i numbers are 0. The measure is
 -- the count of the numbers left.
 use Prim.Native.Nat.{_-_}
-use mathlib.Core.Path.{refl, _∙_, ap}
-use native.Mathlib.Omega.{arith}
 use borrow.Author.Needs.{needs}
 use Rattle.site.proofs.StartLaws.{Clearing, clearing-start, clearing-on, clearing-end}
 use Rattle.site.proofs.clear.Statement.{statement}

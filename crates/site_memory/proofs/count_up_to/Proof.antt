@@ -1,7 +1,6 @@
 -- `site_memory::count_up_to` meets its contract. The loop's invariant: the first i counts were
 -- added up. The measure is the number of counts left.
 use Prim.Native.Nat.{_-_, _+_}
-use mathlib.Core.Path.{_≡_, _∙_, sym}
 use native.Mathlib.Omega.{arith}
 use borrow.Author.Needs.{needs}
 use Rattle.site_memory.proofs.ValueLaws.{valueCount-is, Counting, counting-start, counting-on, counting-small, counting-end}

@@ -2,9 +2,8 @@
 -- place i are consistent. The measure is the number of counters left.
 use Prim.Native.Nat.{_-_}
 use mathlib.Core.Path.{_∙_, sym}
-use native.Mathlib.Omega.{arith}
 use borrow.Author.Needs.{needs}
-use Rattle.model.specs.SiteMemory.{siteIn, counterConsistent}
+use Rattle.model.specs.SiteMemory.{siteIn}
 use Rattle.site_memory.proofs.ConsistencyLaws.{Passing, passing-start, passing-on, passing-fails, passing-end}
 use Rattle.site_memory.proofs.counters_consistent.Statement.{statement}
 use Rattle.site_memory.proofs.counters_consistent.Tie as tie

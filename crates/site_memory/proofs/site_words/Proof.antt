@@ -1,5 +1,4 @@
 -- `site_memory::site_words` meets its contract: the histogram has 1024 places.
-use mathlib.Core.Path.{sym}
 use native.Mathlib.Omega.{arith}
 use borrow.Author.Needs.{needs}
 use Rattle.model.proofs.SettingsLaws.{settled}

@@ -1,7 +1,7 @@
 -- `site_memory::values_sum_to` meets its contract. The loop's invariant: the first i counts were
 -- taken off the total. The measure is the number of counts left.
 use Prim.Native.Nat.{_-_, _+_}
-use mathlib.Core.Path.{_≡_, _∙_, sym, subst}
+use mathlib.Core.Path.{_≡_, sym}
 use native.Mathlib.Omega.{arith}
 use lib.ListN.{getD}
 use borrow.Author.Needs.{needs}

@@ -1,5 +1,4 @@
 -- `site_steps::observe_step` meets its contract: the arrival stored, and the messages gathered.
-use native.Mathlib.Omega.{arith}
 use borrow.Author.Needs.{needs}
 use Rattle.site_steps.proofs.StoreLaws.{observed-step}
 use Rattle.site_steps.proofs.observe_step.Statement.{statement}

@@ -1,7 +1,6 @@
 -- `site_steps::report_counter` meets its contract: the threshold fits, as it is at most a number of
 -- memory.
-use Prim.Native.Nat.{_+_, _-_}
-use native.Mathlib.Omega.{arith}
+use Prim.Native.Nat.{_-_}
 use borrow.Author.Tests.{le-leb, lt-leb}
 use borrow.Author.Needs.{needs}
 use Rattle.site_steps.proofs.report_counter.Statement.{statement}

@@ -1,6 +1,5 @@
 -- `site_steps::store_arrival` meets its contract: its three calls by the laws of StoreLaws.
 use mathlib.Core.Path.{_≡_}
-use native.Mathlib.Omega.{arith}
 use lib.ListN.{length}
 use borrow.Author.Needs.{needs}
 use Rattle.site_steps.proofs.StoreLaws.{count-asks, report-asks, value-place, value-small, stored-arrival}

@@ -113,7 +113,7 @@ module _ {settings : Settings} {network : Network}
         fit .sites .at-most,
       )
 
-  arrivals-few : allArrivals (network .sites) ≤ 32000000000
+  pub arrivals-few : allArrivals (network .sites) ≤ 32000000000
   arrivals-few =
       omega (
         arith,

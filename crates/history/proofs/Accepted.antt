@@ -1,0 +1,157 @@
+-- Memory that arose is never refused, and so each call is refused by what the rules say of its arrival
+-- or message alone. PROOF.md section 7, "Never 11".
+--
+--   held-sound, resting-of    what the invariant is worth: sound parts; at rest, the model's run
+--   memory-accepted           neither 4 nor 11, nor 1, 2, 3
+--   refused-by-rules          the number that each call then answers
+use mathlib.Core.Path.{_≡_, sym, ap, _∙_, subst}
+use mathlib.Core.List.{List}
+use Prim.Native.Nat.{ℕ, _≤_, _<_}
+use native.Mathlib.Omega.{arith}
+use lib.ListN.{length}
+use borrow.Author.Tests.{le-ltb, lt-leb}
+use Rattle.model.specs.declared.Settings.{Settings}
+use Rattle.model.specs.declared.Arrival.{Arrival}
+use Rattle.model.specs.declared.Message.{Message}
+use Rattle.model.specs.Refusals.{accepted}
+use Rattle.model.specs.Limits.{messageLimit}
+use Rattle.model.specs.Settings.{settingsRefusal}
+use Rattle.model.specs.Site.{Site, arrivalRefusal, siteMessageRefusal}
+use Rattle.model.specs.SiteMemory.{siteWords, siteIn, siteMemoryRefusal}
+use Rattle.model.specs.Coordinator.{isAnnouncing}
+use Rattle.model.specs.CoordinatorMemory.{coordinatorWords, coordinatorMemoryRefusal}
+use Rattle.model.specs.Network.{siteAt}
+use Rattle.model.specs.NetworkMemory.{sitesWords, networkRefusal}
+use Rattle.model.specs.Runs.{batchOf}
+use Rattle.model.specs.SoundNetwork.{Sound}
+use Rattle.model.proofs.ConsistentCoordinator.{coordinator-consistent-of}
+use Rattle.model.proofs.ConsistentNetwork.{network-consistent-of}
+use Rattle.site.specs.Calls as SiteCalls
+use Rattle.tracker.specs.declared.BatchAnswer.{BatchAnswer}
+use Rattle.tracker.specs.Batch.{BatchLent, BatchSays, logRoom}
+use Rattle.history.specs.State.{State, AtRest, networkOf, recordAt, sitePart}
+use Rattle.history.specs.Histories.{batchCall}
+use Rattle.history.specs.Demands.{MemoryAccepted, RefusedByRules}
+use Rattle.history.proofs.Answers.{or-accepted}
+use Rattle.history.proofs.RunSound.{sound-run, messages-within}
+use Rattle.history.proofs.Decoded.{site-part, site-memory-accepted}
+use Rattle.history.proofs.Invariant.{StateOk, Resting, SoundHeld, sound-of-standing, rest-of-standing}
+
+module _ {settings : Settings} (passes : settingsRefusal settings ≡ accepted) {n : ℕ} {state : State}
+    (ok : StateOk settings n state) where
+  pub held-sound : SoundHeld settings state
+  held-sound = sound-of-standing passes (ok .standing)
+
+  -- At rest the state is the model's run.
+  pub resting-of : AtRest state → Resting settings state
+  resting-of rest =
+      rest-of-standing passes (ok .standing) (rest .nothing-waits) (ap isAnnouncing (rest .idle))
+
+  -- ---- Memory
+
+  coordinator-accepted :
+      coordinatorMemoryRefusal settings (state .held .coordinator) (state .held .coordinatorMemory)
+      ≡ accepted
+  coordinator-accepted =
+      rw (
+        passes,
+        le-ltb (length (state .held .coordinatorMemory)) (coordinatorWords settings)
+            (ok .lengths .coordinator-long),
+        coordinator-consistent-of settings (networkOf settings (state .held) .coordinator)
+            (held-sound .coordinator-sound) (held-sound .within),
+      )
+
+  -- The messages counted are among those of the run.
+  few-counted : Resting settings state → state .held .sites .messages ≤ messageLimit
+  few-counted rest =
+      omega (
+        arith,
+        ok .count-is-sum,
+        ok .logged-within,
+        ap length (rest .messages-are),
+        messages-within settings passes (state .accepted),
+      )
+
+  network-accepted : AtRest state
+      → networkRefusal settings (state .held .sites) (state .held .coordinator)
+      (state .held .siteMemory) (state .held .coordinatorMemory)
+      ≡ accepted
+  network-accepted at-rest =
+      let rest = resting-of at-rest in
+      let sound : Sound settings (networkOf settings (state .held)) =
+      subst (Sound settings) (sym (rest .network-is))
+      (sound-run settings passes (state .accepted) .sound) in
+      rw (
+        passes,
+        le-ltb (length (state .held .siteMemory)) (sitesWords settings) (ok .lengths .sites-long),
+        le-ltb (length (state .held .coordinatorMemory)) (coordinatorWords settings)
+            (ok .lengths .coordinator-long),
+        network-consistent-of settings (state .held .sites) (state .held .coordinator)
+            (state .held .siteMemory) (state .held .coordinatorMemory) sound (held-sound .within)
+            (few-counted rest),
+      )
+
+  of-site : (which words : ℕ) → which < settings .sites → siteWords settings ≤ words
+      → siteMemoryRefusal settings (recordAt (state .held) which)
+      (sitePart settings (state .held) which words)
+      ≡ accepted
+  of-site which words known enough =
+      site-memory-accepted passes (state .held) (ok .lengths) (held-sound .sites-sound) which known
+      words enough
+
+  pub memory-accepted : MemoryAccepted settings state
+  memory-accepted = record {
+    of-site = of-site;
+    of-coordinator = coordinator-accepted;
+    of-network = network-accepted;
+  }
+
+  -- ---- The numbers that calls answer
+
+  site-here : (which words : ℕ) → which < settings .sites → siteWords settings ≤ words
+      → siteIn settings (recordAt (state .held) which) (sitePart settings (state .held) which words)
+      ≡ siteAt (networkOf settings (state .held)) which
+  site-here which words known enough =
+      site-part passes (state .held) (ok .lengths) (held-sound .sites-sound) which known words
+      enough
+
+  arrival-by-rules : (which words : ℕ) (arrival : Arrival)
+      → which < settings .sites
+      → siteWords settings ≤ words
+      → SiteCalls.observeRefusal settings (recordAt (state .held) which) arrival
+      (sitePart settings (state .held) which words)
+      ≡ arrivalRefusal settings (siteAt (networkOf settings (state .held)) which) arrival
+  arrival-by-rules which words arrival known enough =
+      rw (of-site which words known enough)
+      (ap (λ (site : Site). arrivalRefusal settings site arrival)
+      (site-here which words known enough))
+
+  site-message-by-rules : (which words : ℕ) (m : Message)
+      → which < settings .sites
+      → siteWords settings ≤ words
+      → SiteCalls.receiveRefusal settings (recordAt (state .held) which) which m
+      (sitePart settings (state .held) which words)
+      ≡ siteMessageRefusal settings (siteAt (networkOf settings (state .held)) which) which m
+  site-message-by-rules which words m known enough =
+      rw (of-site which words known enough, lt-leb (settings .sites) which known)
+      (ap (λ (site : Site). siteMessageRefusal settings site which m)
+      (site-here which words known enough))
+
+  batch-by-rules : AtRest state
+      → (arrivals : List Arrival) (log : List ℕ) (lent : BatchLent) (answer : BatchAnswer)
+      → BatchSays (batchCall settings (state .held) arrivals log) lent answer
+      → answer .refusal
+      ≡ batchOf settings (logRoom log) (networkOf settings (state .held)) arrivals .refusal
+  batch-by-rules at-rest arrivals log lent answer says =
+      says .refusal ∙ rw (network-accepted at-rest)
+
+  pub refused-by-rules : RefusedByRules settings state
+  refused-by-rules = record {
+    arrival = arrival-by-rules;
+    site-message = site-message-by-rules;
+    coordinator-message = λ m. rw coordinator-accepted;
+    next-announcement = rw coordinator-accepted;
+    list = λ places. rw coordinator-accepted (or-accepted _);
+    margin = λ item. rw coordinator-accepted (or-accepted _);
+    batch = batch-by-rules;
+  }

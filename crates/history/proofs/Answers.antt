@@ -1,0 +1,50 @@
+-- What a call hands back by whether it accepts, and what its acceptance is worth.
+--
+--   accepted-choice, refused-choice   what is chosen where a call accepts, and where it refuses
+--   or-accepted                       a chain's last row may be left out
+--   accepted-long                     memory that a call on a site accepts is long enough
+--   words-enough                      and so is a part of so many numbers
+use mathlib.Core.Path.{_≡_, refl}
+use mathlib.Core.List.{List}
+use Prim.Native.Nat.{ℕ, zero, suc, _≤_}
+use native.Mathlib.Omega.{arith}
+use lib.Dec.{ltb}
+use lib.ListN.{length, take, length-take}
+use borrow.Author.Tests.{eq-eqb, ne-eqb, ltb-false}
+use Rattle.model.specs.declared.Settings.{Settings}
+use Rattle.model.specs.declared.SiteRecord.{SiteRecord}
+use Rattle.model.specs.Choice.{if_then_else_, isZero}
+use Rattle.model.specs.Refusals.{accepted, _orElse_}
+use Rattle.model.specs.Settings.{settingsRefusal}
+use Rattle.model.specs.SiteMemory.{siteWords, siteMemoryRefusal}
+use Rattle.model.proofs.RefusalLaws.{both-accepted, passed}
+
+-- ---- Choices
+
+pub accepted-choice : {A : Type 0} (refusal : ℕ) (chosen other : A)
+    → refusal ≡ accepted
+    → (if isZero refusal then chosen else other) ≡ chosen
+accepted-choice refusal chosen other none = rw (eq-eqb refusal 0 none)
+
+pub refused-choice : {A : Type 0} (refusal : ℕ) (chosen other : A)
+    → (refusal ≡ accepted → ⊥)
+    → (if isZero refusal then chosen else other) ≡ other
+refused-choice refusal chosen other refused = rw (ne-eqb refusal 0 refused)
+
+pub or-accepted : (refusal : ℕ) → (refusal orElse accepted) ≡ refusal
+or-accepted zero = refl
+or-accepted (suc refusal) = refl
+
+-- ---- Lengths
+
+pub accepted-long : (settings : Settings) (numbers : SiteRecord) (memory : List ℕ)
+    → siteMemoryRefusal settings numbers memory ≡ accepted
+    → siteWords settings ≤ length memory
+accepted-long settings numbers memory none =
+    let rows = both-accepted (settingsRefusal settings) _ none in
+    ltb-false (length memory) (siteWords settings)
+    (passed (ltb (length memory) (siteWords settings)) 4 _ (omega arith) (rows .later-accepted)
+    .test-failed)
+
+pub words-enough : (words n : ℕ) (memory : List ℕ) → words ≤ length (take n memory) → words ≤ n
+words-enough words n memory long = omega (arith, length-take n memory)

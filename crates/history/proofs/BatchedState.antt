@@ -1,0 +1,218 @@
+-- The state after a batch call at rest: at rest again, the model's run with the arrivals that the batch
+-- accepted, and the messages of its log. PROOF.md section 7, "Histories".
+--
+--   batch-ok     the invariant of that state
+use mathlib.Core.Path.{_≡_, refl, sym, ap, _∙_, subst}
+use mathlib.Core.List.{List, _++_}
+use Prim.Native.Nat.{ℕ, _+_, _*_, _≤_}
+use native.Mathlib.Omega.{arith}
+use lib.ListN.{length, take, length-append}
+use borrow.Author.Tests.{eq-eqb}
+use Rattle.model.specs.declared.Settings.{Settings}
+use Rattle.model.specs.declared.Arrival.{Arrival}
+use Rattle.model.specs.declared.Message.{Message}
+use Rattle.model.specs.Refusals.{accepted}
+use Rattle.model.specs.Settings.{settingsRefusal}
+use Rattle.model.specs.SiteMemory.{siteWords}
+use Rattle.model.specs.CoordinatorMemory.{coordinatorIn, coordinatorRecord, coordinatorMemory}
+use Rattle.model.specs.Network.{Network}
+use Rattle.model.specs.NetworkMemory.{sitesIn, sitesMemory, siteRecords}
+use Rattle.model.specs.Runs.{Run, runFrom, runOf, Batch, batchOf}
+use Rattle.model.specs.SoundNetwork.{Sound}
+use Rattle.model.proofs.SettingsLaws.{Settled, settled}
+use Rattle.model.proofs.RunLaws.{runFrom-append}
+use Rattle.coordinator_steps.proofs.MemoryLaws.{written-coordinator}
+use Rattle.tracker.specs.declared.BatchAnswer.{BatchAnswer}
+use Rattle.tracker.specs.Batch.{BatchCall, BatchLent, BatchSays, startRefusal, batchIn, unlessRefused, logRoom, messagesIn}
+use Rattle.history.specs.State.{Held, State, AtRest, networkOf}
+use Rattle.history.specs.Histories.{batchCall, afterBatch}
+use Rattle.history.proofs.SitesWritten.{AllStorable, length-siteRecords, length-sitesMemory, sitesIn-sitesMemory}
+use Rattle.history.proofs.RunSound.{sound-run}
+use Rattle.history.proofs.BatchRuns.{BatchRun, batch-run}
+use Rattle.history.proofs.HandedOut.{messagesIn-written}
+use Rattle.history.proofs.Decoded.{Lengths}
+use Rattle.history.proofs.DecodedCoordinator.{length-coordinatorMemory}
+use Rattle.history.proofs.Invariant.{StateOk, Resting, resting}
+use Rattle.history.proofs.Accepted.{resting-of, memory-accepted}
+
+-- ---- A whole network written
+
+-- The network that a batch comes to, written over what was held.
+abbrev pub networkWritten : Settings → Held → Network → ℕ → Held
+networkWritten settings held network messages = record {
+  sites = record {
+    records = siteRecords (network .sites) (held .sites .records);
+    messages = messages;
+  };
+  coordinator = coordinatorRecord (network .coordinator);
+  siteMemory = sitesMemory settings (network .sites) (held .siteMemory);
+  coordinatorMemory = coordinatorMemory (network .coordinator) (held .coordinatorMemory);
+}
+
+module _ {settings : Settings} (passes : settingsRefusal settings ≡ accepted) (held : Held)
+    (lengths : Lengths settings held) (network : Network) (sound : Sound settings network)
+    (messages : ℕ) where
+  fit : Settled settings
+  fit = settled settings passes
+
+  storable : AllStorable settings (network .sites)
+  storable j inside =
+      let site-sound = sound .sites-sound j (omega (arith, sound .all-sites)) in
+      record { few = site-sound .few-counters; values = site-sound .histogram-length }
+
+  long : length (network .sites) * siteWords settings ≤ length (held .siteMemory)
+  long = rw (sound .all-sites) (lengths .sites-long)
+
+  -- It is read back as it was written.
+  pub network-written : networkOf settings (networkWritten settings held network messages) ≡ network
+  network-written =
+      let enough : length (network .sites) ≤ length (held .sites .records) =
+      omega (arith, sound .all-sites, lengths .all-records, fit .sites .at-most) in
+      let sites : sitesIn (settings .sites) settings
+      (siteRecords (network .sites) (held .sites .records))
+      (sitesMemory settings (network .sites) (held .siteMemory))
+      ≡ network .sites =
+      ap (λ (k : ℕ).
+      sitesIn k settings (siteRecords (network .sites) (held .sites .records))
+      (sitesMemory settings (network .sites) (held .siteMemory)))
+      (sym (sound .all-sites))
+      ∙ sitesIn-sitesMemory settings (network .sites) (held .sites .records) (held .siteMemory)
+      storable enough long in
+      let coordinator : coordinatorIn settings (coordinatorRecord (network .coordinator))
+      (coordinatorMemory (network .coordinator) (held .coordinatorMemory))
+      ≡ network .coordinator =
+      written-coordinator settings (network .coordinator) (held .coordinatorMemory)
+      (sound .coordinator-sound .numbers .estimates-length)
+      (sound .coordinator-sound .numbers .histogram-length) in
+      λ i. record { sites = sites i; coordinator = coordinator i }
+
+  pub lengths-written : Lengths settings (networkWritten settings held network messages)
+  lengths-written = record {
+    all-records =
+        length-siteRecords settings (network .sites) (held .sites .records)
+        ∙ lengths .all-records;
+    sites-long =
+        omega (
+          arith,
+          length-sitesMemory settings (network .sites) (held .siteMemory) storable long,
+          lengths .sites-long,
+        );
+    coordinator-long =
+        omega (
+          arith,
+          length-coordinatorMemory settings (network .coordinator) (held .coordinatorMemory)
+              (sound .coordinator-sound .numbers .estimates-length)
+              (sound .coordinator-sound .numbers .histogram-length)
+              (lengths .coordinator-long),
+          lengths .coordinator-long,
+        );
+  }
+
+-- ---- The state after the call
+
+module _ {settings : Settings} (passes : settingsRefusal settings ≡ accepted) {n : ℕ} (before : State)
+    (ok : StateOk settings n before) (at-rest : AtRest before)
+    (arrivals : List Arrival) (log : List ℕ) (lent : BatchLent) (answer : BatchAnswer)
+    (says : BatchSays (batchCall settings (before .held) arrivals log) lent answer) where
+  abbrev call : BatchCall
+  call = batchCall settings (before .held) arrivals log
+
+  abbrev batch : Batch
+  batch = batchIn call
+
+  rest : Resting settings before
+  rest = resting-of passes ok at-rest
+
+  none : startRefusal call ≡ accepted
+  none = memory-accepted passes ok .of-network at-rest
+
+  done : {A : Type 0} (x y z : A) → x ≡ unlessRefused call y z → x ≡ y
+  done x y z is = is ∙ rw (eq-eqb (startRefusal call) 0 none)
+
+  -- The state, by the model's batch.
+  abbrev after : State
+  after = record {
+    held = networkWritten settings (before .held) (batch .network)
+        (before .held .sites .messages + length (batch .messages));
+    waiting = before .waiting;
+    accepted = before .accepted ++ take (batch .accepted) arrivals;
+    messages = before .messages ++ batch .messages;
+    logged = before .logged + length (batch .messages);
+  }
+
+  after-is : afterBatch before arrivals lent answer ≡ after
+  after-is =
+      let sites = done (answer .sites) _ _ (says .sites) in
+      let coordinator = done (answer .coordinator) _ _ (says .coordinator) in
+      let site-memory = done (lent .siteMemory) _ _ (says .site-memory) in
+      let memory = done (lent .coordinatorMemory) _ _ (says .coordinator-memory) in
+      let taken = done (answer .accepted) _ _ (says .accepted) in
+      let written = done (answer .written) _ _ (says .written) in
+      let read : messagesIn (answer .written) (lent .log) ≡ batch .messages =
+      (λ i. messagesIn (written i) (done (lent .log) _ _ (says .log) i))
+      ∙ messagesIn-written (batch .messages) _ in
+      λ i. record {
+        held = record {
+          sites = sites i;
+          coordinator = coordinator i;
+          siteMemory = site-memory i;
+          coordinatorMemory = memory i;
+        };
+        waiting = before .waiting;
+        accepted = before .accepted ++ take (taken i) arrivals;
+        messages = before .messages ++ read i;
+        logged = before .logged + written i;
+      }
+
+  -- The batch is a run over what it accepted.
+  as-run : BatchRun settings (runOf settings (before .accepted)) arrivals batch
+  as-run =
+      subst (λ (network : Network).
+      BatchRun settings (runOf settings (before .accepted)) arrivals
+      (batchOf settings (logRoom log) network arrivals))
+      (sym (rest .network-is))
+      (batch-run settings (logRoom log) arrivals (runOf settings (before .accepted)))
+
+  run-on : runOf settings (after .accepted)
+      ≡ runFrom settings (runOf settings (before .accepted)) (take (batch .accepted) arrivals)
+  run-on = runFrom-append settings _ (before .accepted) (take (batch .accepted) arrivals)
+
+  network-then : batch .network ≡ runOf settings (after .accepted) .network
+  network-then = as-run .network-is ∙ ap (λ (run : Run). run .network) (sym run-on)
+
+  sound-then : Sound settings (batch .network)
+  sound-then =
+      subst (Sound settings) (sym network-then)
+      (sound-run settings passes (after .accepted) .sound)
+
+  resting-then : Resting settings after
+  resting-then = record {
+    nothing-waits = at-rest .nothing-waits;
+    accepted-are =
+        ap (λ (run : Run). run .accepted) run-on
+        ∙ as-run .run-accepted
+        ∙ ap (λ (front : List Arrival). front ++ take (batch .accepted) arrivals)
+        (rest .accepted-are);
+    network-is =
+        network-written passes (before .held) (ok .lengths) (batch .network) sound-then
+        (before .held .sites .messages + length (batch .messages))
+        ∙ network-then;
+    messages-are =
+        ap (λ (front : List Message). front ++ batch .messages) (rest .messages-are)
+        ∙ sym (as-run .run-messages)
+        ∙ ap (λ (run : Run). run .messages) (sym run-on);
+  }
+
+  after-ok : StateOk settings 0 after
+  after-ok = record {
+    lengths =
+        lengths-written passes (before .held) (ok .lengths) (batch .network) sound-then
+        (before .held .sites .messages + length (batch .messages));
+    standing = resting refl resting-then;
+    count-is-sum = ap (λ (sum : ℕ). sum + length (batch .messages)) (ok .count-is-sum);
+    logged-within =
+        omega (arith, ok .logged-within, length-append (before .messages) (batch .messages));
+  }
+
+  pub batch-ok : StateOk settings 0 (afterBatch before arrivals lent answer)
+  batch-ok = subst (StateOk settings 0) (sym after-is) after-ok

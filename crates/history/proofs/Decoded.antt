@@ -1,0 +1,211 @@
+-- The network that records and memory hold, after a call on one site was put back: that site and
+-- nothing else has changed. PROOF.md section 7, "Frame".
+--
+--   Lengths settings held        32 records, and memories that are long enough
+--   SitesSound settings held     each of the k sites that are held is sound
+--   site-part                    a site's record with its part of the memory is that site
+--   site-memory-accepted         neither 4 nor 11 for it
+--   network-site-written         a site's record and part put back
+--   network-site-told            a site's record alone put back
+use mathlib.Core.Path.{_≡_, sym, ap, _∙_}
+use mathlib.Core.List.{List}
+use Prim.Native.Nat.{ℕ, _+_, _≤_, _<_}
+use native.Mathlib.Nat.{mul-le-mul-right}
+use native.Mathlib.Omega.{arith}
+use lib.ListN.{length, set, drop, length-drop, length-set}
+use borrow.Author.Tests.{le-ltb}
+use Rattle.model.specs.declared.Settings.{Settings}
+use Rattle.model.specs.declared.Message.{Message}
+use Rattle.model.specs.Refusals.{accepted}
+use Rattle.model.specs.Limits.{mostSites, valueCount}
+use Rattle.model.specs.Settings.{settingsRefusal}
+use Rattle.model.specs.Site.{Site, freshSite, siteReceives}
+use Rattle.model.specs.SiteMemory.{siteWords, siteIn, siteRecord, siteMemory, siteMemoryRefusal}
+use Rattle.model.specs.CoordinatorMemory.{coordinatorWords, coordinatorIn, coordinatorMemory}
+use Rattle.model.specs.Network.{siteAt, withSite}
+use Rattle.model.specs.NetworkMemory.{sitesWords, sitesIn}
+use Rattle.model.specs.SoundNetwork.{SoundSite}
+use Rattle.model.proofs.SettingsLaws.{Settled, settled}
+use Rattle.model.proofs.ConsistentSites.{length-countersIn, consistent-of-sound}
+use Rattle.site_memory.proofs.SiteMemoryLaws.{siteIn-siteMemory}
+use Rattle.history.specs.State.{Held, networkOf, recordAt, siteStart, sitePart, withPart, afterSiteCall}
+use Rattle.history.proofs.SiteParts.{siteIn-take, front-long, siteIn-received}
+use Rattle.history.proofs.SitesMemory.{offset, offset-is, getD-sitesIn, sitesIn-set, written, length-written, part-written, sitesIn-written}
+
+pub record Lengths (settings : Settings) (held : Held) : Type 0 where
+  pub all-records : length (held .sites .records) ≡ mostSites
+  pub sites-long : sitesWords settings ≤ length (held .siteMemory)
+  pub coordinator-long : coordinatorWords settings ≤ length (held .coordinatorMemory)
+
+abbrev pub SitesSound : Settings → Held → Type 0
+SitesSound settings held =
+    (j : ℕ) → j < settings .sites → SoundSite settings (siteAt (networkOf settings held) j)
+
+-- ---- One site
+
+module _ {settings : Settings} (passes : settingsRefusal settings ≡ accepted) (held : Held)
+    (lengths : Lengths settings held) (sound : SitesSound settings held) (j : ℕ)
+    (known : j < settings .sites) where
+  abbrev words : ℕ
+  words = siteWords settings
+
+  abbrev rest : List ℕ
+  rest = drop (siteStart settings j) (held .siteMemory)
+
+  fit : Settled settings
+  fit = settled settings passes
+
+  in-records : j < length (held .sites .records)
+  in-records = omega (arith, lengths .all-records, fit .sites .at-most)
+
+  -- The part of site j lies within the memory: (j + 1) * words ≤ k * words.
+  in-memory : siteStart settings j + words ≤ length (held .siteMemory)
+  in-memory =
+      let next : j + 1 ≤ settings .sites = omega arith in
+      omega (arith, mul-le-mul-right words next, lengths .sites-long)
+
+  pub rest-long : words ≤ length rest
+  rest-long = omega (arith, in-memory, length-drop (siteStart settings j) (held .siteMemory))
+
+  site-is : siteAt (networkOf settings held) j ≡ siteIn settings (recordAt held j) rest
+  site-is =
+      getD-sitesIn settings (settings .sites) j (held .sites .records) (held .siteMemory)
+      (siteRecord freshSite) known in-records
+      ∙ ap (λ (start : ℕ). siteIn settings (recordAt held j) (drop start (held .siteMemory)))
+      (offset-is words j)
+
+  pub rest-sound : SoundSite settings (siteIn settings (recordAt held j) rest)
+  rest-sound = rw site-is at (sound j known)
+
+  used-within : recordAt held j .used ≤ settings .capacity
+  used-within =
+      omega (arith, rest-sound .few-counters, length-countersIn (recordAt held j .used) rest)
+
+  -- A part of at least the site's own numbers holds the site.
+  pub site-part : (n : ℕ) → words ≤ n
+      → siteIn settings (recordAt held j) (sitePart settings held j n)
+      ≡ siteAt (networkOf settings held) j
+  site-part n enough =
+      siteIn-take settings (recordAt held j) n rest used-within enough rest-long
+      ∙ sym site-is
+
+  pub part-long : (n : ℕ) → words ≤ n → words ≤ length (sitePart settings held j n)
+  part-long n enough = front-long words n rest enough rest-long
+
+  pub site-memory-accepted : (n : ℕ) → words ≤ n
+      → siteMemoryRefusal settings (recordAt held j) (sitePart settings held j n) ≡ accepted
+  site-memory-accepted n enough =
+      let part = sitePart settings held j n in
+      let part-sound : SoundSite settings (siteIn settings (recordAt held j) part) =
+      rw (site-part n enough) (sound j known) in
+      rw (
+        passes,
+        le-ltb (length part) words (part-long n enough),
+        consistent-of-sound settings (recordAt held j) part part-sound,
+      )
+
+  -- ---- Put back
+
+  -- Every site before this one has its counters within its own part.
+  earlier-within : (i : ℕ) → i < j → recordAt held i .used ≤ settings .capacity
+  earlier-within i i<j =
+      let known-i : i < settings .sites = omega arith in
+      let in-records-i : i < length (held .sites .records) = omega (arith, in-records) in
+      let at = drop (offset words i) (held .siteMemory) in
+      let here : siteAt (networkOf settings held) i ≡ siteIn settings (recordAt held i) at =
+      getD-sitesIn settings (settings .sites) i (held .sites .records) (held .siteMemory)
+      (siteRecord freshSite) known-i in-records-i in
+      let sound-i : SoundSite settings (siteIn settings (recordAt held i) at) =
+      rw here at (sound i known-i) in
+      omega (arith, sound-i .few-counters, length-countersIn (recordAt held i .used) at)
+
+  module _ (site : Site)
+      (few : length (site .counters) ≤ settings .capacity)
+      (values : length (site .histogram) ≡ valueCount) where
+    abbrev putBack : ℕ → Held
+    putBack n =
+        afterSiteCall held j (siteRecord site)
+        (withPart (held .siteMemory) (siteStart settings j) n
+        (siteMemory settings site (sitePart settings held j n)))
+
+    -- The site written where its part starts.
+    memory-then : (n : ℕ) → words ≤ length (sitePart settings held j n)
+        → putBack n .siteMemory ≡ written settings (siteStart settings j) site (held .siteMemory)
+    memory-then n long =
+        part-written settings site few values (siteStart settings j) n (held .siteMemory) long
+
+    pub lengths-site-written : (n : ℕ) → words ≤ length (sitePart settings held j n)
+        → Lengths settings (putBack n)
+    lengths-site-written n long = record {
+      all-records =
+          length-set (held .sites .records) j (siteRecord site) ∙ lengths .all-records;
+      sites-long =
+          let same = ap length (memory-then n long)
+          ∙ length-written settings site few values (siteStart settings j) (held .siteMemory)
+          in-memory in
+          omega (arith, same, lengths .sites-long);
+      coordinator-long = lengths .coordinator-long;
+    }
+
+    pub network-site-written : (n : ℕ) → words ≤ length (sitePart settings held j n)
+        → networkOf settings (putBack n) ≡ withSite (networkOf settings held) j site
+    network-site-written n long =
+        let back = siteIn-siteMemory settings site rest few values rest-long in
+        let records = set (held .sites .records) j (siteRecord site) in
+        let start = siteStart settings j in
+        let in-memory-at : offset words j + words ≤ length (held .siteMemory) =
+        omega (arith, in-memory, offset-is words j) in
+        let read : sitesIn (settings .sites) settings records (putBack n .siteMemory)
+        ≡ set (sitesIn (settings .sites) settings (held .sites .records) (held .siteMemory)) j site =
+        ap (sitesIn (settings .sites) settings records)
+        (memory-then n long
+        ∙ ap (λ (from : ℕ). written settings from site (held .siteMemory))
+        (sym (offset-is words j)))
+        ∙ sitesIn-written settings site few values (settings .sites) j (held .sites .records)
+        (siteRecord site) (siteRecord freshSite) (held .siteMemory) in-memory-at earlier-within
+        ∙ ap (set (sitesIn (settings .sites) settings (held .sites .records) (held .siteMemory)) j)
+        (ap (λ (from : ℕ).
+        siteIn settings (siteRecord site)
+        (siteMemory settings site (drop from (held .siteMemory))))
+        (offset-is words j)
+        ∙ back) in
+        ap (λ (sites : List Site).
+        record {
+          sites = sites;
+          coordinator = coordinatorIn settings (held .coordinator) (held .coordinatorMemory);
+        })
+        read
+
+  -- A message at the site: its record alone is put back.
+  abbrev told : Message → Held
+  told m =
+      afterSiteCall held j
+      (siteRecord (siteReceives (siteAt (networkOf settings held) j) m .site))
+      (held .siteMemory)
+
+  pub lengths-site-told : (m : Message) → Lengths settings (told m)
+  lengths-site-told m = record {
+    all-records = length-set (held .sites .records) j _ ∙ lengths .all-records;
+    sites-long = lengths .sites-long;
+    coordinator-long = lengths .coordinator-long;
+  }
+
+  pub network-site-told : (m : Message)
+      → networkOf settings (told m)
+      ≡ withSite (networkOf settings held) j
+      (siteReceives (siteAt (networkOf settings held) j) m .site)
+  network-site-told m =
+      let site = siteReceives (siteAt (networkOf settings held) j) m .site in
+      let back : siteIn settings (siteRecord site) (drop (offset words j) (held .siteMemory))
+      ≡ site =
+      rw (offset-is words j, site-is)
+      (siteIn-received settings (recordAt held j) m rest) in
+      ap (λ (sites : List Site).
+      record {
+        sites = sites;
+        coordinator = coordinatorIn settings (held .coordinator) (held .coordinatorMemory);
+      })
+      (sitesIn-set settings (settings .sites) j (held .sites .records) (siteRecord site)
+      (held .siteMemory)
+      ∙ ap (set (sitesIn (settings .sites) settings (held .sites .records) (held .siteMemory)) j)
+      back)

@@ -1,0 +1,229 @@
+-- A batch call that accepts no arrival, refused or not, leaves everything as it was. For every state,
+-- arisen or not.
+--
+--   NothingDone, nothing-done    a batch of the model that accepts nothing
+--   batch-same                   the state after such a call
+use mathlib.Core.Path.{_≡_, refl, sym, ap, _∙_}
+use mathlib.Core.Bool.{Bool, true, false, not}
+use mathlib.Core.List.{List, [], _∷_, _++_, append-nil}
+use Prim.Native.Nat.{ℕ, _+_, _-_, _≤_, _<_}
+use native.Mathlib.Omega.{arith}
+use lib.Dec.{ltb}
+use lib.ListN.{length, drop}
+use borrow.Author.Tests.{eq-eqb, eqb-true, ltb-false, not-false}
+use Rattle.laws.proofs.Tests.{neither-of-or}
+use Rattle.model.specs.declared.Settings.{Settings}
+use Rattle.model.specs.declared.Arrival.{Arrival}
+use Rattle.model.specs.Choice.{isZero}
+use Rattle.model.specs.Refusals.{accepted}
+use Rattle.model.specs.Settings.{settingsRefusal}
+use Rattle.model.specs.Site.{freshSite}
+use Rattle.model.specs.SiteMemory.{siteWords, siteIn, siteRecord}
+use Rattle.model.specs.CoordinatorMemory.{coordinatorWords}
+use Rattle.model.specs.Network.{Network, siteAt, afterArrival}
+use Rattle.model.specs.NetworkMemory.{sitesWords, networkRefusal, networkTooShort, networkConsistent}
+use Rattle.model.specs.Runs.{Batch, batchRefusal, batchFrom, batchOf}
+use Rattle.model.specs.SoundNetwork.{Sound}
+use Rattle.model.proofs.RefusalLaws.{both-accepted, passed}
+use Rattle.model.proofs.ConsistentSites.{length-countersIn}
+use Rattle.model.proofs.ConsistentNetwork.{network-sound-of}
+use Rattle.coordinator_steps.proofs.MemoryLaws.{memory-kept}
+use Rattle.tracker.specs.declared.BatchAnswer.{BatchAnswer}
+use Rattle.tracker.specs.Batch.{BatchCall, BatchLent, BatchSays, startRefusal, batchIn, unlessRefused}
+use Rattle.history.specs.State.{Held, State, networkOf, recordAt}
+use Rattle.history.specs.Histories.{batchCall, afterBatch}
+use Rattle.history.proofs.SitesMemory.{offset, getD-sitesIn}
+use Rattle.history.proofs.SitesWritten.{sitesMemory-sitesIn, siteRecords-sitesIn}
+
+-- ---- A batch of the model that accepts nothing
+
+pub record NothingDone (network : Network) (batch : Batch) : Type 0 where
+  pub network-same : batch .network ≡ network
+  pub no-messages : batch .messages ≡ []
+
+-- The number accepted only grows, so a batch that ends with none took none on the way.
+never-fewer : (settings : Settings) (room : ℕ) (arrivals : List Arrival) (batch : Batch)
+    → batch .accepted ≤ batchFrom settings room batch arrivals .accepted
+never-fewer settings room [] batch = omega arith
+never-fewer settings room (arrival ∷ arrivals) batch =
+    by-refusal (isZero refusal) refl (never-fewer settings room arrivals)
+  where
+    refusal : ℕ
+    refusal = batchRefusal settings (batch .network) (room - length (batch .messages)) arrival
+
+    by-refusal : (none : Bool) → isZero refusal ≡ none
+        → ((next : Batch) → next .accepted ≤ batchFrom settings room next arrivals .accepted)
+        → batch .accepted ≤ batchFrom settings room batch (arrival ∷ arrivals) .accepted
+    by-refusal true none later =
+        let next : Batch = record {
+          network = afterArrival settings (batch .network) arrival .network;
+          accepted = batch .accepted + 1;
+          messages = batch .messages ++ afterArrival settings (batch .network) arrival .messages;
+          refusal = accepted;
+        } in
+        rw (none, batchFrom) (omega (arith, later next))
+    by-refusal false some later = rw (some, batchFrom) (omega arith)
+
+pub nothing-done : (settings : Settings) (room : ℕ) (network : Network) (arrivals : List Arrival)
+    → batchOf settings room network arrivals .accepted ≡ 0
+    → NothingDone network (batchOf settings room network arrivals)
+nothing-done settings room network [] none = record { network-same = refl; no-messages = refl }
+nothing-done settings room network (arrival ∷ arrivals) none = by-refusal (isZero refusal) refl
+  where
+    refusal : ℕ
+    refusal = batchRefusal settings network (room - 0) arrival
+
+    by-refusal : (accepts : Bool) → isZero refusal ≡ accepts
+        → NothingDone network (batchOf settings room network (arrival ∷ arrivals))
+    by-refusal true accepts =
+        let next : Batch = record {
+          network = afterArrival settings network arrival .network;
+          accepted = 0 + 1;
+          messages = [] ++ afterArrival settings network arrival .messages;
+          refusal = accepted;
+        } in
+        let some : 1 ≤ batchFrom settings room next arrivals .accepted =
+        never-fewer settings room arrivals next in
+        let is : batchOf settings room network (arrival ∷ arrivals) .accepted
+        ≡ batchFrom settings room next arrivals .accepted = rw (accepts, batchFrom) in
+        absurd (omega arith)
+    by-refusal false refuses =
+        rw (refuses, batchFrom) (record { network-same = refl; no-messages = refl })
+
+-- ---- What is held, read and written again
+
+-- What passes the tests of a batch call is long enough, and sound.
+record Passes (settings : Settings) (held : Held) : Type 0 where
+  sites-long : sitesWords settings ≤ length (held .siteMemory)
+  coordinator-long : coordinatorWords settings ≤ length (held .coordinatorMemory)
+  sound : Sound settings (networkOf settings held)
+
+passes-of : (settings : Settings) (held : Held)
+    → networkRefusal settings (held .sites) (held .coordinator) (held .siteMemory)
+    (held .coordinatorMemory)
+    ≡ accepted
+    → Passes settings held
+passes-of settings held none =
+    let short = networkTooShort settings (held .siteMemory) (held .coordinatorMemory) in
+    let consistent = networkConsistent settings (held .sites) (held .coordinator)
+    (held .siteMemory) (held .coordinatorMemory) in
+    let rows = both-accepted (settingsRefusal settings) _ none in
+    let long-row = passed short 4 _ (omega arith) (rows .later-accepted) in
+    let consistent-row = passed (not consistent) 11 _ (omega arith) (long-row .later-accepted) in
+    let both-long = neither-of-or (ltb (length (held .siteMemory)) (sitesWords settings)) _
+    (long-row .test-failed) in
+    let sites-long = ltb-false (length (held .siteMemory)) (sitesWords settings)
+    (both-long .first-false) in
+    let coordinator-long = ltb-false (length (held .coordinatorMemory)) (coordinatorWords settings)
+    (both-long .second-false) in
+    record {
+      sites-long = sites-long;
+      coordinator-long = coordinator-long;
+      sound = network-sound-of settings (held .sites) (held .coordinator) (held .siteMemory)
+          (held .coordinatorMemory) sites-long coordinator-long
+          (not-false consistent (consistent-row .test-failed));
+    }
+
+module _ (settings : Settings) (held : Held) (ok : Passes settings held) where
+  used-within : (j : ℕ) → j < settings .sites → j < length (held .sites .records)
+      → recordAt held j .used ≤ settings .capacity
+  used-within j known inside =
+      let words = siteWords settings in
+      let at = drop (offset words j) (held .siteMemory) in
+      let here : siteAt (networkOf settings held) j ≡ siteIn settings (recordAt held j) at =
+      getD-sitesIn settings (settings .sites) j (held .sites .records) (held .siteMemory)
+      (siteRecord freshSite) known inside in
+      let few = rw here at (ok .sound .sites-sound j known .few-counters) in
+      omega (arith, few, length-countersIn (recordAt held j .used) at)
+
+-- ---- The state after the call
+
+module _ (before : State) (given : Settings) (arrivals : List Arrival) (log : List ℕ)
+    (lent : BatchLent) (answer : BatchAnswer)
+    (says : BatchSays (batchCall given (before .held) arrivals log) lent answer)
+    (nothing : answer .accepted ≡ 0) where
+  abbrev call : BatchCall
+  call = batchCall given (before .held) arrivals log
+
+  abbrev held : Held
+  held = before .held
+
+  -- What a batch call hands back, by whether it is refused when it starts.
+  by-start : {A : Type 0} (done kept x : A)
+      → x ≡ unlessRefused call done kept
+      → (startRefusal call ≡ accepted → done ≡ kept)
+      → x ≡ kept
+  by-start {A} done kept x is same = by-test (isZero (startRefusal call)) refl
+    where
+      by-test : (none : Bool) → isZero (startRefusal call) ≡ none → x ≡ kept
+      by-test true none = is ∙ rw none (same (eqb-true (startRefusal call) 0 none))
+      by-test false some = is ∙ rw some
+
+  -- Where it was not refused, the model's batch accepts nothing.
+  idle-batch : startRefusal call ≡ accepted
+      → NothingDone (networkOf given held) (batchIn call)
+  idle-batch none =
+      nothing-done given _ (networkOf given held) arrivals
+      (sym (rw (eq-eqb (startRefusal call) 0 none) at (says .accepted)) ∙ nothing)
+
+  sites-same : answer .sites ≡ held .sites
+  sites-same =
+      by-start _ _ (answer .sites) (says .sites)
+      (λ none.
+      let done = idle-batch none in
+      let records = siteRecords-sitesIn given (given .sites) (held .sites .records)
+      (held .siteMemory) in
+      rw (done .network-same, done .no-messages)
+      (λ i. record {
+        records = records i;
+        messages = add-zero (held .sites .messages) i;
+      }))
+    where
+      add-zero : (n : ℕ) → n + 0 ≡ n
+      add-zero n = omega arith
+
+  coordinator-same : answer .coordinator ≡ held .coordinator
+  coordinator-same =
+      by-start _ _ (answer .coordinator) (says .coordinator)
+      (λ none. rw (idle-batch none .network-same))
+
+  site-memory-same : lent .siteMemory ≡ held .siteMemory
+  site-memory-same =
+      by-start _ _ (lent .siteMemory) (says .site-memory)
+      (λ none.
+      let ok = passes-of given held none in
+      rw (idle-batch none .network-same)
+      (sitesMemory-sitesIn given (given .sites) (held .sites .records) (siteRecord freshSite)
+      (held .siteMemory) (ok .sites-long) (used-within given held ok)))
+
+  coordinator-memory-same : lent .coordinatorMemory ≡ held .coordinatorMemory
+  coordinator-memory-same =
+      by-start _ _ (lent .coordinatorMemory) (says .coordinator-memory)
+      (λ none.
+      rw (idle-batch none .network-same)
+      (sym (memory-kept given (held .coordinator) (held .coordinatorMemory)
+      (passes-of given held none .coordinator-long))))
+
+  nothing-written : answer .written ≡ 0
+  nothing-written =
+      by-start _ _ (answer .written) (says .written)
+      (λ none. ap length (idle-batch none .no-messages))
+
+  pub batch-same : afterBatch before arrivals lent answer ≡ before
+  batch-same =
+      rw (nothing, nothing-written)
+      (λ i. record {
+        held = record {
+          sites = sites-same i;
+          coordinator = coordinator-same i;
+          siteMemory = site-memory-same i;
+          coordinatorMemory = coordinator-memory-same i;
+        };
+        waiting = before .waiting;
+        accepted = append-nil (before .accepted) i;
+        messages = append-nil (before .messages) i;
+        logged = add-zero (before .logged) i;
+      })
+    where
+      add-zero : (n : ℕ) → n + 0 ≡ n
+      add-zero n = omega arith

@@ -1,0 +1,241 @@
+-- The history of specs/Example.antt is one: each call's answer, in numbers, keeps the call's contract,
+-- and its results are the next state.
+--
+--   example            the last state is reachable
+--   example-list, example-quantile   what the reading calls then answer
+use mathlib.Core.Path.{_≡_, refl}
+use mathlib.Core.List.{[], _∷_, _++_}
+use Prim.Native.Nat.{ℕ, suc}
+use native.Mathlib.Omega.{arith}
+use lib.ListN.{replicate}
+use Rattle.model.specs.declared.Phase.the-variants.{Idle, Collecting, Announcing}
+use Rattle.model.specs.declared.Quantile.the-variants.{Value}
+use Rattle.model.specs.Limits.{valueCount}
+use Rattle.model.specs.Messages.{noMessage, itemReport, countReport, poll, pollAnswer, announcement}
+use Rattle.model.specs.NetworkMemory.{freshSites}
+use Rattle.model.specs.Instances.{settingsA, arrivalWith, draw}
+use Rattle.tracker.specs.Batch.{messageNumbers}
+use Rattle.reading.specs.Contracts.{Lists, ReadsQuantile}
+use Rattle.history.specs.State.{State}
+use Rattle.history.specs.Histories.{Arrives, batch, single, Delivers, to-coordinator, to-site, next-announcement, Refuses, arrival-refused, coordinator-message-refused, Step, arrives, delivers, refuses, Reachable, started, stepped}
+use Rattle.history.specs.Example.{siteAfter, siteNumbers, coordinatorWith, coordinatorNumbers, allMessages, startedState, afterDraw, afterItemReport, afterCountReport, afterPoll, afterPollAnswer, afterAnnouncement, atRestAgain, afterBatchOfTwo}
+
+refused-number : (n : ℕ) → suc n ≡ 0 → ⊥
+refused-number n impossible = omega arith
+
+-- ---- The two start calls
+
+begins : Reachable settingsA startedState
+unfolding valueCount
+begins =
+    started (replicate 1050 5) (siteNumbers 0) (replicate 1036 9) (coordinatorNumbers 0 0)
+    (record { refusal = 0; sites = freshSites })
+    (record { refusal = 0; coordinator = coordinatorWith 0 0 0 Idle })
+    (record { refusal = refl; sites = refl; memory = refl }) refl
+    (record { refusal = refl; coordinator = refl; memory = refl }) refl
+
+-- ---- A refused draw: item 10 is none, 6
+
+draw-refused : Refuses startedState startedState
+unfolding valueCount
+draw-refused =
+    arrival-refused settingsA 0 (arrivalWith 0 10 3) 0 1050 (siteNumbers 0)
+    (record {
+      refusal = 6;
+      site = siteAfter 0;
+      count = 0;
+      first = noMessage;
+      second = noMessage;
+    })
+    (record {
+      refusal = refl;
+      site = refl;
+      count = refl;
+      first = refl;
+      second = refl;
+      memory = refl;
+    })
+    (refused-number 5)
+
+-- ---- The draw of P2, on a part that reaches past the site's own numbers
+
+draw-accepted : Arrives settingsA startedState afterDraw
+unfolding valueCount
+draw-accepted =
+    single draw 1050 (siteNumbers 1)
+    (record {
+      refusal = 0;
+      site = siteAfter 1;
+      count = 2;
+      first = itemReport 0 7 1;
+      second = countReport 0 1 3;
+    })
+    (record { nothing-waits = refl; idle = refl })
+    (record {
+      refusal = refl;
+      site = refl;
+      count = refl;
+      first = refl;
+      second = refl;
+      memory = refl;
+    })
+    refl
+
+-- ---- Its delivery, with a refused message: kind 4 is not due, 9
+
+item-report : Delivers settingsA afterDraw afterItemReport
+unfolding valueCount
+item-report =
+    to-coordinator (itemReport 0 7 1) (countReport 0 1 3 ∷ []) (coordinatorNumbers 1 0)
+    (record { refusal = 0; coordinator = coordinatorWith 0 0 0 Idle; count = 0; out = noMessage })
+    refl refl
+    (record {
+      refusal = refl;
+      answer = record { coordinator = refl; count = refl; out = refl };
+      memory = refl;
+    })
+    refl
+
+message-refused : Refuses afterItemReport afterItemReport
+unfolding valueCount
+message-refused =
+    coordinator-message-refused settingsA (pollAnswer 0 0) (coordinatorNumbers 1 0)
+    (record { refusal = 9; coordinator = coordinatorWith 0 0 0 Idle; count = 0; out = noMessage })
+    (record {
+      refusal = refl;
+      answer = record { coordinator = refl; count = refl; out = refl };
+      memory = refl;
+    })
+    (refused-number 8)
+
+count-report : Delivers settingsA afterItemReport afterCountReport
+unfolding valueCount
+count-report =
+    to-coordinator (countReport 0 1 3) [] (coordinatorNumbers 1 1)
+    (record {
+      refusal = 0;
+      coordinator = coordinatorWith 1 0 1 (Collecting 0);
+      count = 1;
+      out = poll 0;
+    })
+    refl refl
+    (record {
+      refusal = refl;
+      answer = record { coordinator = refl; count = refl; out = refl };
+      memory = refl;
+    })
+    refl
+
+polled : Delivers settingsA afterCountReport afterPoll
+unfolding valueCount
+polled =
+    to-site (poll 0) [] 1048
+    (record { refusal = 0; site = siteAfter 1; count = 1; reply = pollAnswer 0 0 })
+    refl refl
+    (record { refusal = refl; site = refl; count = refl; reply = refl })
+    refl
+
+poll-answered : Delivers settingsA afterPoll afterPollAnswer
+unfolding valueCount
+poll-answered =
+    to-coordinator (pollAnswer 0 0) [] (coordinatorNumbers 1 1)
+    (record {
+      refusal = 0;
+      coordinator = coordinatorWith 1 1 1 (Announcing 0);
+      count = 0;
+      out = noMessage;
+    })
+    refl refl
+    (record {
+      refusal = refl;
+      answer = record { coordinator = refl; count = refl; out = refl };
+      memory = refl;
+    })
+    refl
+
+announced : Delivers settingsA afterPollAnswer afterAnnouncement
+unfolding valueCount
+announced =
+    next-announcement
+    (record {
+      refusal = 0;
+      coordinator = coordinatorWith 1 1 0 Idle;
+      count = 1;
+      out = announcement 0 1 1;
+    })
+    (record { refusal = refl; answer = record { coordinator = refl; count = refl; out = refl } })
+    refl
+
+told : Delivers settingsA afterAnnouncement atRestAgain
+unfolding valueCount
+told =
+    to-site (announcement 0 1 1) [] 1048
+    (record { refusal = 0; site = siteAfter 1; count = 0; reply = noMessage })
+    refl refl
+    (record { refusal = refl; site = refl; count = refl; reply = refl })
+    refl
+
+-- ---- A batch of two draws, with a log of 25 records: 14 before the second
+
+batch-stopped : Arrives settingsA atRestAgain afterBatchOfTwo
+unfolding valueCount
+batch-stopped =
+    batch (draw ∷ (draw ∷ [])) (replicate 100 8)
+    (record {
+      siteMemory = siteNumbers 2;
+      coordinatorMemory = coordinatorNumbers 2 2;
+      log = messageNumbers (allMessages 2) ++ replicate 80 8;
+    })
+    (record {
+      refusal = 14;
+      accepted = 1;
+      written = 5;
+      sites = afterBatchOfTwo .held .sites;
+      coordinator = coordinatorWith 2 2 0 Idle;
+    })
+    (record { nothing-waits = refl; idle = refl })
+    (record {
+      refusal = refl;
+      accepted = refl;
+      written = refl;
+      sites = refl;
+      coordinator = refl;
+      site-memory = refl;
+      coordinator-memory = refl;
+      log = refl;
+    })
+
+-- ---- The whole history
+
+then : {before : State} (after : State)
+    → Step settingsA before after
+    → Reachable settingsA before
+    → Reachable settingsA after
+then {before} after step earlier = stepped before after earlier step
+
+pub example : Reachable settingsA afterBatchOfTwo
+example =
+    then afterBatchOfTwo (arrives batch-stopped)
+    (then atRestAgain (delivers told)
+    (then afterAnnouncement (delivers announced)
+    (then afterPollAnswer (delivers poll-answered)
+    (then afterPoll (delivers polled)
+    (then afterCountReport (delivers count-report)
+    (then afterItemReport (refuses message-refused)
+    (then afterItemReport (delivers item-report)
+    (then afterDraw (arrives draw-accepted)
+    (then startedState (refuses draw-refused) begins)))))))))
+
+-- ---- A reading: "listed 7", "class 3"
+
+pub example-list : Lists settingsA (afterBatchOfTwo .held .coordinator)
+    (afterBatchOfTwo .held .coordinatorMemory) (8 ∷ (8 ∷ [])) (7 ∷ (8 ∷ []))
+    (record { refusal = 0; count = 1 })
+unfolding valueCount
+example-list = record { refusal = refl; count = refl; list = refl }
+
+pub example-quantile : ReadsQuantile settingsA (afterBatchOfTwo .held .coordinator)
+    (afterBatchOfTwo .held .coordinatorMemory)
+    (record { refusal = 0; quantile = Value 3 })
+unfolding valueCount
+example-quantile = record { refusal = refl; quantile = refl }

@@ -1,0 +1,225 @@
+-- What holds of every state that a history reaches: it is at rest, and then the model's run over the
+-- arrivals accepted; or it is in mid-delivery, after so many steps from the run before the arrival.
+-- PROOF.md section 7, "Histories".
+--
+--   Resting, Delivering, Standing    where a state stands
+--   StateOk settings n state         the invariant, n steps after the last arrival
+--   rest-of-standing                 at rest it is the model's run
+--   SoundParts, SoundHeld, sound-of-standing   sites and coordinator are sound, numbers within the limit
+--   head-of-standing                 the head of the queue is accepted
+--   run-of-standing                  the accepted arrivals, and the messages as the first of a run
+use mathlib.Core.Path.{_≡_, sym, ap, _∙_, subst}
+use mathlib.Core.Bool.{false}
+use mathlib.Core.List.{List, [], _∷_, _++_, append-assoc, append-nil}
+use Prim.Native.Nat.{ℕ, suc, _+_, _≤_, _<_}
+use native.Mathlib.Omega.{arith}
+use lib.ListN.{length}
+use borrow.Author.Tests.{eq-eqb}
+use Rattle.model.specs.declared.Settings.{Settings}
+use Rattle.model.specs.declared.Arrival.{Arrival}
+use Rattle.model.specs.declared.Message.{Message}
+use Rattle.model.specs.Refusals.{accepted}
+use Rattle.model.specs.Settings.{settingsRefusal}
+use Rattle.model.specs.Coordinator.{isAnnouncing}
+use Rattle.model.specs.Network.{Network, Delivered, siteAt, deliveryFuel, afterArrival}
+use Rattle.model.specs.Runs.{Run, refusalIn, withArrival, runOf}
+use Rattle.model.specs.SoundNetwork.{SoundSite, SoundCoordinator}
+use Rattle.model.specs.DeliveryClaims.{Delivery, delivery, deliverySteps, deliveryOf, messageRefusal}
+use Rattle.model.specs.SoundClaims.{Reached, InMidDelivery}
+use Rattle.model.proofs.RunLaws.{runFrom-append}
+use Rattle.model.proofs.SoundTheorem.{sound-claims}
+use Rattle.model.proofs.ConsistentCoordinator.{CoordinatorWithin}
+use Rattle.history.specs.State.{State, networkOf}
+use Rattle.history.proofs.RunSound.{sound-run, within-of-run}
+use Rattle.history.proofs.DeliveryLogs.{LogGrows, steps-grow}
+use Rattle.history.proofs.Decoded.{Lengths}
+
+-- ---- Where a state stands
+
+pub record Resting (settings : Settings) (state : State) : Type 0 where
+  pub nothing-waits : state .waiting ≡ []
+  pub accepted-are : runOf settings (state .accepted) .accepted ≡ state .accepted
+  pub network-is : networkOf settings (state .held) ≡ runOf settings (state .accepted) .network
+  pub messages-are : state .messages ≡ runOf settings (state .accepted) .messages
+
+-- After n steps of the delivery that an arrival set off.
+pub record Delivering (settings : Settings) (n : ℕ) (state : State) : Type 0 where
+  -- the arrivals before it, the arrival, and the messages since
+  pub front : List Arrival
+  pub arrival : Arrival
+  pub log : List Message
+  pub accepted-are : state .accepted ≡ front ++ (arrival ∷ [])
+  pub front-accepted : runOf settings front .accepted ≡ front
+  pub taken : refusalIn settings (runOf settings front .network) arrival ≡ accepted
+  pub reached : Reached settings (deliveryOf settings (runOf settings front .network) arrival) n
+      (delivery (networkOf settings (state .held)) (state .waiting) log)
+  pub messages-are : state .messages ≡ runOf settings front .messages ++ log
+
+pub data Standing (settings : Settings) (n : ℕ) (state : State) : Type 0 where
+  resting : n ≡ 0 → Resting settings state → Standing settings n state
+  delivering : Delivering settings n state → Standing settings n state
+
+pub record StateOk (settings : Settings) (n : ℕ) (state : State) : Type 0 where
+  pub lengths : Lengths settings (state .held)
+  pub standing : Standing settings n state
+  pub count-is-sum : state .held .sites .messages ≡ state .logged
+  -- what was logged is among the messages
+  pub logged-within : state .logged ≤ length (state .messages)
+
+-- ---- What a standing is worth
+
+pub record SoundParts (settings : Settings) (network : Network) : Type 0 where
+  pub sites-sound : (j : ℕ) → j < settings .sites → SoundSite settings (siteAt network j)
+  pub coordinator-sound : SoundCoordinator settings (network .coordinator)
+  pub within : CoordinatorWithin (network .coordinator)
+
+abbrev pub SoundHeld : Settings → State → Type 0
+SoundHeld settings state = SoundParts settings (networkOf settings (state .held))
+
+-- The accepted arrivals are those of a run, and the messages the first of its messages.
+pub record BeginsRun (settings : Settings) (state : State) : Type 0 where
+  pub accepted-are : runOf settings (state .accepted) .accepted ≡ state .accepted
+  pub later : List Message
+  pub messages-are : runOf settings (state .accepted) .messages ≡ state .messages ++ later
+
+-- ---- At rest
+
+module _ {settings : Settings} (passes : settingsRefusal settings ≡ accepted) {state : State}
+    (rest : Resting settings state) where
+  begins-rest : BeginsRun settings state
+  begins-rest = record {
+    accepted-are = rest .accepted-are;
+    later = [];
+    messages-are = sym (rest .messages-are) ∙ sym (append-nil (state .messages));
+  }
+
+  sound-rest : SoundHeld settings state
+  sound-rest =
+      let ok = sound-run settings passes (state .accepted) in
+      let network = runOf settings (state .accepted) .network in
+      let parts : SoundParts settings network = record {
+        sites-sound = ok .sound .sites-sound;
+        coordinator-sound = ok .sound .coordinator-sound;
+        within = within-of-run settings passes network ok;
+      } in
+      subst (SoundParts settings) (sym (rest .network-is)) parts
+
+-- ---- In mid-delivery, and either way
+
+module _ {settings : Settings} (passes : settingsRefusal settings ≡ accepted) {n : ℕ} {state : State}
+  where
+    -- ---- In mid-delivery
+
+    module _ (mid : Delivering settings n state) where
+      abbrev before : Run
+      before = runOf settings (mid .front)
+
+      abbrev here : Delivery
+      here = delivery (networkOf settings (state .held)) (state .waiting) (mid .log)
+
+      in-mid : InMidDelivery settings (before .network) (mid .arrival) n here
+      in-mid =
+          sound-claims .in-mid-delivery settings (before .network) (mid .arrival) n here passes
+          (sound-run settings passes (mid .front) .sound) (mid .taken) (mid .reached)
+
+      -- The run over all that was accepted is the run before, with this arrival.
+      run-then : runOf settings (state .accepted) ≡ withArrival settings before (mid .arrival)
+      run-then =
+          ap (runOf settings) (mid .accepted-are)
+          ∙ runFrom-append settings _ (mid .front) (mid .arrival ∷ [])
+          ∙ rw (eq-eqb (refusalIn settings (before .network) (mid .arrival)) 0 (mid .taken))
+
+      accepted-then : runOf settings (state .accepted) .accepted ≡ state .accepted
+      accepted-then =
+          ap (λ (run : Run). run .accepted) run-then
+          ∙ ap (λ (front : List Arrival). front ++ (mid .arrival ∷ [])) (mid .front-accepted)
+          ∙ sym (mid .accepted-are)
+
+      -- What the delivery comes to adds to the log.
+      grows : LogGrows here (deliverySteps (deliveryFuel settings) settings here)
+      grows = steps-grow (deliveryFuel settings) settings here
+
+      all-messages : afterArrival settings (before .network) (mid .arrival) .messages
+          ≡ mid .log ++ grows .more
+      all-messages = ap (λ (d : Delivered). d .messages) (sym (in-mid .finishes)) ∙ grows .log-is
+
+      begins-mid : BeginsRun settings state
+      begins-mid = record {
+        accepted-are = accepted-then;
+        later = grows .more;
+        messages-are =
+            ap (λ (run : Run). run .messages) run-then
+            ∙ ap (λ (ms : List Message). before .messages ++ ms) all-messages
+            ∙ sym (append-assoc (before .messages) (mid .log) (grows .more))
+            ∙ ap (λ (ms : List Message). ms ++ grows .more) (sym (mid .messages-are));
+      }
+
+      sound-mid : SoundHeld settings state
+      sound-mid =
+          let final = afterArrival settings (before .network) (mid .arrival) .network in
+          let within : CoordinatorWithin (final .coordinator) =
+          subst (λ (run : Run). CoordinatorWithin (run .network .coordinator)) run-then
+          (within-of-run settings passes (runOf settings (state .accepted) .network)
+          (sound-run settings passes (state .accepted))) in
+          record {
+            sites-sound = in-mid .sites-sound;
+            coordinator-sound = in-mid .coordinator-sound;
+            within = record {
+              estimates-within = λ item.
+                  omega (arith, in-mid .estimates-below item, within .estimates-within item);
+              values-within = λ value.
+                  omega (arith, in-mid .values-below value, within .values-within value);
+              total-within = in-mid .total-within;
+              sum-within = in-mid .sum-within;
+            };
+          }
+
+      -- Where nothing waits and no kind 7 is to come, the run is complete.
+      rest-mid : state .waiting ≡ []
+          → isAnnouncing (state .held .coordinator .phase) ≡ false
+          → Resting settings state
+      rest-mid none silent =
+          let ended = in-mid .ends none silent in
+          record {
+            nothing-waits = none;
+            accepted-are = accepted-then;
+            network-is =
+                ap (λ (d : Delivered). d .network) ended
+                ∙ ap (λ (run : Run). run .network) (sym run-then);
+            messages-are =
+                mid .messages-are
+                ∙ ap (λ (d : Delivered). before .messages ++ d .messages) ended
+                ∙ ap (λ (run : Run). run .messages) (sym run-then);
+          }
+
+    -- ---- Either way
+
+    pub sound-of-standing : Standing settings n state → SoundHeld settings state
+    sound-of-standing (resting _ rest) = sound-rest passes rest
+    sound-of-standing (delivering mid) = sound-mid mid
+
+    pub run-of-standing : Standing settings n state → BeginsRun settings state
+    run-of-standing (resting _ rest) = begins-rest passes rest
+    run-of-standing (delivering mid) = begins-mid mid
+
+    pub rest-of-standing : Standing settings n state
+        → state .waiting ≡ []
+        → isAnnouncing (state .held .coordinator .phase) ≡ false
+        → Resting settings state
+    rest-of-standing (resting _ rest) none silent = rest
+    rest-of-standing (delivering mid) none silent = rest-mid mid none silent
+
+    -- The head of the queue is accepted by whom it is for.
+    pub head-of-standing : Standing settings n state
+        → (m : Message) (later : List Message)
+        → state .waiting ≡ m ∷ later
+        → messageRefusal settings (networkOf settings (state .held)) m ≡ accepted
+    head-of-standing (resting _ rest) m later waits =
+        let impossible : 0 ≡ suc (length later) =
+        ap length (sym (rest .nothing-waits) ∙ waits) in
+        absurd (omega arith)
+    head-of-standing (delivering mid) m later waits = in-mid mid .head-accepted m later waits
+
+    pub few-of-standing : Standing settings n state → n ≤ deliveryFuel settings
+    few-of-standing (resting none rest) = omega arith
+    few-of-standing (delivering mid) = in-mid mid .few-steps

@@ -1,0 +1,27 @@
+-- The demands over every history of calls.
+pub mod SiteParts
+pub mod SitesMemory
+pub mod SitesWritten
+pub mod Answers
+pub mod RunSound
+pub mod BatchRuns
+pub mod HandedOut
+pub mod Decoded
+pub mod DecodedCoordinator
+pub mod DeliveryLogs
+pub mod Invariant
+pub mod EmptyBatch
+pub mod Refused
+pub mod Accepted
+pub mod StartedState
+pub mod BatchedState
+pub mod SingleState
+pub mod DeliveredStep
+pub mod ToCoordinator
+pub mod ToSite
+pub mod NextAnnouncement
+pub mod DeliveredState
+pub mod GoesOn
+pub mod Readings
+pub mod Theorem
+pub mod Example

@@ -1,0 +1,98 @@
+-- A call that accepts nothing leaves everything as it was: its contract hands back records and memory
+-- as they were given, and putting them back changes nothing. For every state, arisen or not.
+--
+--   refused-same     the state after such a call
+use mathlib.Core.Path.{_≡_, refl, sym, ap, _∙_}
+use mathlib.Core.List.{List, _++_}
+use Prim.Native.Nat.{ℕ, _+_}
+use lib.ListN.{set, take, drop, take-append-drop}
+use lib.Seq.{set-getD, drop-drop}
+use Rattle.model.specs.declared.SiteRecord.{SiteRecord}
+use Rattle.model.specs.declared.CoordinatorRecord.{CoordinatorRecord}
+use Rattle.model.specs.Refusals.{accepted}
+use Rattle.model.specs.Site.{freshSite}
+use Rattle.model.specs.SiteMemory.{siteRecord}
+use Rattle.site.specs.Calls as SiteCalls
+use Rattle.coordinator.specs.Calls as CoordinatorCalls
+use Rattle.history.specs.State.{Held, State, recordAt, partOf, withPart, afterSiteCall, afterCoordinatorCall, holding}
+use Rattle.history.specs.Histories.{Refuses, arrival-refused, site-message-refused, coordinator-message-refused, announcement-refused, batch-accepts-nothing}
+use Rattle.history.proofs.Answers.{refused-choice}
+use Rattle.history.proofs.EmptyBatch.{batch-same}
+
+-- A part of a memory put back as it was.
+part-same : (memory : List ℕ) (start words : ℕ)
+    → withPart memory start words (take words (drop start memory)) ≡ memory
+part-same memory start words =
+    ap (λ (behind : List ℕ). take start memory ++ behind)
+    (ap (λ (tail : List ℕ). take words (drop start memory) ++ tail)
+    (sym (drop-drop words start memory))
+    ∙ take-append-drop words (drop start memory))
+    ∙ take-append-drop start memory
+
+module _ (held : Held) where
+  -- A site's record and the sites' memory put back as they were.
+  site-same : (which : ℕ) (numbers : SiteRecord) (memory : List ℕ)
+      → numbers ≡ recordAt held which
+      → memory ≡ held .siteMemory
+      → afterSiteCall held which numbers memory ≡ held
+  site-same which numbers memory same-record same-memory =
+      let records : set (held .sites .records) which numbers ≡ held .sites .records =
+      ap (set (held .sites .records) which) same-record
+      ∙ set-getD (held .sites .records) which (siteRecord freshSite) in
+      λ i. record {
+        sites = record { records = records i; messages = held .sites .messages };
+        coordinator = held .coordinator;
+        siteMemory = same-memory i;
+        coordinatorMemory = held .coordinatorMemory;
+      }
+
+  coordinator-same : (numbers : CoordinatorRecord) (memory : List ℕ)
+      → numbers ≡ held .coordinator
+      → memory ≡ held .coordinatorMemory
+      → afterCoordinatorCall held numbers memory ≡ held
+  coordinator-same numbers memory same-record same-memory = λ i. record {
+    sites = held .sites;
+    coordinator = same-record i;
+    siteMemory = held .siteMemory;
+    coordinatorMemory = same-memory i;
+  }
+
+-- ---- Each call
+
+pub refused-same : (before after : State) → Refuses before after → after ≡ before
+refused-same before after (arrival-refused given which arrival start words part answer says refused) =
+    let refusal = SiteCalls.observeRefusal given (recordAt (before .held) which) arrival
+    (partOf (before .held) start words) in
+    let no : refusal ≡ accepted → ⊥ = λ none. refused (says .refusal ∙ none) in
+    ap (holding before)
+    (site-same (before .held) which (answer .site)
+    (withPart (before .held .siteMemory) start words part)
+    (says .site ∙ refused-choice refusal _ _ no)
+    (ap (withPart (before .held .siteMemory) start words)
+    (says .memory ∙ refused-choice refusal _ _ no)
+    ∙ part-same (before .held .siteMemory) start words))
+refused-same before after
+    (site-message-refused given which number m start words answer says refused) =
+    let refusal = SiteCalls.receiveRefusal given (recordAt (before .held) which) number m
+    (partOf (before .held) start words) in
+    let no : refusal ≡ accepted → ⊥ = λ none. refused (says .refusal ∙ none) in
+    ap (holding before)
+    (site-same (before .held) which (answer .site) (before .held .siteMemory)
+    (says .site ∙ refused-choice refusal _ _ no) refl)
+refused-same before after (coordinator-message-refused given m memory answer says refused) =
+    let refusal = CoordinatorCalls.receiveRefusal given (before .held .coordinator) m
+    (before .held .coordinatorMemory) in
+    let no : refusal ≡ accepted → ⊥ = λ none. refused (says .refusal ∙ none) in
+    ap (holding before)
+    (coordinator-same (before .held) (answer .coordinator) memory
+    (says .answer .coordinator ∙ refused-choice refusal _ _ no)
+    (says .memory ∙ refused-choice refusal _ _ no))
+refused-same before after (announcement-refused given answer says refused) =
+    let refusal = CoordinatorCalls.announceRefusal given (before .held .coordinator)
+    (before .held .coordinatorMemory) in
+    let no : refusal ≡ accepted → ⊥ = λ none. refused (says .refusal ∙ none) in
+    ap (holding before)
+    (coordinator-same (before .held) (answer .coordinator) (before .held .coordinatorMemory)
+    (says .answer .coordinator ∙ refused-choice refusal _ _ no) refl)
+refused-same before after (batch-accepts-nothing given arrivals log lent answer says nothing) =
+    batch-same before given arrivals log lent answer says nothing

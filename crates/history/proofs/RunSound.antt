@@ -1,0 +1,127 @@
+-- The network of every run from a fresh start is sound, and its numbers are far below the limits of
+-- refusal 11. PROOF.md section 7, "Never 11".
+--
+--   SoundRun settings network     sound, and grown from a fresh network
+--   sound-run                     after every list of arrivals
+--   within-of-run                 the coordinator's numbers are within the limit
+--   messages-within               n and the messages of a run
+-- Letters: n arrivals, k sites.
+use mathlib.Core.Path.{_≡_, refl}
+use mathlib.Core.Bool.{Bool, true, false}
+use mathlib.Core.List.{List, [], _∷_}
+use Prim.Native.Nat.{ℕ, zero, suc, _*_, _≤_}
+use native.Mathlib.Nat.{mul-le-mul-right}
+use native.Mathlib.Omega.{arith}
+use lib.ListN.{length, replicate}
+use borrow.Author.Tests.{eqb-true}
+use Rattle.laws.proofs.Lists.{getD-replicate-default}
+use Rattle.model.specs.declared.Settings.{Settings}
+use Rattle.model.specs.declared.Arrival.{Arrival}
+use Rattle.model.specs.Choice.{isZero}
+use Rattle.model.specs.Refusals.{accepted}
+use Rattle.model.specs.Limits.{valueCount, messageLimit}
+use Rattle.model.specs.Settings.{settingsRefusal}
+use Rattle.model.specs.Site.{freshSite}
+use Rattle.model.specs.Network.{Network, freshNetwork}
+use Rattle.model.specs.NetworkMemory.{allArrivals}
+use Rattle.model.specs.Runs.{refusalIn, Run, freshRun, runOne, runFrom, runOf}
+use Rattle.model.specs.Claims.{counted}
+use Rattle.model.specs.SoundNetwork.{Sound}
+use Rattle.model.specs.NumberClaims.{allUnreported, Grown}
+use Rattle.model.proofs.SettingsLaws.{Settled, settled}
+use Rattle.model.proofs.SoundTheorem.{sound-claims}
+use Rattle.model.proofs.NumberTheorem.{number-claims, grown-self, grown-more, arrivals-few}
+use Rattle.model.proofs.ConsistentCoordinator.{CoordinatorWithin}
+use Rattle.model.proofs.Theorem.{demands-over-runs}
+
+pub record SoundRun (settings : Settings) (network : Network) : Type 0 where
+  pub sound : Sound settings network
+  pub grown : Grown (freshNetwork settings) network
+
+module _ (settings : Settings) (passes : settingsRefusal settings ≡ accepted) where
+  -- ---- Every run
+
+  -- A refused arrival changes nothing; an accepted one leaves a sound network, grown by one arrival.
+  sound-run-one : (run : Run) (arrival : Arrival)
+      → SoundRun settings (run .network)
+      → SoundRun settings (runOne settings run arrival .network)
+  sound-run-one run arrival ok = by-refusal (isZero (refusalIn settings (run .network) arrival)) refl
+    where
+      by-refusal : (taken : Bool) → isZero (refusalIn settings (run .network) arrival) ≡ taken
+          → SoundRun settings (runOne settings run arrival .network)
+      by-refusal true taken =
+          let none = eqb-true (refusalIn settings (run .network) arrival) 0 taken in
+          rw taken (record {
+            sound = sound-claims .arrival-sound settings (run .network) arrival passes
+                (ok .sound) none;
+            grown = grown-more (ok .grown)
+                (number-claims .arrival-grows settings (run .network) arrival passes (ok .sound)
+                none);
+          })
+      by-refusal false refused = rw refused ok
+
+  sound-run-from : (run : Run) (arrivals : List Arrival)
+      → SoundRun settings (run .network)
+      → SoundRun settings (runFrom settings run arrivals .network)
+  sound-run-from run [] ok = ok
+  sound-run-from run (arrival ∷ arrivals) ok =
+      sound-run-from (runOne settings run arrival) arrivals (sound-run-one run arrival ok)
+
+  pub sound-run : (arrivals : List Arrival) → SoundRun settings (runOf settings arrivals .network)
+  sound-run arrivals =
+      sound-run-from (freshRun settings) arrivals
+      (record {
+        sound = sound-claims .fresh-sound settings passes;
+        grown = grown-self (freshNetwork settings);
+      })
+
+  -- ---- Numbers within the limit
+
+  nothing-unreported : (k : ℕ) → allUnreported (replicate k freshSite) ≡ 0
+  nothing-unreported zero = refl
+  nothing-unreported (suc k) = omega (arith, nothing-unreported k)
+
+  fit : Settled settings
+  fit = settled settings passes
+
+  -- No estimate and no value count is above all arrivals, which are at most k * 10^9.
+  pub within-of-run : (network : Network) → SoundRun settings network
+      → CoordinatorWithin (network .coordinator)
+  within-of-run network ok =
+      let fresh = freshNetwork settings in
+      let few : allArrivals (network .sites) ≤ 32000000000 = arrivals-few fit (ok .sound) in
+      record {
+        estimates-within = λ item.
+            omega (
+              arith,
+              few,
+              ok .grown .estimate-grows item,
+              nothing-unreported (settings .sites),
+              getD-replicate-default {A = ℕ} 0 (settings .universe) item,
+            );
+        values-within = λ value.
+            omega (
+              arith,
+              few,
+              ok .grown .value-grows value,
+              getD-replicate-default {A = ℕ} 0 valueCount value,
+            );
+        total-within = omega (arith, few, ok .sound .all-counted);
+        sum-within = rw (ok .sound .idle) (omega arith);
+      }
+
+  -- 3000 n ≤ 3000 T + e n with e ≤ 1000 gives 2 n ≤ 3 T, and 25 n is below 10^14.
+  pub messages-within : (arrivals : List Arrival)
+      → length (runOf settings arrivals .messages) ≤ messageLimit
+  messages-within arrivals =
+      let run = runOf settings arrivals in
+      let n = counted (run .accepted) in
+      let near = demands-over-runs .estimates-near settings arrivals passes .total-near in
+      let small : settings .epsilon * n ≤ 1000 * n = mul-le-mul-right n (fit .epsilon .at-most) in
+      omega (
+        arith,
+        near,
+        small,
+        within-of-run (run .network) (sound-run arrivals) .total-within,
+        demands-over-runs .few-messages settings arrivals passes .per-arrival,
+      )

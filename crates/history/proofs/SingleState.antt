@@ -1,0 +1,181 @@
+-- The state after a single arrival at rest: the first stage of the delivery that it sets off. PROOF.md
+-- section 7, "Histories".
+--
+--   single-ok     the invariant of that state
+use mathlib.Core.Path.{_≡_, refl, sym, ap, _∙_, subst}
+use mathlib.Core.List.{List, [], _∷_, _++_}
+use Prim.Native.Nat.{ℕ, _+_, _≤_, _<_}
+use native.Mathlib.Omega.{arith}
+use lib.ListN.{length, getD, take, drop, length-append}
+use Rattle.model.specs.declared.Settings.{Settings}
+use Rattle.model.specs.declared.Arrival.{Arrival}
+use Rattle.model.specs.declared.Message.{Message}
+use Rattle.model.specs.declared.SiteRecord.{SiteRecord}
+use Rattle.model.specs.Refusals.{accepted}
+use Rattle.model.specs.Settings.{settingsRefusal}
+use Rattle.model.specs.Messages.{noMessage}
+use Rattle.model.specs.Site.{Site, arrivalRefusal, observed}
+use Rattle.model.specs.SiteMemory.{siteWords, siteIn, siteRecord, siteMemory, siteMemoryRefusal}
+use Rattle.model.specs.Network.{Network, siteAt, withSite}
+use Rattle.model.specs.Runs.{Run, refusalIn, runOf}
+use Rattle.model.specs.SoundNetwork.{SoundSite}
+use Rattle.model.specs.DeliveryClaims.{delivery, deliveryOf}
+use Rattle.model.specs.SoundClaims.{Reached, begun}
+use Rattle.model.proofs.RefusalLaws.{BothAccepted, both-accepted}
+use Rattle.model.proofs.SettingsLaws.{settled}
+use Rattle.model.proofs.SoundSites.{ArrivalTaken, taken-of-no-refusal, sound-observed}
+use Rattle.site_steps.specs.declared.Observed.{Observed}
+use Rattle.site.specs.Calls as SiteCalls
+use Rattle.history.specs.State.{Held, State, AtRest, networkOf, recordAt, siteStart, sitePart, withPart, afterSiteCall}
+use Rattle.history.specs.Histories.{observedOut, afterSingle}
+use Rattle.history.proofs.HandedOut.{two-out, observed-few}
+use Rattle.history.proofs.Decoded.{site-part, lengths-site-written, network-site-written}
+use Rattle.history.proofs.Invariant.{StateOk, Resting, Delivering, delivering}
+use Rattle.history.proofs.Accepted.{held-sound, resting-of}
+use Rattle.history.proofs.Answers.{accepted-choice, accepted-long, words-enough}
+
+module _ {settings : Settings} (passes : settingsRefusal settings ≡ accepted) {n : ℕ} (before : State)
+    (ok : StateOk settings n before) (at-rest : AtRest before)
+    (arrival : Arrival) (words : ℕ) (part : List ℕ) (answer : Observed)
+    (says : SiteCalls.ObserveSays settings (recordAt (before .held) (arrival .site)) arrival
+    (sitePart settings (before .held) (arrival .site) words) part answer)
+    (accepts : answer .refusal ≡ accepted) where
+  abbrev j : ℕ
+  j = arrival .site
+
+  abbrev held : Held
+  held = before .held
+
+  abbrev numbers : SiteRecord
+  numbers = recordAt held j
+
+  abbrev given : List ℕ
+  given = sitePart settings held j words
+
+  abbrev run : Run
+  run = runOf settings (before .accepted)
+
+  rest : Resting settings before
+  rest = resting-of passes ok at-rest
+
+  none : SiteCalls.observeRefusal settings numbers arrival given ≡ accepted
+  none = sym (says .refusal) ∙ accepts
+
+  parts : BothAccepted (siteMemoryRefusal settings numbers given)
+      (arrivalRefusal settings (siteIn settings numbers given) arrival)
+  parts = both-accepted (siteMemoryRefusal settings numbers given) _ none
+
+  long : siteWords settings ≤ length given
+  long = accepted-long settings numbers given (parts .first-accepted)
+
+  known : j < settings .sites
+  known =
+      taken-of-no-refusal settings (siteIn settings numbers given) arrival (parts .later-accepted)
+      .known .site-known
+
+  -- The site that record and part hold is the run's.
+  site-here : siteIn settings numbers given ≡ siteAt (networkOf settings held) j
+  site-here =
+      site-part passes held (ok .lengths) (held-sound passes ok .sites-sound) j known words
+      (words-enough (siteWords settings) words (drop (siteStart settings j) (held .siteMemory)) long)
+
+  abbrev site : Site
+  site = observed settings (siteAt (networkOf settings held) j) arrival .site
+
+  taken-here : ArrivalTaken settings (siteAt (networkOf settings held) j) arrival
+  taken-here =
+      taken-of-no-refusal settings (siteAt (networkOf settings held) j) arrival
+      (subst (λ (s : Site). arrivalRefusal settings s arrival ≡ accepted) site-here
+      (parts .later-accepted))
+
+  site-sound : SoundSite settings site
+  site-sound =
+      sound-observed (settled settings passes .capacity .at-least) taken-here
+      (held-sound passes ok .sites-sound j known)
+
+  abbrev after : State
+  after = record {
+    held = afterSiteCall held j (siteRecord site)
+        (withPart (held .siteMemory) (siteStart settings j) words
+        (siteMemory settings site given));
+    waiting = observed settings (siteAt (networkOf settings held) j) arrival .messages;
+    accepted = before .accepted ++ (arrival ∷ []);
+    messages = before .messages
+        ++ observed settings (siteAt (networkOf settings held) j) arrival .messages;
+    logged = before .logged;
+  }
+
+  -- The messages that the answer hands out.
+  out-is : observedOut answer
+      ≡ observed settings (siteAt (networkOf settings held) j) arrival .messages
+  out-is =
+      let messages = observed settings (siteIn settings numbers given) arrival .messages in
+      let sent : SiteCalls.observedMessages settings numbers arrival given ≡ messages =
+      accepted-choice _ _ _ none in
+      let count = says .count ∙ ap length sent in
+      let first = says .first ∙ ap (λ (ms : List Message). getD ms 0 noMessage) sent in
+      let second = says .second ∙ ap (λ (ms : List Message). getD ms 1 noMessage) sent in
+      (λ i. take (count i) (first i ∷ (second i ∷ [])))
+      ∙ two-out messages noMessage (observed-few settings (siteIn settings numbers given) arrival)
+      ∙ ap (λ (s : Site). observed settings s arrival .messages) site-here
+
+  after-is : afterSingle settings before arrival words part answer ≡ after
+  after-is =
+      let record-is : answer .site ≡ siteRecord site =
+      says .site ∙ accepted-choice _ _ _ none
+      ∙ ap (λ (s : Site). siteRecord (observed settings s arrival .site)) site-here in
+      let part-is : part ≡ siteMemory settings site given =
+      says .memory ∙ accepted-choice _ _ _ none
+      ∙ ap (λ (s : Site). siteMemory settings (observed settings s arrival .site) given)
+      site-here in
+      λ i. record {
+        held = afterSiteCall held j (record-is i)
+            (withPart (held .siteMemory) (siteStart settings j) words (part-is i));
+        waiting = at-rest .nothing-waits i ++ out-is i;
+        accepted = before .accepted ++ (arrival ∷ []);
+        messages = before .messages ++ out-is i;
+        logged = before .logged;
+      }
+
+  network-then : networkOf settings (after .held) ≡ withSite (networkOf settings held) j site
+  network-then =
+      network-site-written passes held (ok .lengths) (held-sound passes ok .sites-sound) j known
+      site (site-sound .few-counters) (site-sound .histogram-length) words long
+
+  -- The delivery begins.
+  begins : Delivering settings 0 after
+  begins =
+      let start : delivery (networkOf settings (after .held)) (after .waiting) (after .waiting)
+      ≡ deliveryOf settings (run .network) arrival =
+      ap (λ (network : Network). delivery network (after .waiting) (after .waiting)) network-then
+      ∙ ap (λ (network : Network). deliveryOf settings network arrival) (rest .network-is) in
+      record {
+        front = before .accepted;
+        arrival = arrival;
+        log = after .waiting;
+        accepted-are = refl;
+        front-accepted = rest .accepted-are;
+        taken =
+            ap (λ (network : Network). refusalIn settings network arrival) (sym (rest .network-is))
+            ∙ ap (λ (s : Site). arrivalRefusal settings s arrival) (sym site-here)
+            ∙ parts .later-accepted;
+        reached =
+            subst (Reached settings (deliveryOf settings (run .network) arrival) 0) (sym start)
+            begun;
+        messages-are =
+            ap (λ (front : List Message). front ++ after .waiting) (rest .messages-are);
+      }
+
+  after-ok : StateOk settings 0 after
+  after-ok = record {
+    lengths =
+        lengths-site-written passes held (ok .lengths) (held-sound passes ok .sites-sound) j known
+        site (site-sound .few-counters) (site-sound .histogram-length) words long;
+    standing = delivering begins;
+    count-is-sum = ok .count-is-sum;
+    logged-within =
+        omega (arith, ok .logged-within, length-append (before .messages) (after .waiting));
+  }
+
+  pub single-ok : StateOk settings 0 (afterSingle settings before arrival words part answer)
+  single-ok = subst (StateOk settings 0) (sym after-is) after-ok

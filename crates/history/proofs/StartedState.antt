@@ -1,0 +1,153 @@
+-- The state that the two start calls leave: fresh records, and memory that holds a fresh network.
+--
+--   start-ok     the invariant of that state
+use mathlib.Core.Path.{_≡_, refl, sym, _∙_, subst}
+use mathlib.Core.List.{List}
+use Prim.Native.Nat.{ℕ, _≤_}
+use native.Mathlib.Omega.{arith}
+use lib.Dec.{ltb}
+use lib.ListN.{length, drop, replicate, length-replicate}
+use borrow.Author.Tests.{ltb-false}
+use Rattle.laws.proofs.FlatMemory.{length-overwritten}
+use Rattle.model.specs.declared.Settings.{Settings}
+use Rattle.model.specs.Refusals.{accepted}
+use Rattle.model.specs.Limits.{mostSites, valueCount}
+use Rattle.model.specs.Settings.{settingsRefusal}
+use Rattle.model.specs.Site.{freshSite}
+use Rattle.model.specs.SiteMemory.{siteRecord}
+use Rattle.model.specs.Coordinator.{Coordinator, freshCoordinator}
+use Rattle.model.specs.CoordinatorMemory.{coordinatorWords, coordinatorIn, coordinatorRecord, coordinatorMemory}
+use Rattle.model.specs.Network.{freshNetwork}
+use Rattle.model.specs.NetworkMemory.{sitesWords, sitesIn, freshSites}
+use Rattle.model.proofs.RefusalLaws.{both-accepted, passed}
+use Rattle.model.proofs.SettingsLaws.{Settled, settled}
+use Rattle.coordinator_steps.proofs.MemoryLaws.{written-coordinator}
+use Rattle.site.specs.declared.StartedSites.{StartedSites}
+use Rattle.site.specs.Calls as SiteCalls
+use Rattle.coordinator.specs.declared.StartedCoordinator.{StartedCoordinator}
+use Rattle.coordinator.specs.Calls as CoordinatorCalls
+use Rattle.history.specs.State.{State, networkOf}
+use Rattle.history.specs.Histories.{startState}
+use Rattle.history.proofs.Answers.{accepted-choice}
+use Rattle.history.proofs.SitesWritten.{sitesIn-fresh}
+use Rattle.history.proofs.Decoded.{Lengths}
+use Rattle.history.proofs.DecodedCoordinator.{length-coordinatorMemory}
+use Rattle.history.proofs.Invariant.{StateOk, resting}
+
+-- ---- The two memories
+
+module _ (settings : Settings) (passes : settingsRefusal settings ≡ accepted)
+    (sitesBefore coordinatorBefore : List ℕ)
+    (sites-long : sitesWords settings ≤ length sitesBefore)
+    (coordinator-long : coordinatorWords settings ≤ length coordinatorBefore) where
+  abbrev fresh : Coordinator
+  fresh = freshCoordinator settings
+
+  abbrev freshState : State
+  freshState =
+      startState freshSites (coordinatorRecord fresh) (SiteCalls.cleared settings sitesBefore)
+      (coordinatorMemory fresh coordinatorBefore)
+
+  fit : Settled settings
+  fit = settled settings passes
+
+  estimates-long : length (fresh .estimates) ≡ settings .universe
+  estimates-long = length-replicate {A = ℕ} (settings .universe) 0
+
+  values-long : length (fresh .histogram) ≡ valueCount
+  values-long = length-replicate {A = ℕ} valueCount 0
+
+  network-fresh : networkOf settings (freshState .held) ≡ freshNetwork settings
+  network-fresh =
+      let zeros = replicate {A = ℕ} (sitesWords settings) 0 in
+      let sites : sitesIn (settings .sites) settings (freshSites .records)
+      (SiteCalls.cleared settings sitesBefore)
+      ≡ replicate (settings .sites) freshSite =
+      sitesIn-fresh settings (settings .sites) mostSites (drop (length zeros) sitesBefore)
+      (fit .sites .at-most) in
+      let coordinator : coordinatorIn settings (coordinatorRecord fresh)
+      (coordinatorMemory fresh coordinatorBefore)
+      ≡ fresh =
+      written-coordinator settings fresh coordinatorBefore estimates-long values-long in
+      λ i. record { sites = sites i; coordinator = coordinator i }
+
+  lengths-fresh : Lengths settings (freshState .held)
+  lengths-fresh =
+      let zeros = replicate {A = ℕ} (sitesWords settings) 0 in
+      let few : length zeros ≡ sitesWords settings =
+      length-replicate {A = ℕ} (sitesWords settings) 0 in
+      record {
+        all-records = length-replicate mostSites (siteRecord freshSite);
+        sites-long =
+            omega (arith, length-overwritten zeros sitesBefore (omega (arith, few)), sites-long);
+        coordinator-long =
+            omega (
+              arith,
+              length-coordinatorMemory settings fresh coordinatorBefore estimates-long values-long
+                  coordinator-long,
+              coordinator-long,
+            );
+      }
+
+  fresh-ok : StateOk settings 0 freshState
+  fresh-ok = record {
+    lengths = lengths-fresh;
+    standing = resting refl (record {
+      nothing-waits = refl;
+      accepted-are = refl;
+      network-is = network-fresh;
+      messages-are = refl;
+    });
+    count-is-sum = refl;
+    logged-within = omega arith;
+  }
+
+-- ---- The start calls
+
+module _ (settings : Settings) (sitesBefore sitesAfter coordinatorBefore coordinatorAfter : List ℕ)
+    (sites : StartedSites) (coordinator : StartedCoordinator)
+    (sites-say : SiteCalls.StartSays settings sitesBefore sitesAfter sites)
+    (sites-accepted : sites .refusal ≡ accepted)
+    (coordinator-says : CoordinatorCalls.Starts settings coordinatorBefore coordinatorAfter
+    coordinator)
+    (coordinator-accepted : coordinator .refusal ≡ accepted) where
+  none-sites : SiteCalls.startRefusal settings sitesBefore ≡ accepted
+  none-sites = sym (sites-say .refusal) ∙ sites-accepted
+
+  none-coordinator : CoordinatorCalls.startRefusal settings (length coordinatorBefore) ≡ accepted
+  none-coordinator = sym (coordinator-says .refusal) ∙ coordinator-accepted
+
+  pub start-passes : settingsRefusal settings ≡ accepted
+  start-passes = both-accepted (settingsRefusal settings) _ none-sites .first-accepted
+
+  sites-long : sitesWords settings ≤ length sitesBefore
+  sites-long =
+      let rows = both-accepted (settingsRefusal settings) _ none-sites in
+      ltb-false (length sitesBefore) (sitesWords settings)
+      (passed (ltb (length sitesBefore) (sitesWords settings)) 4 _ (omega arith)
+      (rows .later-accepted) .test-failed)
+
+  coordinator-long : coordinatorWords settings ≤ length coordinatorBefore
+  coordinator-long =
+      let rows = both-accepted (settingsRefusal settings) _ none-coordinator in
+      ltb-false (length coordinatorBefore) (coordinatorWords settings)
+      (passed (ltb (length coordinatorBefore) (coordinatorWords settings)) 4 _ (omega arith)
+      (rows .later-accepted) .test-failed)
+
+  -- The answers and memories are those of a fresh start.
+  state-is : startState (sites .sites) (coordinator .coordinator) sitesAfter coordinatorAfter
+      ≡ freshState settings start-passes sitesBefore coordinatorBefore sites-long coordinator-long
+  state-is =
+      let site-memory : sitesAfter ≡ SiteCalls.cleared settings sitesBefore =
+      sites-say .memory ∙ accepted-choice _ _ _ none-sites in
+      let memory : coordinatorAfter
+      ≡ coordinatorMemory (freshCoordinator settings) coordinatorBefore =
+      coordinator-says .memory ∙ accepted-choice _ _ _ none-coordinator in
+      λ i. startState (sites-say .sites i) (coordinator-says .coordinator i) (site-memory i)
+      (memory i)
+
+  pub start-ok : StateOk settings 0
+      (startState (sites .sites) (coordinator .coordinator) sitesAfter coordinatorAfter)
+  start-ok =
+      subst (StateOk settings 0) (sym state-is)
+      (fresh-ok settings start-passes sitesBefore coordinatorBefore sites-long coordinator-long)

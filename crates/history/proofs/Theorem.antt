@@ -1,0 +1,146 @@
+-- The three demands hold of every history of calls: the invariant holds after the two start calls and
+-- is kept by every step, and each demand follows from it. PROOF.md section 7.
+--
+--   Arisen, arisen    the invariant of every reachable state
+--   demands           the theorem
+use mathlib.Core.Path.{_≡_, sym, ap, _∙_, subst}
+use mathlib.Core.List.{List}
+use Prim.Native.Nat.{ℕ, suc, _+_, _*_, _≤_}
+use native.Mathlib.Nat.{mul-le-mul-left}
+use native.Mathlib.Omega.{arith}
+use lib.ListN.{length, take, length-append}
+use lib.Seq.{take-append-seam}
+use Rattle.model.specs.declared.Settings.{Settings}
+use Rattle.model.specs.declared.Arrival.{Arrival}
+use Rattle.model.specs.Refusals.{accepted}
+use Rattle.model.specs.Limits.{messagesPerArrival, allowanceFactor}
+use Rattle.model.specs.Settings.{settingsRefusal, digits, allowance}
+use Rattle.model.specs.Runs.{Run, runOf}
+use Rattle.model.specs.Claims.{counted, FewMessages}
+use Rattle.model.proofs.Theorem.{demands-over-runs}
+use Rattle.history.specs.State.{State}
+use Rattle.history.specs.Histories.{batch, single, Step, arrives, delivers, refuses, Reachable, started, stepped}
+use Rattle.history.specs.Demands.{First, Second, Third, Demands}
+use Rattle.history.proofs.Invariant.{StateOk, BeginsRun, run-of-standing}
+use Rattle.history.proofs.Accepted.{memory-accepted, refused-by-rules, resting-of}
+use Rattle.history.proofs.Readings.{reads-right}
+use Rattle.history.proofs.StartedState.{start-ok}
+use Rattle.history.proofs.BatchedState.{batch-ok}
+use Rattle.history.proofs.SingleState.{single-ok}
+use Rattle.history.proofs.DeliveredState.{delivered-ok}
+use Rattle.history.proofs.Refused.{refused-same}
+use Rattle.history.proofs.GoesOn.{delivery-goes-on}
+
+-- ---- The invariant of every reachable state
+
+pub record Arisen (settings : Settings) (state : State) : Type 0 where
+  pub steps : ℕ
+  pub ok : StateOk settings steps state
+
+module _ {settings : Settings} (passes : settingsRefusal settings ≡ accepted) where
+  arisen-step : (before after : State)
+      → Arisen settings before
+      → Step settings before after
+      → Arisen settings after
+  arisen-step before after there (arrives (batch arrivals log lent answer rest says)) =
+      record { steps = 0; ok = batch-ok passes before (there .ok) rest arrivals log lent answer says }
+  arisen-step before after there (arrives (single arrival words part answer rest says accepts)) =
+      record {
+        steps = 0;
+        ok = single-ok passes before (there .ok) rest arrival words part answer says accepts;
+      }
+  arisen-step before after there (delivers step) =
+      record { steps = suc (there .steps); ok = delivered-ok passes before (there .ok) after step }
+  arisen-step before after there (refuses step) =
+      record {
+        steps = there .steps;
+        ok = subst (StateOk settings (there .steps)) (sym (refused-same before after step))
+            (there .ok);
+      }
+
+  pub arisen : (state : State) → Reachable settings state → Arisen settings state
+  arisen state
+      (started sitesBefore sitesAfter coordinatorBefore coordinatorAfter sites coordinator
+      sites-say sites-accepted coordinator-says coordinator-accepted) =
+      record {
+        steps = 0;
+        ok = start-ok settings sitesBefore sitesAfter coordinatorBefore coordinatorAfter sites
+            coordinator sites-say sites-accepted coordinator-says coordinator-accepted;
+      }
+  arisen state (stepped before after earlier step) =
+      arisen-step before after (arisen before earlier) step
+
+-- ---- Each demand
+
+module _ (settings : Settings) (state : State) (passes : settingsRefusal settings ≡ accepted)
+    (reachable : Reachable settings state) where
+  there : Arisen settings state
+  there = arisen passes state reachable
+
+  first : First settings state
+  first = record {
+    memory-accepted = memory-accepted passes (there .ok);
+    refused-by-rules = refused-by-rules passes (there .ok);
+    refused-changes-nothing = λ after step. refused-same state after step;
+    delivery-goes-on = delivery-goes-on passes (there .ok);
+  }
+
+  begins : BeginsRun settings state
+  begins = run-of-standing passes (there .ok .standing)
+
+  abbrev run : Run
+  run = runOf settings (state .accepted)
+
+  second : Second settings state
+  second = record {
+    at-rest = λ rest.
+        let as-run = resting-of passes (there .ok) rest in
+        record {
+          network-is = as-run .network-is;
+          messages-are = as-run .messages-are;
+          reads-right = reads-right passes (there .ok) as-run;
+        };
+    messages-begin =
+        sym (ap (take (length (state .messages))) (begins .messages-are)
+        ∙ take-append-seam (state .messages) (begins .later));
+    accepted-are = begins .accepted-are;
+    tracks-after-each = λ n.
+        demands-over-runs .tracks settings (take n (state .accepted)) passes;
+    estimates-after-each = λ n.
+        demands-over-runs .estimates-near settings (take n (state .accepted)) passes;
+  }
+
+  -- The messages so far are no more than those of the run.
+  no-more : length (state .messages) ≤ length (run .messages)
+  no-more =
+      omega (
+        arith,
+        ap length (begins .messages-are),
+        length-append (state .messages) (begins .later),
+      )
+
+  few : FewMessages settings run
+  few = demands-over-runs .few-messages settings (state .accepted) passes
+
+  third : Third settings state
+  third =
+      let over = begins .accepted-are in
+      let digits-bound = subst (λ (arrivals : List Arrival).
+      settings .epsilon * length (run .messages)
+      ≤ allowanceFactor * (settings .sites * (digits (counted arrivals) + 1)))
+      over (few .within-digits) in
+      let arrivals-bound = subst (λ (arrivals : List Arrival).
+      length (run .messages) ≤ messagesPerArrival * counted arrivals) over (few .per-arrival) in
+      let allowance-bound = subst (λ (arrivals : List Arrival).
+      length (run .messages) ≤ allowance settings (counted arrivals)) over
+      (few .within-allowance) in
+      record {
+        within-digits =
+            omega (arith, mul-le-mul-left (settings .epsilon) no-more, digits-bound);
+        per-arrival = omega (arith, no-more, arrivals-bound);
+        within-allowance = omega (arith, no-more, allowance-bound);
+        count-is-sum = there .ok .count-is-sum;
+      }
+
+pub demands : Demands
+demands = record { first = first; second = second; third = third }

@@ -1,0 +1,127 @@
+-- The state after a message that a site accepted.
+--
+--   to-site-ok     the invariant of that state
+use mathlib.Core.Path.{_≡_, refl, sym, ap, _∙_, subst}
+use mathlib.Core.Bool.{false}
+use mathlib.Core.List.{List, [], _∷_}
+use Prim.Native.Nat.{ℕ, suc, _≤_, _<_}
+use native.Mathlib.Omega.{arith}
+use lib.Dec.{leb}
+use lib.ListN.{length, getD, take, drop}
+use borrow.Author.Tests.{leb-false}
+use Rattle.model.specs.declared.Settings.{Settings}
+use Rattle.model.specs.declared.Message.{Message}
+use Rattle.model.specs.declared.SiteRecord.{SiteRecord}
+use Rattle.model.specs.Refusals.{when, _orElse_, accepted, unknownSite}
+use Rattle.model.specs.Settings.{settingsRefusal}
+use Rattle.model.specs.Messages.{noMessage, toCoordinator}
+use Rattle.model.specs.Site.{Site, siteReceives, siteMessageRefusal}
+use Rattle.model.specs.SiteMemory.{siteWords, siteIn, siteRecord, siteMemoryRefusal}
+use Rattle.model.specs.Network.{Network, Delivered, siteAt, handToSite, handOver}
+use Rattle.model.specs.Runs.{runOf}
+use Rattle.model.specs.DeliveryClaims.{joining, deliveryOf}
+use Rattle.model.specs.SoundClaims.{Reached}
+use Rattle.model.proofs.RefusalLaws.{BothAccepted, both-accepted, passed}
+use Rattle.site_steps.specs.declared.Answered.{Answered}
+use Rattle.site.specs.Calls as SiteCalls
+use Rattle.history.specs.State.{Held, State, networkOf, recordAt, siteStart, sitePart, afterSiteCall, sending}
+use Rattle.history.specs.Histories.{answeredOut}
+use Rattle.history.proofs.HandedOut.{one-out, answered-few}
+use Rattle.history.proofs.Decoded.{site-part, lengths-site-told, network-site-told}
+use Rattle.history.proofs.Invariant.{StateOk, Delivering}
+use Rattle.history.proofs.Accepted.{held-sound}
+use Rattle.history.proofs.Answers.{accepted-choice, accepted-long, words-enough}
+use Rattle.history.proofs.DeliveredStep.{goes-on-ok, handed-on}
+
+module _ {settings : Settings} (passes : settingsRefusal settings ≡ accepted) {n : ℕ} (before : State)
+    (ok : StateOk settings n before) where
+  abbrev held : Held
+  held = before .held
+
+  abbrev network : Network
+  network = networkOf settings held
+
+  abbrev After : State → Type 0
+  After after = StateOk settings (suc n) after
+
+  module _ (mid : Delivering settings n before) (m : Message) (later : List Message)
+      (words : ℕ) (answer : Answered)
+      (waits : before .waiting ≡ m ∷ later)
+      (way : toCoordinator m ≡ false)
+      (says : SiteCalls.ReceiveSays settings (recordAt held (m .site)) (m .site) m
+      (sitePart settings held (m .site) words) answer)
+      (accepts : answer .refusal ≡ accepted) where
+    abbrev j : ℕ
+    j = m .site
+
+    abbrev given : List ℕ
+    given = sitePart settings held j words
+
+    none : SiteCalls.receiveRefusal settings (recordAt held j) j m given ≡ accepted
+    none = sym (says .refusal) ∙ accepts
+
+    rows : BothAccepted (siteMemoryRefusal settings (recordAt held j) given)
+        (when (leb (settings .sites) j) unknownSite
+        orElse siteMessageRefusal settings (siteIn settings (recordAt held j) given) j m)
+    rows = both-accepted (siteMemoryRefusal settings (recordAt held j) given) _ none
+
+    known : j < settings .sites
+    known =
+        leb-false (settings .sites) j
+        (passed (leb (settings .sites) j) unknownSite _ (omega arith) (rows .later-accepted)
+        .test-failed)
+
+    long : siteWords settings ≤ length given
+    long = accepted-long settings (recordAt held j) given (rows .first-accepted)
+
+    site-here : siteIn settings (recordAt held j) given ≡ siteAt network j
+    site-here =
+        site-part passes held (ok .lengths) (held-sound passes ok .sites-sound) j known words
+        (words-enough (siteWords settings) words (drop (siteStart settings j) (held .siteMemory))
+        long)
+
+    over : handOver settings network m ≡ handToSite network m
+    over = rw way
+
+    on : Reached settings
+        (deliveryOf settings (runOf settings (mid .front) .network) (mid .arrival)) (suc n)
+        (joining (handToSite network m) later (mid .log))
+    on =
+        subst (λ (after : Delivered).
+        Reached settings (deliveryOf settings (runOf settings (mid .front) .network) (mid .arrival))
+        (suc n) (joining after later (mid .log)))
+        over (handed-on before mid m later waits)
+
+    record-is : answer .site ≡ siteRecord (siteReceives (siteAt network j) m .site)
+    record-is =
+        says .site ∙ accepted-choice _ _ _ none
+        ∙ ap (λ (site : Site). siteRecord (siteReceives site m .site)) site-here
+
+    out-is : answeredOut answer ≡ siteReceives (siteAt network j) m .messages
+    out-is =
+        let messages = siteReceives (siteIn settings (recordAt held j) given) m .messages in
+        let sent : SiteCalls.receivedMessages settings (recordAt held j) j m given ≡ messages =
+        accepted-choice _ _ _ none in
+        let count = says .count ∙ ap length sent in
+        let reply = says .reply ∙ ap (λ (ms : List Message). getD ms 0 noMessage) sent in
+        (λ i. take (count i) (reply i ∷ []))
+        ∙ one-out messages noMessage
+        (answered-few (siteIn settings (recordAt held j) given) m)
+        ∙ ap (λ (site : Site). siteReceives site m .messages) site-here
+
+    pub to-site-ok : After
+        (sending before (afterSiteCall held j (answer .site) (held .siteMemory)) later
+        (answeredOut answer))
+    to-site-ok =
+        subst (λ (numbers : SiteRecord).
+        After (sending before (afterSiteCall held j numbers (held .siteMemory)) later
+        (answeredOut answer)))
+        (sym record-is)
+        (goes-on-ok before mid later (handToSite network m) on
+        (afterSiteCall held j (siteRecord (siteReceives (siteAt network j) m .site))
+        (held .siteMemory))
+        (answeredOut answer)
+        (network-site-told passes held (ok .lengths) (held-sound passes ok .sites-sound) j known m)
+        out-is ok
+        (lengths-site-told passes held (ok .lengths) (held-sound passes ok .sites-sound) j known m)
+        refl)

@@ -1,0 +1,231 @@
+-- A history: calls one after another from the two start calls on, each given the records and memory
+-- as the calls before left them (document 01, "Whole lists of draws"). A call is known here by its
+-- contract alone: whatever it answers and leaves, if it keeps its promise. The next state is always
+-- made of the call's results.
+--
+--   Arrives settings before after      a batch call, or an accepted single arrival, at rest
+--   Delivers settings before after     one message handed over and accepted, or a kind 7 asked for
+--   Refuses before after               any call that accepts nothing, at any time
+--   Step settings before after         one of them
+--   Reachable settings state           the states of all histories under these settings
+--   Deliveries settings start n state  n steps of delivery from a state on, refused calls between them
+use mathlib.Core.Path.{_≡_}
+use mathlib.Core.Bool.{true, false}
+use mathlib.Core.List.{List, [], _∷_, _++_}
+use Prim.Native.Nat.{ℕ, suc, _+_}
+use lib.ListN.{take}
+use Rattle.model.specs.declared.Settings.{Settings}
+use Rattle.model.specs.declared.Arrival.{Arrival}
+use Rattle.model.specs.declared.Message.{Message}
+use Rattle.model.specs.declared.Sites.{Sites}
+use Rattle.model.specs.declared.CoordinatorRecord.{CoordinatorRecord}
+use Rattle.model.specs.Refusals.{accepted}
+use Rattle.model.specs.Messages.{toCoordinator}
+use Rattle.site_steps.specs.declared.Observed.{Observed}
+use Rattle.site_steps.specs.declared.Answered.{Answered}
+use Rattle.site.specs.declared.StartedSites.{StartedSites}
+use Rattle.site.specs.Calls.{StartSays, ObserveSays, ReceiveSays}
+use Rattle.coordinator.specs.declared.StartedCoordinator.{StartedCoordinator}
+use Rattle.coordinator.specs.declared.Received.{Received}
+use Rattle.coordinator.specs.Calls.{Starts, Receives, Announces}
+use Rattle.tracker.specs.declared.BatchAnswer.{BatchAnswer}
+use Rattle.tracker.specs.Batch.{BatchCall, BatchLent, BatchSays, messagesIn}
+use Rattle.history.specs.State.{Held, State, AtRest, recordAt, partOf, siteStart, sitePart, withPart, afterSiteCall, afterCoordinatorCall, holding, sending}
+
+-- ---- Arrivals
+
+-- All that a batch call is given: what is held, "with a run and a log of its own".
+abbrev pub batchCall : Settings → Held → List Arrival → List ℕ → BatchCall
+batchCall settings held arrivals log = record {
+  settings = settings;
+  sites = held .sites;
+  coordinator = held .coordinator;
+  arrivals = arrivals;
+  siteMemory = held .siteMemory;
+  coordinatorMemory = held .coordinatorMemory;
+  log = log;
+}
+
+-- Records from the answer, memory as it was left; as many of the arrivals as it accepted, and as many
+-- messages of the log as it wrote.
+abbrev pub afterBatch : State → List Arrival → BatchLent → BatchAnswer → State
+afterBatch before arrivals lent answer = record {
+  held = record {
+    sites = answer .sites;
+    coordinator = answer .coordinator;
+    siteMemory = lent .siteMemory;
+    coordinatorMemory = lent .coordinatorMemory;
+  };
+  waiting = before .waiting;
+  accepted = before .accepted ++ take (answer .accepted) arrivals;
+  messages = before .messages ++ messagesIn (answer .written) (lent .log);
+  logged = before .logged + answer .written;
+}
+
+-- The messages that an arrival's answer hands out: none, the first, or both.
+abbrev pub observedOut : Observed → List Message
+observedOut answer = take (answer .count) (answer .first ∷ (answer .second ∷ []))
+
+-- Record and part of its site as the call left them; its messages wait.
+abbrev pub afterSingle : Settings → State → Arrival → ℕ → List ℕ → Observed → State
+afterSingle settings before arrival words part answer = record {
+  held = afterSiteCall (before .held) (arrival .site) (answer .site)
+      (withPart (before .held .siteMemory) (siteStart settings (arrival .site)) words part);
+  waiting = before .waiting ++ observedOut answer;
+  accepted = before .accepted ++ (arrival ∷ []);
+  messages = before .messages ++ observedOut answer;
+  logged = before .logged;
+}
+
+-- "many-draw calls, each with a run and a log of its own, and single draws at a deck, in any order"
+pub data Arrives (settings : Settings) (before : State) : State → Type 0 where
+  -- a batch call, whatever stops it
+  batch : (arrivals : List Arrival) (log : List ℕ) (lent : BatchLent) (answer : BatchAnswer)
+      → AtRest before
+      → BatchSays (batchCall settings (before .held) arrivals log) lent answer
+      → Arrives settings before (afterBatch before arrivals lent answer)
+  -- a single arrival that is accepted, at the site that it names
+  single : (arrival : Arrival) (words : ℕ) (part : List ℕ) (answer : Observed)
+      → AtRest before
+      → ObserveSays settings (recordAt (before .held) (arrival .site)) arrival
+      (sitePart settings (before .held) (arrival .site) words) part answer
+      → answer .refusal ≡ accepted
+      → Arrives settings before (afterSingle settings before arrival words part answer)
+
+-- ---- Delivery
+
+-- The message that an answer hands out, if its count is 1.
+abbrev pub answeredOut : Answered → List Message
+answeredOut answer = take (answer .count) (answer .reply ∷ [])
+
+abbrev pub receivedOut : Received → List Message
+receivedOut answer = take (answer .count) (answer .out ∷ [])
+
+-- "each message that goes out is handed and accepted once, in the order of going out, to the deck or
+-- desk it is for, answers included, and kind 7 is asked for until the desk is idle"
+pub data Delivers (settings : Settings) (before : State) : State → Type 0 where
+  -- the head of the queue is for the coordinator, which accepts it
+  to-coordinator : (m : Message) (later : List Message) (memory : List ℕ) (answer : Received)
+      → before .waiting ≡ m ∷ later
+      → toCoordinator m ≡ true
+      → Receives settings (before .held .coordinator) m (before .held .coordinatorMemory) memory
+      answer
+      → answer .refusal ≡ accepted
+      → Delivers settings before
+      (sending before (afterCoordinatorCall (before .held) (answer .coordinator) memory) later
+      (receivedOut answer))
+  -- the head of the queue is for the site that it names, which accepts it
+  to-site : (m : Message) (later : List Message) (words : ℕ) (answer : Answered)
+      → before .waiting ≡ m ∷ later
+      → toCoordinator m ≡ false
+      → ReceiveSays settings (recordAt (before .held) (m .site)) (m .site) m
+      (sitePart settings (before .held) (m .site) words) answer
+      → answer .refusal ≡ accepted
+      → Delivers settings before
+      (sending before
+      (afterSiteCall (before .held) (m .site) (answer .site) (before .held .siteMemory)) later
+      (answeredOut answer))
+  -- the next kind 7 is asked for and handed out, whatever waits
+  next-announcement : (answer : Received)
+      → Announces settings (before .held .coordinator) (before .held .coordinatorMemory) answer
+      → answer .refusal ≡ accepted
+      → Delivers settings before
+      (sending before
+      (afterCoordinatorCall (before .held) (answer .coordinator) (before .held .coordinatorMemory))
+      (before .waiting) (receivedOut answer))
+
+-- ---- Calls that accept nothing
+
+-- "A call that is refused .., with a draw or a message, may stand anywhere", in mid-delivery too;
+-- with any settings, any site's record, any part of the sites' memory and any arrival, number or
+-- message. Also a batch call that accepts no arrival, refused or not.
+pub data Refuses (before : State) : State → Type 0 where
+  arrival-refused : (given : Settings) (which : ℕ) (arrival : Arrival) (start words : ℕ)
+      (part : List ℕ) (answer : Observed)
+      → ObserveSays given (recordAt (before .held) which) arrival
+      (partOf (before .held) start words) part answer
+      → (answer .refusal ≡ accepted → ⊥)
+      → Refuses before
+      (holding before
+      (afterSiteCall (before .held) which (answer .site)
+      (withPart (before .held .siteMemory) start words part)))
+  site-message-refused : (given : Settings) (which number : ℕ) (m : Message) (start words : ℕ)
+      (answer : Answered)
+      → ReceiveSays given (recordAt (before .held) which) number m
+      (partOf (before .held) start words) answer
+      → (answer .refusal ≡ accepted → ⊥)
+      → Refuses before
+      (holding before
+      (afterSiteCall (before .held) which (answer .site) (before .held .siteMemory)))
+  coordinator-message-refused : (given : Settings) (m : Message) (memory : List ℕ)
+      (answer : Received)
+      → Receives given (before .held .coordinator) m (before .held .coordinatorMemory) memory answer
+      → (answer .refusal ≡ accepted → ⊥)
+      → Refuses before
+      (holding before (afterCoordinatorCall (before .held) (answer .coordinator) memory))
+  announcement-refused : (given : Settings) (answer : Received)
+      → Announces given (before .held .coordinator) (before .held .coordinatorMemory) answer
+      → (answer .refusal ≡ accepted → ⊥)
+      → Refuses before
+      (holding before
+      (afterCoordinatorCall (before .held) (answer .coordinator)
+      (before .held .coordinatorMemory)))
+  batch-accepts-nothing : (given : Settings) (arrivals : List Arrival) (log : List ℕ)
+      (lent : BatchLent) (answer : BatchAnswer)
+      → BatchSays (batchCall given (before .held) arrivals log) lent answer
+      → answer .accepted ≡ 0
+      → Refuses before (afterBatch before arrivals lent answer)
+
+-- ---- Histories
+
+-- The list, the margin and the quantile are no step: their calls take records by value and memory
+-- to be read only.
+pub data Step (settings : Settings) (before after : State) : Type 0 where
+  arrives : Arrives settings before after → Step settings before after
+  delivers : Delivers settings before after → Step settings before after
+  refuses : Refuses before after → Step settings before after
+
+-- Both started: no message and no arrival yet.
+abbrev pub startState : Sites → CoordinatorRecord → List ℕ → List ℕ → State
+startState sites coordinator siteMemory coordinatorMemory = record {
+  held = record {
+    sites = sites;
+    coordinator = coordinator;
+    siteMemory = siteMemory;
+    coordinatorMemory = coordinatorMemory;
+  };
+  waiting = [];
+  accepted = [];
+  messages = [];
+  logged = 0;
+}
+
+pub data Reachable (settings : Settings) : State → Type 0 where
+  -- "The list starts at a bench started fresh": both start calls are accepted, on memory of any
+  -- content and of any length that they accept
+  started : (sitesBefore sitesAfter coordinatorBefore coordinatorAfter : List ℕ)
+      (sites : StartedSites) (coordinator : StartedCoordinator)
+      → StartSays settings sitesBefore sitesAfter sites
+      → sites .refusal ≡ accepted
+      → Starts settings coordinatorBefore coordinatorAfter coordinator
+      → coordinator .refusal ≡ accepted
+      → Reachable settings
+      (startState (sites .sites) (coordinator .coordinator) sitesAfter coordinatorAfter)
+  stepped : (before after : State)
+      → Reachable settings before
+      → Step settings before after
+      → Reachable settings after
+
+-- ---- Deliveries
+
+-- Only the steps of delivery count.
+pub data Deliveries (settings : Settings) (start : State) : ℕ → State → Type 0 where
+  no-step : Deliveries settings start 0 start
+  delivered : (n : ℕ) (before after : State)
+      → Deliveries settings start n before
+      → Delivers settings before after
+      → Deliveries settings start (suc n) after
+  refused-between : (n : ℕ) (before after : State)
+      → Deliveries settings start n before
+      → Refuses before after
+      → Deliveries settings start n after

@@ -1,0 +1,111 @@
+-- What the reading calls answer at rest (document 01, "Reading the desk" and "Within e"), of any
+-- answer that keeps the call's contract. All of it is about the arrivals accepted so far.
+--
+--   ListRight settings state before after answer    the list call on a list of so many places
+--   MarginRight settings state item answer          the margin call
+--   QuantileRight settings state answer             the quantile call
+--   ReadsRight settings state                       all three
+-- n is `counted (state .accepted)`.
+use mathlib.Core.Path.{_≡_}
+use mathlib.Core.Bool.{true, false}
+use mathlib.Core.List.{List}
+use Prim.Native.Nat.{ℕ, _+_, _-_, _*_, _≤_, _<_}
+use lib.ListN.{length, getD, take}
+use Rattle.model.specs.declared.Settings.{Settings}
+use Rattle.model.specs.declared.Quantile.the-variants.{Nothing, Value}
+use Rattle.model.specs.Refusals.{accepted, unknownItem, listTooShort}
+use Rattle.model.specs.Coordinator.{Coordinator}
+use Rattle.model.specs.Reading.{heavyHitters, margin, quantileOf}
+use Rattle.model.specs.Runs.{runOf}
+use Rattle.model.specs.Claims.{counted, countOf, below, above, contains}
+use Rattle.reading.specs.declared.Listed.{Listed}
+use Rattle.reading.specs.declared.Margin.{Margin}
+use Rattle.reading.specs.declared.QuantileRead.{QuantileRead}
+use Rattle.reading.specs.Contracts.{Lists, ReadsMargin, ReadsQuantile}
+use Rattle.history.specs.State.{State}
+
+-- The coordinator that document 01's rules give for the arrivals accepted so far.
+abbrev pub rulesCoordinator : Settings → State → Coordinator
+rulesCoordinator settings state = runOf settings (state .accepted) .network .coordinator
+
+-- ---- The list
+
+-- The items that a list call hands back: the first of the lent list, as many as it answers.
+abbrev pub listedIn : Listed → List ℕ → List ℕ
+listedIn answer after = take (answer .count) after
+
+pub record ListRight (settings : Settings) (state : State) (before after : List ℕ) (answer : Listed)
+    : Type 0 where
+  -- with places enough it is accepted, and otherwise refused by 12
+  pub enough-places : length (heavyHitters settings (rulesCoordinator settings state))
+      ≤ length before
+      → answer .refusal ≡ accepted
+  pub too-few-places : length before
+      < length (heavyHitters settings (rulesCoordinator settings state))
+      → answer .refusal ≡ listTooShort
+  -- the list is the rules' list
+  pub list-is : answer .refusal ≡ accepted
+      → listedIn answer after ≡ heavyHitters settings (rulesCoordinator settings state)
+  -- "each code with p thousandths is listed", once there is an arrival
+  pub heavy-listed : answer .refusal ≡ accepted
+      → (item : ℕ)
+      → item < settings .universe
+      → 1 ≤ counted (state .accepted)
+      → settings .phi * counted (state .accepted) ≤ 1000 * countOf item (state .accepted)
+      → contains item (listedIn answer after) ≡ true
+  -- "and none below p - e"
+  pub light-unlisted : answer .refusal ≡ accepted
+      → (item : ℕ)
+      → 1000 * countOf item (state .accepted)
+      < (settings .phi - settings .epsilon) * counted (state .accepted)
+      → contains item (listedIn answer after) ≡ false
+  -- "The list is in rising code order."
+  pub rising : answer .refusal ≡ accepted
+      → (i : ℕ)
+      → i + 1 < length (listedIn answer after)
+      → getD (listedIn answer after) i 0 < getD (listedIn answer after) (i + 1) 0
+
+-- ---- The margin
+
+pub record MarginRight (settings : Settings) (state : State) (item : ℕ) (answer : Margin) : Type 0 where
+  pub item-known : item < settings .universe
+      → answer .refusal ≡ accepted
+  pub item-unknown : settings .universe ≤ item
+      → answer .refusal ≡ unknownItem
+  -- "the signed difference of those two sides"
+  pub margin-is : answer .refusal ≡ accepted
+      → answer .margin ≡ margin settings (rulesCoordinator settings state) item
+
+-- ---- The quantile
+
+pub record QuantileRight (settings : Settings) (state : State) (answer : QuantileRead) : Type 0 where
+  pub never-refused : answer .refusal ≡ accepted
+  pub quantile-is : answer .quantile ≡ quantileOf settings (rulesCoordinator settings state)
+  -- "none" before the first arrival, and never after it
+  pub nothing-at-start : counted (state .accepted) ≡ 0
+      → answer .quantile ≡ Nothing
+  pub nothing-only-at-start : answer .quantile ≡ Nothing
+      → counted (state .accepted) ≡ 0
+  -- "1000 × (draws below it) ≤ (q + e) × n"
+  pub few-below : (value : ℕ)
+      → answer .quantile ≡ Value value
+      → 1000 * below value (state .accepted)
+      ≤ (settings .rank + settings .epsilon) * counted (state .accepted)
+  -- "1000 × (draws above it) ≤ (1000 - q + e) × n"
+  pub few-above : (value : ℕ)
+      → answer .quantile ≡ Value value
+      → 1000 * above value (state .accepted)
+      ≤ (1000 - settings .rank + settings .epsilon) * counted (state .accepted)
+
+-- ---- All three
+
+pub record ReadsRight (settings : Settings) (state : State) : Type 0 where
+  pub list : (before after : List ℕ) (answer : Listed)
+      → Lists settings (state .held .coordinator) (state .held .coordinatorMemory) before after answer
+      → ListRight settings state before after answer
+  pub margins : (item : ℕ) (answer : Margin)
+      → ReadsMargin settings (state .held .coordinator) item (state .held .coordinatorMemory) answer
+      → MarginRight settings state item answer
+  pub quantile : (answer : QuantileRead)
+      → ReadsQuantile settings (state .held .coordinator) (state .held .coordinatorMemory) answer
+      → QuantileRight settings state answer

@@ -5,3 +5,4 @@ pub mod DrawLaws
 pub mod ResultLaws
 pub mod BeginLaws
 pub mod LineLaws
+pub mod CourseLaws

@@ -104,21 +104,3 @@ pub record BatchSays (call : BatchCall) (lent : BatchLent) (answer : BatchAnswer
   pub log : lent .log
       ≡ unlessRefused call (overwrite (messageNumbers (batchIn call .messages)) (call .log))
       (call .log)
-
-abbrev pub oneCall : Settings → Sites → CoordinatorRecord → Arrival → List ℕ → List ℕ → List ℕ → BatchCall
-oneCall settings sites coordinator arrival siteMemory coordinatorMemory log = record {
-  settings = settings;
-  sites = sites;
-  coordinator = coordinator;
-  arrivals = arrival ∷ [];
-  siteMemory = siteMemory;
-  coordinatorMemory = coordinatorMemory;
-  log = log;
-}
-
-abbrev pub lentBy : List ℕ → List ℕ → List ℕ → BatchLent
-lentBy siteMemory coordinatorMemory log = record {
-  siteMemory = siteMemory;
-  coordinatorMemory = coordinatorMemory;
-  log = log;
-}

@@ -12,29 +12,3 @@ pub struct BatchAnswer {
     pub sites: Sites,
     pub coordinator: CoordinatorRecord,
 }
-
-ghost use Prim.Native.Nat.{_≤_};
-ghost use Rattle.tracker.specs.Batch.{BatchSays, oneCall, lentBy};
-use model::Arrival;
-use model::Settings;
-
-pub fn run_one(
-    settings: Settings,
-    sites: Sites,
-    coordinator: CoordinatorRecord,
-    arrival: Arrival,
-    site_memory: &mut [u32],
-    coordinator_memory: &mut [u64],
-    log: &mut [u64],
-) -> BatchAnswer
-    requires { ⌜ 1 ≤ 0 ⌝ }
-    ensures { λ r. ⌜ BatchSays (oneCall settings sites coordinator arrival (now («site_memory» .entry)) (now («coordinator_memory» .entry)) (now (log .entry))) (lentBy (now («site_memory» .exit)) (now («coordinator_memory» .exit)) (now (log .exit))) r ⌝ }
-{
-    BatchAnswer {
-        refusal: 0,
-        accepted: 0,
-        written: 0,
-        sites: sites,
-        coordinator: coordinator,
-    }
-}

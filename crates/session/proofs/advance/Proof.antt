@@ -1,9 +1,7 @@
 -- The three answers of a line.
-use mathlib.Core.Path.{ap, _∙_, subst}
+use mathlib.Core.Path.{ap, _∙_}
 use Prim.Native.Nat.{ℕ}
 use lib.ListN.{take}
-use Rattle.reader.specs.declared.Step.{Step}
-use Rattle.session.specs.Contracts.{LineRight}
 use Rattle.session.proofs.LineLaws.{line-draw, line-malformed, line-end}
 use borrow.Author.Needs.{needs}
 use Rattle.session.proofs.advance.Statement.{statement}
@@ -32,9 +30,8 @@ returns c =
     let read = c .before .before .before .before .before .before .before .before .before .before .before .before .before .before .read-at in
     record {
       right = λ arrivals stands room list-long.
-          subst (λ (step : Step). LineRight _ step _ arrivals _) (read .ensures)
-          (line-draw _ (read .result) _ arrivals _ (c .before .before .before .before .before .before .before .before .before .before .before .before .before .if1 .taken)
-          (c .before .before .before .before .before .before .before .before .take-draw .ensures .right arrivals stands room));
+          line-draw _ (read .result) _ (read .ensures) _ arrivals _ (c .before .before .before .before .before .before .before .before .before .before .before .before .before .if1 .taken)
+          (c .before .before .before .before .before .before .before .before .take-draw .ensures .right arrivals stands room);
     }
 
 refuse-requires : tie.Need-refuse-requires
@@ -49,9 +46,8 @@ returns-2 c =
     let refuses = c .before .before .refuse .ensures in
     record {
       right = λ arrivals stands room list-long.
-          subst (λ (step : Step). LineRight _ step _ arrivals _) (read .ensures)
-          (line-malformed _ (read .result) _ arrivals _ (c .before .before .before .before .before .before .if1 .left) (c .before .before .before .before .if2 .taken)
-          (refuses .bytes (room .out-long)) (refuses .ended));
+          line-malformed _ (read .result) _ (read .ensures) _ arrivals _ (c .before .before .before .before .before .before .if1 .left) (c .before .before .before .before .if2 .taken)
+          (refuses .bytes (room .out-long)) (refuses .ended);
     }
 
 write-results-requires : tie.Need-write-results-requires
@@ -75,11 +71,10 @@ returns-3 c =
     let results = c .before .before .before .before .before .write-results in
     record {
       right = λ arrivals stands room list-long.
-          subst (λ (step : Step). LineRight _ step _ arrivals _) (read .ensures)
-          (line-end _ (read .result) _ arrivals _ (c .before .before .before .before .before .before .before .before .before .before .before .if1 .left) (c .before .before .before .before .before .before .before .before .before .if2 .left)
+          line-end _ (read .result) _ (read .ensures) _ arrivals _ (c .before .before .before .before .before .before .before .before .before .before .before .if1 .left) (c .before .before .before .before .before .before .before .before .before .if2 .left)
           (ap (λ (n : ℕ). take n (results .last .1 .1 .1 .0)) (c .stop .ensures .1)
           ∙ results .ensures .bytes _ arrivals stands list-long (room .out-long))
-          (c .stop .ensures .0));
+          (c .stop .ensures .0);
     }
 
 pub advance-spec : {M : Type 1} → statement M

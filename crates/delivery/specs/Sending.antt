@@ -2,16 +2,14 @@
 --
 --   queueOf messages              the messages that wait, as code carries them: two at most
 --   joined, withoutHead           a message waits last; the head is taken
---   withRecord                    one site's record changed
 --   sent, sentIf, sentTwo         a message goes out; only if there is one; none, one or two
 --   loggedIf, loggedTwo           what is written to the log then
 --   SendAsks, SendTwoAsks         what sending asks: free records, and a count that is not too large
 use mathlib.Core.List.{List}
 use Prim.Native.Nat.{ℕ, _+_, _*_, _≤_}
 use lib.Dec.{eqb}
-use lib.ListN.{length, getD, set}
+use lib.ListN.{length, getD}
 use Rattle.model.specs.declared.Message.{Message}
-use Rattle.model.specs.declared.SiteRecord.{SiteRecord}
 use Rattle.model.specs.declared.Sites.{Sites}
 use Rattle.model.specs.Choice.{if_then_else_, isZero}
 use Rattle.model.specs.Limits.{messageLimit}
@@ -42,16 +40,6 @@ joined queue m =
 
 abbrev pub withoutHead : Queue → Queue
 withoutHead queue = if eqb (queue .count) 2 then oneWaits (queue .second) else nothingWaits
-
--- ---- Records
-
--- Where no record stands.
-abbrev pub noRecord : SiteRecord
-noRecord = record { arrivals = 0; pending = 0; threshold = 0; used = 0 }
-
-abbrev pub withRecord : Sites → ℕ → SiteRecord → Sites
-withRecord sites which numbers =
-    record { records = set (sites .records) which numbers; messages = sites .messages }
 
 -- ---- A message goes out
 

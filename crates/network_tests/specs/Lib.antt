@@ -1,0 +1,2 @@
+-- What the tests of a whole network require.
+pub mod Contracts

@@ -3,3 +3,4 @@ pub mod SitesLaws
 pub mod PartLaws
 pub mod ShortLaws
 pub mod NetworkLaws
+pub mod SoundLaws

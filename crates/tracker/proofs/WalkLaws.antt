@@ -4,7 +4,7 @@
 --   givenOf call                     what the call was given
 --   batchRest, batchRest-on          the batch with the arrivals still to come
 --   Walked                           either refused when it started, or a batch that goes on
---   walked-start, walked-step        from the start on, arrival by arrival
+--   walked-start, walked-open, walked-step   from the start on, arrival by arrival
 --   walked-asks                      what one arrival asks
 --   walked-done, walked-stopped      the end: no arrival is left, or one was refused
 use mathlib.Core.Path.{_≡_, refl, sym, ap, _∙_, subst, subst⁻¹}
@@ -160,6 +160,15 @@ walked-start call answer is = by-refusal (ℕ-discrete (startRefusal call) 0)
     })
     by-refusal (no some) =
         refused (record { start-refused = some; answer-is = is; lent-is = refl })
+
+-- The memory as the start's tests left it, which only read it.
+pub walked-open : (call : BatchCall) (answer : BatchAnswer) (siteMemory coordinatorMemory : List ℕ)
+    → answer ≡ opened (startRefusal call) (call .sites) (call .coordinator)
+    → siteMemory ≡ call .siteMemory
+    → coordinatorMemory ≡ call .coordinatorMemory
+    → Walked call (call .arrivals) answer (lentOf siteMemory coordinatorMemory (call .log))
+walked-open call answer siteMemory coordinatorMemory is sites-kept coordinator-kept =
+    rw (sites-kept, coordinator-kept) (walked-start call answer is)
 
 -- ---- Arrival by arrival
 

@@ -40,7 +40,8 @@ use Rattle.network_memory.proofs.OneSite.{Storable}
 use Rattle.network_memory.proofs.SitesMemoryLaws.{sitesMemory-set}
 use Rattle.delivery.specs.declared.Underway.{Underway}
 use Rattle.delivery.specs.Log.{logRoom, putRecord}
-use Rattle.delivery.specs.Sending.{noRecord, queueOf, withRecord, sent, sentIf, sentTwo, loggedIf, loggedTwo, SendAsks, SendTwoAsks}
+use Rattle.network_memory.specs.Records.{noRecord, withRecord}
+use Rattle.delivery.specs.Sending.{queueOf, sent, sentIf, sentTwo, loggedIf, loggedTwo, SendAsks, SendTwoAsks}
 use Rattle.delivery.specs.Holding.{Given, State, state, Holds, Fits, Accepting, Going, Delivering, ArrivalAsks}
 use Rattle.delivery.proofs.StageNumbers.{site-ready}
 use Rattle.delivery.proofs.HoldingLaws.{Stored, part-long, part-starts, site-read, log-length, holds-sent, holds-site}

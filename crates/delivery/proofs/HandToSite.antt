@@ -29,7 +29,8 @@ use Rattle.site_steps.proofs.ReceiveLaws.{Due, message-due}
 use Rattle.network_memory.proofs.SitesMemoryLaws.{sitesMemory-kept}
 use Rattle.delivery.specs.declared.Queue.{Queue}
 use Rattle.delivery.specs.declared.Underway.{Underway}
-use Rattle.delivery.specs.Sending.{noRecord, withoutHead, withRecord, sentIf, loggedIf, SendAsks}
+use Rattle.network_memory.specs.Records.{noRecord, withRecord}
+use Rattle.delivery.specs.Sending.{withoutHead, sentIf, loggedIf, SendAsks}
 use Rattle.delivery.specs.Holding.{State, state, Holds, Fits, Delivering}
 use Rattle.delivery.proofs.StageNumbers.{at-stage, site-ready}
 use Rattle.delivery.proofs.BoundedSteps.{quiet-site}

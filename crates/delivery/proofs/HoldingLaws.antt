@@ -35,7 +35,8 @@ use Rattle.network_memory.proofs.SitesReading.{siteIn-sitesMemory}
 use Rattle.delivery.specs.declared.Underway.{Underway}
 use Rattle.delivery.specs.declared.Queue.{Queue}
 use Rattle.delivery.specs.Log.{messageNumbers, putRecord}
-use Rattle.delivery.specs.Sending.{noRecord, queueOf, withRecord, sent, sentIf, loggedIf, SendAsks}
+use Rattle.network_memory.specs.Records.{noRecord, withRecord}
+use Rattle.delivery.specs.Sending.{queueOf, sent, sentIf, loggedIf, SendAsks}
 use Rattle.delivery.specs.Holding.{Given, State, state, Holds, Fits}
 use Rattle.delivery.proofs.LogLaws.{length-messageNumbers, putRecord-append, joined-queueOf}
 

@@ -39,7 +39,8 @@ use Rattle.coordinator_steps.specs.Ready.{CoordinatorReady, StepAsks, AnnounceA
 use Rattle.network_memory.proofs.SitesMemoryLaws.{sitesMemory-kept}
 use Rattle.delivery.specs.declared.Queue.{Queue}
 use Rattle.delivery.specs.declared.Underway.{Underway}
-use Rattle.delivery.specs.Sending.{noRecord, queueOf, withoutHead, withRecord, sentIf, loggedIf, SendAsks}
+use Rattle.network_memory.specs.Records.{noRecord, withRecord}
+use Rattle.delivery.specs.Sending.{queueOf, withoutHead, sentIf, loggedIf, SendAsks}
 use Rattle.delivery.specs.Holding.{Given, State, state, Holds, Fits, Going, Delivering, goesOn}
 use Rattle.delivery.proofs.StageNumbers.{at-stage, site-ready, coordinator-shape, coordinator-ready}
 use Rattle.delivery.proofs.BoundedSteps.{answers-one, quiet-site, quiet-announced}

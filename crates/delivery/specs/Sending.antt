@@ -1,18 +1,18 @@
 -- Messages that go out in a delivery: each is written to the log, counted, and waits last.
 --
 --   queueOf messages              the messages that wait, as code carries them: two at most
+--   resting ..                    a network at rest: nothing waits
 --   joined, withoutHead           a message waits last; the head is taken
---   withRecord                    one site's record changed
 --   sent, sentIf, sentTwo         a message goes out; only if there is one; none, one or two
 --   loggedIf, loggedTwo           what is written to the log then
 --   SendAsks, SendTwoAsks         what sending asks: free records, and a count that is not too large
 use mathlib.Core.List.{List}
 use Prim.Native.Nat.{ℕ, _+_, _*_, _≤_}
 use lib.Dec.{eqb}
-use lib.ListN.{length, getD, set}
+use lib.ListN.{length, getD}
 use Rattle.model.specs.declared.Message.{Message}
-use Rattle.model.specs.declared.SiteRecord.{SiteRecord}
 use Rattle.model.specs.declared.Sites.{Sites}
+use Rattle.model.specs.declared.CoordinatorRecord.{CoordinatorRecord}
 use Rattle.model.specs.Choice.{if_then_else_, isZero}
 use Rattle.model.specs.Limits.{messageLimit}
 use Rattle.model.specs.Messages.{noMessage}
@@ -32,6 +32,14 @@ queueOf messages = record {
 abbrev pub nothingWaits : Queue
 nothingWaits = record { count = 0; first = noMessage; second = noMessage }
 
+abbrev pub resting : Sites → CoordinatorRecord → ℕ → Underway
+resting sites coordinator written = record {
+  sites = sites;
+  coordinator = coordinator;
+  written = written;
+  waiting = nothingWaits;
+}
+
 abbrev pub oneWaits : Message → Queue
 oneWaits m = record { count = 1; first = m; second = noMessage }
 
@@ -42,16 +50,6 @@ joined queue m =
 
 abbrev pub withoutHead : Queue → Queue
 withoutHead queue = if eqb (queue .count) 2 then oneWaits (queue .second) else nothingWaits
-
--- ---- Records
-
--- Where no record stands.
-abbrev pub noRecord : SiteRecord
-noRecord = record { arrivals = 0; pending = 0; threshold = 0; used = 0 }
-
-abbrev pub withRecord : Sites → ℕ → SiteRecord → Sites
-withRecord sites which numbers =
-    record { records = set (sites .records) which numbers; messages = sites .messages }
 
 -- ---- A message goes out
 

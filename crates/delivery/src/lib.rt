@@ -8,8 +8,9 @@ ghost use mathlib.Core.Path.{_≡_};
 ghost use Prim.Native.Nat.{_+_, _*_, _<_, _≤_};
 ghost use lib.ListN.{length, getD, set};
 ghost use Rattle.model.specs.Messages.{toCoordinator};
+ghost use Rattle.network_memory.specs.Records.{noRecord, withRecord};
 ghost use Rattle.delivery.specs.Log.{putRecord};
-ghost use Rattle.delivery.specs.Sending.{noRecord, joined, withoutHead, withRecord, oneCounted, sent, sentIf, sentTwo, loggedIf, loggedTwo, SendAsks, SendTwoAsks};
+ghost use Rattle.delivery.specs.Sending.{resting, joined, withoutHead, oneCounted, sent, sentIf, sentTwo, loggedIf, loggedTwo, SendAsks, SendTwoAsks};
 ghost use Rattle.delivery.specs.Holding.{state, goesOn, Delivering, StepAsks, StepSays, EndSays, ArrivalAsks, BeginAsks, BeginSays, ArrivalSays};
 use counters::Word;
 use model::Arrival;
@@ -89,7 +90,7 @@ fn write_record(log: &mut [u64], place: u64, message: Message)
 }
 
 // The record of one site.
-fn record_of(sites: Sites, which: usize) -> SiteRecord
+pub fn record_of(sites: Sites, which: usize) -> SiteRecord
     requires { ⌜ which < 32 ⌝ }
     ensures { λ r. ⌜ r ≡ getD (sites .records) which noRecord ⌝ }
 {
@@ -104,6 +105,24 @@ fn with_record(sites: Sites, which: usize, numbers: SiteRecord) -> Sites
     let mut next = sites;
     next.records[which] = numbers;
     next
+}
+
+// A network at rest, with so many messages written: nothing waits.
+pub fn at_rest(sites: Sites, coordinator: CoordinatorRecord, written: u64) -> Underway
+    ensures { λ r. ⌜ r ≡ resting sites coordinator written ⌝ }
+{
+    let none = coordinator_steps::no_message();
+    let waiting = Queue {
+        count: 0,
+        first: none,
+        second: none,
+    };
+    Underway {
+        sites: sites,
+        coordinator: coordinator,
+        written: written,
+        waiting: waiting,
+    }
 }
 
 // A message goes out: it is written to the log, counted, and waits last.

@@ -1,4 +1,6 @@
--- Laws of the batch call's start test.
-pub mod RecordsLength
-pub mod SitesFrom
-pub mod TestLaws
+-- The laws of the tests of a whole network.
+pub mod SitesLaws
+pub mod PartLaws
+pub mod ShortLaws
+pub mod NetworkLaws
+pub mod SoundLaws

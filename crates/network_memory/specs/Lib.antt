@@ -1,0 +1,2 @@
+-- The records of the sites.
+pub mod Records

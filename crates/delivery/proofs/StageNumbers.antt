@@ -30,7 +30,7 @@ use Rattle.model.proofs.SitesInvariant.{arrivalsAt}
 use Rattle.model.proofs.ClosedSites.{sumBelow-allArrivals}
 use Rattle.model.proofs.Together.{Together, total-bounded}
 use Rattle.model.proofs.Stages.{Announces, Stage, reporting, polling, halving, announcing}
-use Rattle.model.proofs.SoundStages.{stage-coordinator}
+use Rattle.model.proofs.StageFacts.{stage-coordinator}
 use Rattle.site_memory.specs.Ready.{CounterReady, SiteReady}
 use Rattle.coordinator_steps.specs.Ready.{PhaseShape, CoordinatorShape, CoordinatorReady, phaseSum}
 use Rattle.delivery.specs.Bounded.{Bounded}

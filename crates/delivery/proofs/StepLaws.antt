@@ -28,7 +28,7 @@ use Rattle.model.specs.Network.{Network, siteAt, withSite, withCoordinator, han
 use Rattle.model.specs.NetworkMemory.{sitesMemory}
 use Rattle.model.specs.DeliveryClaims.{Delivery, delivery, joining, deliveryStep, messageRefusal}
 use Rattle.model.proofs.MidDelivery.{hand-on}
-use Rattle.model.proofs.SoundStages.{stage-coordinator}
+use Rattle.model.proofs.StageFacts.{stage-coordinator}
 use Rattle.site_memory.specs.Ready.{SiteReady, StepReady}
 use Rattle.site_steps.specs.declared.Answered as SiteAnswer
 use Rattle.site_steps.specs.Steps.{ReceiveAsks, receivedIn, ReceiveStepSays}

@@ -5,7 +5,7 @@ use Rattle.session.proofs.take_draw.Statement.{statement}
 use Rattle.session.proofs.take_draw.Tie as tie
 
 run-one-requires : tie.Need-run-one-requires
-run-one-requires c κs = ?
+run-one-requires c κs = search needs
 
 refuse-requires : tie.Need-refuse-requires
 refuse-requires c κs = search needs

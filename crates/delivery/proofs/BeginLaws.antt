@@ -1,5 +1,5 @@
--- An arrival at its site, as the code takes it: what the site's step requires, the site written to
--- its part of the memory, and its messages going out.
+-- An arrival at its site, as the code takes it: what the site's step requires, the site written to its
+-- part of the memory, and its messages going out.
 --
 --   site-few, start-small, starts-within    the arrival's site, and where its part starts
 --   observe-asks                            what the site's step requires

@@ -1,6 +1,6 @@
--- A delivery to its end: each step keeps a delivery that goes on from the same arrival, messages
--- waiting and free records of the log become fewer, and where nothing is left to do the state holds
--- the model's network and messages.
+-- A delivery to its end: each step keeps a delivery that goes on from the same arrival, messages waiting
+-- and free records of the log become fewer, and where nothing is left to do the state holds the
+-- model's network and messages.
 --
 --   After                     a state that was reached from another by steps of the same delivery
 --   after-start, after-step   kept from the first state on

@@ -12,3 +12,4 @@ pub mod BeginLaws
 pub mod HandLaws
 pub mod HandToCoordinator
 pub mod HandToSite
+pub mod RestLaws

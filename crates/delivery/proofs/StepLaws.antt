@@ -1,5 +1,5 @@
--- One step of a delivery, as the code takes it: what the steps of the coordinator and of a site
--- require there, and what the state holds when the answer went out.
+-- One step of a delivery, as the code takes it: what the steps of the coordinator and of a site require
+-- there, and what the state holds when the answer went out.
 --
 --   none-waits, handing        the messages that wait, from their number and head
 --   Asking, ask-asks, asked-sends, asked-holds       the next kind 7 is asked for

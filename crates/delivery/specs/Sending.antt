@@ -1,6 +1,7 @@
 -- Messages that go out in a delivery: each is written to the log, counted, and waits last.
 --
 --   queueOf messages              the messages that wait, as code carries them: two at most
+--   resting ..                    a network at rest: nothing waits
 --   joined, withoutHead           a message waits last; the head is taken
 --   sent, sentIf, sentTwo         a message goes out; only if there is one; none, one or two
 --   loggedIf, loggedTwo           what is written to the log then
@@ -11,6 +12,7 @@ use lib.Dec.{eqb}
 use lib.ListN.{length, getD}
 use Rattle.model.specs.declared.Message.{Message}
 use Rattle.model.specs.declared.Sites.{Sites}
+use Rattle.model.specs.declared.CoordinatorRecord.{CoordinatorRecord}
 use Rattle.model.specs.Choice.{if_then_else_, isZero}
 use Rattle.model.specs.Limits.{messageLimit}
 use Rattle.model.specs.Messages.{noMessage}
@@ -29,6 +31,14 @@ queueOf messages = record {
 
 abbrev pub nothingWaits : Queue
 nothingWaits = record { count = 0; first = noMessage; second = noMessage }
+
+abbrev pub resting : Sites → CoordinatorRecord → ℕ → Underway
+resting sites coordinator written = record {
+  sites = sites;
+  coordinator = coordinator;
+  written = written;
+  waiting = nothingWaits;
+}
 
 abbrev pub oneWaits : Message → Queue
 oneWaits m = record { count = 1; first = m; second = noMessage }

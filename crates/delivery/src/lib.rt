@@ -1,8 +1,8 @@
 // The delivery that an arrival sets off in a network: each message that goes out is written to the
-// log, counted and handed over, in the order of going out, to the site or the coordinator it is
-// for, until nothing waits and the coordinator is idle. These functions are internal: they test
-// nothing, and require what the batch call has tested. Every rule stands in the steps of the site
-// and of the coordinator; the delivery only carries messages.
+// log, counted and handed over, in the order of going out, to the site or the coordinator it is for,
+// until nothing waits and the coordinator is idle. These functions are internal: they test nothing,
+// and require what the batch call has tested. Every rule stands in the steps of the site and of the
+// coordinator; the delivery only carries messages.
 
 ghost use mathlib.Core.Path.{_≡_};
 ghost use Prim.Native.Nat.{_+_, _*_, _<_, _≤_};
@@ -10,7 +10,7 @@ ghost use lib.ListN.{length, getD, set};
 ghost use Rattle.model.specs.Messages.{toCoordinator};
 ghost use Rattle.network_memory.specs.Records.{noRecord, withRecord};
 ghost use Rattle.delivery.specs.Log.{putRecord};
-ghost use Rattle.delivery.specs.Sending.{joined, withoutHead, oneCounted, sent, sentIf, sentTwo, loggedIf, loggedTwo, SendAsks, SendTwoAsks};
+ghost use Rattle.delivery.specs.Sending.{resting, joined, withoutHead, oneCounted, sent, sentIf, sentTwo, loggedIf, loggedTwo, SendAsks, SendTwoAsks};
 ghost use Rattle.delivery.specs.Holding.{state, goesOn, Delivering, StepAsks, StepSays, EndSays, ArrivalAsks, BeginAsks, BeginSays, ArrivalSays};
 use counters::Word;
 use model::Arrival;
@@ -21,16 +21,16 @@ use model::Settings;
 use model::SiteRecord;
 use model::Sites;
 
-// The messages that wait to be handed over: two at most, since every hand-over is answered by one
-// at most. An absent one is all zeros.
+// The messages that wait to be handed over: two at most, since every hand-over is answered by one at
+// most. An absent one is all zeros.
 pub struct Queue {
     pub count: u32,
     pub first: Message,
     pub second: Message,
 }
 
-// A delivery under way: the records of the network, the messages written to the log so far, and
-// those that wait.
+// A delivery under way: the records of the network, the messages written to the log so far, and those
+// that wait.
 pub struct Underway {
     pub sites: Sites,
     pub coordinator: CoordinatorRecord,
@@ -90,7 +90,7 @@ fn write_record(log: &mut [u64], place: u64, message: Message)
 }
 
 // The record of one site.
-fn record_of(sites: Sites, which: usize) -> SiteRecord
+pub fn record_of(sites: Sites, which: usize) -> SiteRecord
     requires { ⌜ which < 32 ⌝ }
     ensures { λ r. ⌜ r ≡ getD (sites .records) which noRecord ⌝ }
 {
@@ -105,6 +105,24 @@ fn with_record(sites: Sites, which: usize, numbers: SiteRecord) -> Sites
     let mut next = sites;
     next.records[which] = numbers;
     next
+}
+
+// A network at rest, with so many messages written: nothing waits.
+pub fn at_rest(sites: Sites, coordinator: CoordinatorRecord, written: u64) -> Underway
+    ensures { λ r. ⌜ r ≡ resting sites coordinator written ⌝ }
+{
+    let none = coordinator_steps::no_message();
+    let waiting = Queue {
+        count: 0,
+        first: none,
+        second: none,
+    };
+    Underway {
+        sites: sites,
+        coordinator: coordinator,
+        written: written,
+        waiting: waiting,
+    }
 }
 
 // A message goes out: it is written to the log, counted, and waits last.
@@ -186,8 +204,8 @@ fn goes_on(underway: Underway) -> bool
     }
 }
 
-// One step of a delivery: the head of the messages that wait is handed over, or, where none waits,
-// the next announcement is asked for; the answer goes out.
+// One step of a delivery: the head of the messages that wait is handed over, or, where none waits, the
+// next announcement is asked for; the answer goes out.
 fn take_step(
     settings: Settings,
     underway: Underway,
@@ -277,8 +295,7 @@ fn begin(
     send_two(next, observed.count, first, second, log)
 }
 
-// An accepted arrival with full delivery. A record of the log is written and counted for each
-// message. Internal: the batch call has made all tests.
+// An accepted arrival with full delivery. A record of the log is written and counted for each message.
 pub fn take_arrival(
     settings: Settings,
     underway: Underway,

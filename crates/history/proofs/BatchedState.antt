@@ -1,7 +1,8 @@
 -- The state after a batch call at rest: at rest again, the model's run with the arrivals that the
 -- batch accepted, and the messages of its log. PROOF.md section 7, "Histories".
 --
---   batch-ok     the invariant of that state
+--   batch-ok        the invariant of that state
+--   batch-resting   it is at rest
 use mathlib.Core.Path.{_≡_, refl, sym, ap, _∙_, subst}
 use mathlib.Core.List.{List, _++_}
 use Prim.Native.Nat.{ℕ, _+_, _*_, _≤_}
@@ -227,3 +228,6 @@ module _ {settings : Settings} (passes : settingsRefusal settings ≡ accepted)
   -- The invariant after a batch call at rest.
   pub batch-ok : StateOk settings 0 (afterBatch before arrivals lent answer)
   batch-ok = subst (StateOk settings 0) (sym after-is) after-ok
+
+  pub batch-resting : Resting settings (afterBatch before arrivals lent answer)
+  batch-resting = subst (Resting settings) (sym after-is) resting-then

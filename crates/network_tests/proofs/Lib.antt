@@ -1,6 +1,6 @@
--- Laws of the batch call's start test.
-pub mod RecordsLength
-pub mod SitesFrom
-pub mod SitesTested
-pub mod SitesSummed
-pub mod TestLaws
+-- The laws of the tests of a whole network.
+pub mod SitesLaws
+pub mod PartLaws
+pub mod ShortLaws
+pub mod NetworkLaws
+pub mod SoundLaws

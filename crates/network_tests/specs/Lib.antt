@@ -1,2 +1,2 @@
--- What the parts of the batch call's start test require.
-pub mod Asks
+-- What the tests of a whole network require.
+pub mod Contracts

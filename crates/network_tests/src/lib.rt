@@ -1,14 +1,16 @@
-// The batch call's start test: refusals 1, 2, 3, then 4 and 11 of a whole network, for whatever
-// numbers records and lent memory hold. "4 and 11 are tested once, when a call starts." The
-// functions with a `requires` are internal: what they ask, the tests before them have shown. No sum
-// overflows: the numbers of the sites are summed after each site has proved consistent.
+// Whether the records and the lent memory of a whole network are consistent: what the batch call tests
+// once, when it starts (refusals 1 to 4 and 11). Functions with a `requires` are internal.
+
 ghost use mathlib.Core.Path.{_≡_};
 ghost use mathlib.Core.List.{List};
-ghost use Prim.Native.Nat.{ℕ};
-ghost use Rattle.model.specs.Coordinator.{isIdle};
-ghost use Rattle.model.specs.NetworkMemory.{sitesIn, sitesConsistent, networkConsistent, networkRefusal};
-ghost use Rattle.network_tests.specs.Asks.{numbersTogether, SitesFit, NetworkFits, SumsFit};
-use coordinator_tests::consistency::coordinator_consistent;
+ghost use Prim.Native.Nat.{ℕ, _+_};
+ghost use lib.Dec.{eqb};
+ghost use lib.ListN.{length};
+ghost use Rattle.model.specs.CoordinatorMemory.{coordinatorIn};
+ghost use Rattle.model.specs.NetworkMemory.{sitesIn, networkIn, sitesConsistent, sameThreshold, allPending, allArrivals, atRestTogether, networkConsistent, networkTooShort, networkRefusal};
+ghost use Rattle.network_tests.specs.Contracts.{SitesFit, NetworkFits, RecordsFit, CountsFit};
+ghost use Rattle.model.specs.Settings.{settingsRefusal};
+ghost use Rattle.model.specs.Refusals.{accepted};
 use counters::Word;
 use model::ACCEPTED;
 use model::CoordinatorRecord;
@@ -19,22 +21,19 @@ use model::Phase;
 use model::Settings;
 use model::Sites;
 use model::VALUE_COUNT;
-use settings::test_settings;
-use site_memory::site_consistent;
-use site_memory::site_words;
 
-// Whether each site is consistent by its record and its part of the memory.
+// Whether each site is consistent by itself.
 fn sites_consistent(settings: Settings, sites: Sites, memory: &[Word]) -> bool
     requires { ⌜ SitesFit settings (now memory) ⌝ }
     ensures { λ r. ⌜ r ≡ sitesConsistent (settings .sites) settings (sites .records) (now (memory .entry)) ⌝ }
 {
     let count = settings.sites as usize;
-    let words = site_words(settings);
+    let words = site_memory::site_words(settings);
     let mut j = 0;
     while j < count {
-        let site = sites.records[j];
         let start = j * words;
-        if site_consistent(settings, site, &memory[start..]) {
+        let numbers = sites.records[j];
+        if site_memory::site_consistent(settings, numbers, &memory[start..]) {
             j += 1;
         } else {
             return false;
@@ -43,41 +42,61 @@ fn sites_consistent(settings: Settings, sites: Sites, memory: &[Word]) -> bool
     true
 }
 
-// Whether every site has the coordinator's threshold, and the total with all pendings is all
-// arrivals.
-fn numbers_together(settings: Settings, sites: Sites, coordinator: CoordinatorRecord) -> bool
-    requires { ⌜ SumsFit settings sites coordinator ⌝ }
-    ensures { λ r. ⌜ ((memory : List ℕ) → r ≡ numbersTogether (coordinator .total) (coordinator .threshold) (sitesIn (settings .sites) settings (sites .records) memory)) ⌝ }
+// Whether each site has this threshold.
+fn same_thresholds(settings: Settings, sites: Sites, threshold: u64) -> bool
+    requires { ⌜ RecordsFit settings sites ⌝ }
+    ensures { λ r. ⌜ ((memory : List ℕ) → r ≡ sameThreshold threshold (sitesIn (settings .sites) settings (sites .records) memory)) ⌝ }
 {
     let count = settings.sites as usize;
-    let mut accounted = coordinator.total;
-    let mut arrivals: u64 = 0;
     let mut j = 0;
     while j < count {
-        let site = sites.records[j];
-        if site.threshold != coordinator.threshold {
+        let numbers = sites.records[j];
+        if numbers.threshold != threshold {
             return false;
         }
-        accounted += site.pending;
-        arrivals += site.arrivals;
         j += 1;
     }
-    accounted == arrivals
+    true
 }
 
-// Whether the phase is idle.
-fn is_idle(phase: Phase) -> bool
-    ensures { λ r. ⌜ r ≡ isIdle phase ⌝ }
+// Whether a total with all pendings is all arrivals.
+fn all_counted(settings: Settings, sites: Sites, total: u64) -> bool
+    requires { ⌜ CountsFit settings sites total ⌝ }
+    ensures { λ r. ⌜ ((memory : List ℕ) → r ≡ eqb (total + allPending (sitesIn (settings .sites) settings (sites .records) memory)) (allArrivals (sitesIn (settings .sites) settings (sites .records) memory))) ⌝ }
 {
+    let count = settings.sites as usize;
+    let mut counted = total;
+    let mut arrived: u64 = 0;
+    let mut j = 0;
+    while j < count {
+        let numbers = sites.records[j];
+        counted = counted + numbers.pending;
+        arrived = arrived + numbers.arrivals;
+        j += 1;
+    }
+    counted == arrived
+}
+
+// Whether the network is at rest: the coordinator idle, thresholds equal, all arrivals counted.
+fn at_rest(settings: Settings, sites: Sites, coordinator: CoordinatorRecord) -> bool
+    requires { ⌜ CountsFit settings sites (coordinator .total) ⌝ }
+    ensures { λ r. ⌜ ((siteMemory : List ℕ) (coordinatorMemory : List ℕ) → r ≡ atRestTogether (networkIn settings sites coordinator siteMemory coordinatorMemory)) ⌝ }
+{
+    let phase = coordinator.phase;
     match phase {
-        Phase::Idle => true,
+        Phase::Idle => {
+            if same_thresholds(settings, sites, coordinator.threshold) {
+                return all_counted(settings, sites, coordinator.total);
+            }
+            false
+        }
         Phase::Collecting(_) => false,
         Phase::Probing(_, _, _, _) => false,
         Phase::Announcing(_) => false,
     }
 }
 
-// Whether the network is consistent: each site, the coordinator, and all of them together.
+// Whether records and memory of the whole network are consistent.
 fn network_consistent(
     settings: Settings,
     sites: Sites,
@@ -88,20 +107,35 @@ fn network_consistent(
     requires { ⌜ NetworkFits settings (now «site_memory») (now «coordinator_memory») ⌝ }
     ensures { λ r. ⌜ r ≡ networkConsistent settings sites coordinator (now («site_memory» .entry)) (now («coordinator_memory» .entry)) ⌝ }
 {
+    if MESSAGE_LIMIT < sites.messages {
+        return false;
+    }
     if sites_consistent(settings, sites, site_memory) {
-        if coordinator_consistent(settings, coordinator, coordinator_memory) {
-            let phase = coordinator.phase;
-            if is_idle(phase) {
-                if numbers_together(settings, sites, coordinator) {
-                    return sites.messages <= MESSAGE_LIMIT;
-                }
-            }
+        if coordinator_tests::consistency::coordinator_consistent(
+            settings,
+            coordinator,
+            coordinator_memory,
+        ) {
+            return at_rest(settings, sites, coordinator);
         }
+        return false;
     }
     false
 }
 
-// What the batch call tests when it starts: 1, 2, 3; then 4, 11.
+// Whether lent memory is shorter than the settings ask for.
+fn memory_short(settings: Settings, site_numbers: usize, coordinator_numbers: usize) -> bool
+    requires { ⌜ settingsRefusal settings ≡ accepted ⌝ }
+    ensures { λ r. ⌜ ((siteMemory : List ℕ) (coordinatorMemory : List ℕ) → length siteMemory ≡ «site_numbers» → length coordinatorMemory ≡ «coordinator_numbers» → r ≡ networkTooShort settings siteMemory coordinatorMemory) ⌝ }
+{
+    let all = (settings.sites as usize) * site_memory::site_words(settings);
+    if site_numbers < all {
+        return true;
+    }
+    coordinator_numbers < (settings.universe as usize) + VALUE_COUNT
+}
+
+// Why the batch call is refused when it starts: 1, 2, 3; then 4, 11.
 pub fn network_refusal(
     settings: Settings,
     sites: Sites,
@@ -111,14 +145,11 @@ pub fn network_refusal(
 ) -> u32
     ensures { λ r. ⌜ r ≡ networkRefusal settings sites coordinator (now («site_memory» .entry)) (now («coordinator_memory» .entry)) ⌝ }
 {
-    let refusal = test_settings(settings);
+    let refusal = settings::test_settings(settings);
     if refusal != ACCEPTED {
         return refusal;
     }
-    if site_memory.len() < (settings.sites as usize) * site_words(settings) {
-        return MEMORY_TOO_SHORT;
-    }
-    if coordinator_memory.len() < (settings.universe as usize) + VALUE_COUNT {
+    if memory_short(settings, site_memory.len(), coordinator_memory.len()) {
         return MEMORY_TOO_SHORT;
     }
     if network_consistent(

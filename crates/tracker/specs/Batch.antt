@@ -1,42 +1,23 @@
 -- The contract of the batch call, document 01's call over many draws: by the model's `batchOf`, what
 -- number, records and every place of lent memory and log equal, refused or not.
 --
---   logRoom log                   the records that a log has place for: four numbers each
---   messageNumbers messages       the numbers of messages, as the log holds them
---   messagesIn count log          the first messages that stand in a log
 --   BatchSays ..                  the promise
+-- Passed on: logRoom, messageNumbers and messagesIn, the log as crate `delivery` has it.
 use mathlib.Core.Path.{_≡_}
-use mathlib.Core.List.{List, [], _∷_}
-use Prim.Native.Nat.{ℕ, zero, suc, _+_, _/_}
-use lib.ListN.{length, getD, drop}
+use mathlib.Core.List.{List}
+use Prim.Native.Nat.{ℕ, _+_}
+use lib.ListN.{length}
 use Rattle.model.specs.declared.Settings.{Settings}
 use Rattle.model.specs.declared.Arrival.{Arrival}
-use Rattle.model.specs.declared.Message.{Message}
 use Rattle.model.specs.declared.Sites.{Sites}
 use Rattle.model.specs.declared.CoordinatorRecord.{CoordinatorRecord}
 use Rattle.model.specs.Choice.{if_then_else_, isZero}
-use Rattle.model.specs.Messages.{message}
 use Rattle.model.specs.SiteMemory.{overwrite}
 use Rattle.model.specs.CoordinatorMemory.{coordinatorRecord, coordinatorMemory}
 use Rattle.model.specs.NetworkMemory.{siteRecords, sitesMemory, networkIn, networkRefusal}
 use Rattle.model.specs.Runs.{Batch, batchOf}
+pub use Rattle.delivery.specs.Log.{logRoom, messageNumbers, messagesIn}
 use Rattle.tracker.specs.declared.BatchAnswer.{BatchAnswer}
-
--- ---- The log
-
-abbrev pub logRoom : List ℕ → ℕ
-logRoom log = length log / 4
-
--- "A message is four numbers: kind, deck, a, b."
-abbrev pub messageNumbers : List Message → List ℕ
-messageNumbers [] = []
-messageNumbers (m ∷ ms) = m .kind ∷ (m .site ∷ (m .a ∷ (m .b ∷ messageNumbers ms)))
-
-abbrev pub messagesIn : ℕ → List ℕ → List Message
-messagesIn zero log = []
-messagesIn (suc more) log =
-    message (getD log 0 0) (getD log 1 0) (getD log 2 0) (getD log 3 0)
-    ∷ messagesIn more (drop 4 log)
 
 -- ---- The call
 

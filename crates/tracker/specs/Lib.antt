@@ -1,2 +1,3 @@
--- What the batch call promises.
+-- What the batch call requires and promises.
 pub mod Batch
+pub mod Steps

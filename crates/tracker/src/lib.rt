@@ -1,6 +1,17 @@
-// The batch call: document 01's call over many draws.
+// The batch call: document 01's call over many draws. Refusals 1 to 4 and 11 are tested once, when the
+// call starts; then each arrival is tested and delivered, until one is refused.
 
+ghost use mathlib.Core.Path.{_≡_};
+ghost use mathlib.Core.List.{[], _∷_};
+ghost use Rattle.model.specs.NetworkMemory.{networkRefusal};
+ghost use Rattle.tracker.specs.Batch.{BatchSays};
+ghost use Rattle.tracker.specs.Steps.{opened, placesRefusal, PlacesAsk, OneAsks, OneSays, lentOf};
+use counters::Word;
+use model::ACCEPTED;
+use model::Arrival;
 use model::CoordinatorRecord;
+use model::LOG_TOO_SHORT;
+use model::Settings;
 use model::Sites;
 
 // What the batch call answers: the refusal that stopped it or 0, the arrivals accepted, the messages
@@ -11,4 +22,131 @@ pub struct BatchAnswer {
     pub written: u64,
     pub sites: Sites,
     pub coordinator: CoordinatorRecord,
+}
+
+// The answer before the first arrival: why the call is refused when it starts, if it is. The memory is
+// only read.
+fn open_batch(
+    settings: Settings,
+    sites: Sites,
+    coordinator: CoordinatorRecord,
+    site_memory: &mut [Word],
+    coordinator_memory: &mut [u64],
+) -> BatchAnswer
+    ensures { λ r. ⌜ (r ≡ opened (networkRefusal settings sites coordinator (now («site_memory» .entry)) (now («coordinator_memory» .entry))) sites coordinator) × (now («site_memory» .exit) ≡ now («site_memory» .entry)) × (now («coordinator_memory» .exit) ≡ now («coordinator_memory» .entry)) ⌝ }
+{
+    let refusal = network_tests::network_refusal(
+        settings,
+        sites,
+        coordinator,
+        site_memory,
+        coordinator_memory,
+    );
+    BatchAnswer {
+        refusal: refusal,
+        accepted: 0,
+        written: 0,
+        sites: sites,
+        coordinator: coordinator,
+    }
+}
+
+// Why an arrival of a batch is refused: 5, 6, 7, 8, 14.
+fn one_refusal(
+    settings: Settings,
+    sites: Sites,
+    arrival: Arrival,
+    numbers: usize,
+    written: u64,
+) -> u32
+    requires { ⌜ PlacesAsk settings written numbers ⌝ }
+    ensures { λ r. ⌜ r ≡ placesRefusal settings sites arrival numbers written ⌝ }
+{
+    let address = site::address_refusal(settings, arrival);
+    if address != ACCEPTED {
+        return address;
+    }
+    let which = arrival.site as usize;
+    let own = delivery::record_of(sites, which);
+    let refusal = site::arrival_refusal(settings, own, arrival);
+    if refusal != ACCEPTED {
+        return refusal;
+    }
+    let free = ((numbers / 4) as u64) - written;
+    if free < 23 * (settings.sites as u64) + 2 {
+        return LOG_TOO_SHORT;
+    }
+    ACCEPTED
+}
+
+// One arrival of a batch: refused, or taken with full delivery.
+fn batch_one(
+    settings: Settings,
+    answer: BatchAnswer,
+    arrival: Arrival,
+    site_memory: &mut [Word],
+    coordinator_memory: &mut [u64],
+    log: &mut [u64],
+) -> BatchAnswer
+    requires { ⌜ OneAsks settings answer (lentOf (now «site_memory») (now «coordinator_memory») (now log)) ⌝ }
+    ensures { λ r. ⌜ OneSays settings arrival answer (lentOf (now («site_memory» .entry)) (now («coordinator_memory» .entry)) (now (log .entry))) r (lentOf (now («site_memory» .exit)) (now («coordinator_memory» .exit)) (now (log .exit))) ⌝ }
+{
+    let sites = answer.sites;
+    let coordinator = answer.coordinator;
+    let refusal = one_refusal(settings, sites, arrival, log.len(), answer.written);
+    if refusal != ACCEPTED {
+        let mut stopped = answer;
+        stopped.refusal = refusal;
+        return stopped;
+    }
+    let underway = delivery::at_rest(sites, coordinator, answer.written);
+    let after = delivery::take_arrival(
+        settings,
+        underway,
+        arrival,
+        site_memory,
+        coordinator_memory,
+        log,
+    );
+    let sites_then = after.sites;
+    let coordinator_then = after.coordinator;
+    BatchAnswer {
+        refusal: ACCEPTED,
+        accepted: answer.accepted + 1,
+        written: after.written,
+        sites: sites_then,
+        coordinator: coordinator_then,
+    }
+}
+
+// A batch of one arrival: for callers that hold no run of arrivals.
+pub fn run_one(
+    settings: Settings,
+    sites: Sites,
+    coordinator: CoordinatorRecord,
+    arrival: Arrival,
+    site_memory: &mut [Word],
+    coordinator_memory: &mut [u64],
+    log: &mut [u64],
+) -> BatchAnswer
+    ensures { λ r. ⌜ BatchSays (record { settings = settings; sites = sites; coordinator = coordinator; arrivals = arrival ∷ []; siteMemory = now («site_memory» .entry); coordinatorMemory = now («coordinator_memory» .entry); log = now (log .entry) }) (lentOf (now («site_memory» .exit)) (now («coordinator_memory» .exit)) (now (log .exit))) r ⌝ }
+{
+    let answer = open_batch(
+        settings,
+        sites,
+        coordinator,
+        site_memory,
+        coordinator_memory,
+    );
+    if answer.refusal != ACCEPTED {
+        return answer;
+    }
+    batch_one(
+        settings,
+        answer,
+        arrival,
+        site_memory,
+        coordinator_memory,
+        log,
+    )
 }

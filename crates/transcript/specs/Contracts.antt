@@ -12,7 +12,8 @@ use lib.Dec.{leb}
 use lib.ListN.{length}
 use Rattle.model.specs.Choice.{if_then_else_}
 use Rattle.model.specs.Decimal.{decimal}
-use Rattle.model.specs.Transcript.{space, spaced, endLine, listedWord}
+use Rattle.model.specs.declared.Message.{Message}
+use Rattle.model.specs.Transcript.{space, spaced, endLine, listedWord, messageLine}
 use Rattle.worklist.specs.Contracts.{writtenAt}
 
 abbrev pub fit : List ℕ → ℕ → List ℕ → Bool
@@ -37,6 +38,13 @@ pub record LineWritten (line : List ℕ) (place : ℕ) (before after : List ℕ)
     : Type 0 where
   pub place-after : answer ≡ (if fit line place before then place + length line else place)
   pub out : after ≡ (if fit line place before then writtenAt place line before else before)
+
+-- The line of a message, and that it takes at most 84 bytes: four numbers of 64 bits, each with a
+-- space or the line feed.
+pub record RecordWritten (m : Message) (place : ℕ) (before after : List ℕ) (answer : ℕ) : Type 0
+  where
+    pub written : LineWritten (messageLine m) place before after answer
+    pub few : length (messageLine m) ≤ 84
 
 -- How many bytes a number takes with a space before it: 21 at most, for 64 bits.
 pub record SpacedLength (n answer : ℕ) : Type 0 where

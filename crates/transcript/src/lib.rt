@@ -8,8 +8,9 @@ ghost use Prim.Native.Nat.{_+_, _≤_, min};
 ghost use lib.Dec.{leb};
 ghost use lib.ListN.{length, take};
 ghost use Rattle.model.specs.Decimal.{decimal};
+ghost use Rattle.model.specs.Messages.{message};
 ghost use Rattle.model.specs.Transcript.{space, spaced, endLine, messageLine, refusedLine, classWord, messagesWord, quantileWord};
-ghost use Rattle.transcript.specs.Contracts.{countedLine, listedLine, Put, LineWritten, SpacedLength};
+ghost use Rattle.transcript.specs.Contracts.{countedLine, listedLine, Put, LineWritten, RecordWritten, SpacedLength};
 use model::Message;
 use model::Quantile;
 use worklist::count_decimal;
@@ -86,27 +87,35 @@ fn write_counted(word: &[u8], n: u64, out: &mut [u8], at: usize) -> usize
 }
 
 // Writes the line of a message, where it fits.
-fn put_message(m: Message, out: &mut [u8], at: usize) -> usize
-    requires { ⌜ at + length (messageLine m) ≤ length (now out) ⌝ }
-    ensures { λ r. ⌜ Put (messageLine m) at (now (out .entry)) (now (out .exit)) r ⌝ }
+fn put_message(kind: u64, site: u64, a: u64, b: u64, out: &mut [u8], at: usize) -> usize
+    requires { ⌜ at + length (messageLine (message kind site a b)) ≤ length (now out) ⌝ }
+    ensures { λ r. ⌜ Put (messageLine (message kind site a b)) at (now (out .entry)) (now (out .exit)) r ⌝ }
 {
-    let after_kind = at + write_decimal(m.kind as u64, out, at);
-    let after_site = put_spaced(m.site as u64, out, after_kind);
-    let after_a = put_spaced(m.a, out, after_site);
-    let after_b = put_spaced(m.b, out, after_a);
+    let after_kind = at + write_decimal(kind, out, at);
+    let after_site = put_spaced(site, out, after_kind);
+    let after_a = put_spaced(a, out, after_site);
+    let after_b = put_spaced(b, out, after_a);
     put_text(b"\n", out, after_b)
 }
 
-// A message as kind, site, a and b. The line feed stands for the space that its first number lacks.
+// A message by its four numbers, as a log holds them. The line feed stands for the space that the
+// first number lacks.
+pub fn write_record(kind: u64, site: u64, a: u64, b: u64, out: &mut [u8], at: usize) -> usize
+    ensures { λ r. ⌜ RecordWritten (message kind site a b) at (now (out .entry)) (now (out .exit)) r ⌝ }
+{
+    let head = spaced_length(kind) + spaced_length(site);
+    let need = head + spaced_length(a) + spaced_length(b);
+    if has_room(out.len(), at, need) {
+        return put_message(kind, site, a, b, out, at);
+    }
+    at
+}
+
+// A message as kind, site, a and b.
 pub fn write_message(m: Message, out: &mut [u8], at: usize) -> usize
     ensures { λ r. ⌜ LineWritten (messageLine m) at (now (out .entry)) (now (out .exit)) r ⌝ }
 {
-    let head = spaced_length(m.kind as u64) + spaced_length(m.site as u64);
-    let need = head + spaced_length(m.a) + spaced_length(m.b);
-    if has_room(out.len(), at, need) {
-        return put_message(m, out, at);
-    }
-    at
+    write_record(m.kind as u64, m.site as u64, m.a, m.b, out, at)
 }
 
 // "refused" and the number.

@@ -1,10 +1,15 @@
--- `network_tests::network_consistent` meets its contract: each return is a row of refusal 11, those
--- before it having passed.
+-- `network_tests::network_consistent` meets its contract: the count of messages, the sites, the coordinator,
+-- and that the network is at rest.
 use mathlib.Core.Path.{sym, _∙_}
+use Rattle.network_tests.proofs.NetworkLaws.{counts-fit, count-refused, rest-decides, coordinator-refused, sites-refused}
 use borrow.Author.Needs.{needs}
-use Rattle.network_tests.proofs.TestLaws.{sums-fit, sites-off, coordinator-off, not-idle, apart, messages-decide}
 use Rattle.network_tests.proofs.network_consistent.Statement.{statement}
 use Rattle.network_tests.proofs.network_consistent.Tie as tie
+
+returns : tie.Need-returns
+returns c =
+    let a = c .before .before .before .before .args in
+    count-refused (a .settings) (a .sites) (a .coordinator) (a .site-memory .now) (a .coordinator-memory .now) (c .if1 .taken)
 
 sites-consistent-requires : tie.Need-sites-consistent-requires
 sites-consistent-requires c κs = search needs
@@ -12,88 +17,36 @@ sites-consistent-requires c κs = search needs
 coordinator-consistent-requires : tie.Need-coordinator-consistent-requires
 coordinator-consistent-requires c κs = search needs
 
-is-idle-requires : tie.Need-is-idle-requires
-is-idle-requires c κs = search needs
-
-numbers-together-requires : tie.Need-numbers-together-requires
-numbers-together-requires c κs =
-    let at-coordinator = c .before .before .before in
-    let at-sites = at-coordinator .before .before in
-    let start = at-sites .before .before .before in
-    let a = start .args in
-    sums-fit (a .settings) (a .sites) (a .coordinator) (a .site-memory .now)
-    (a .coordinator-memory .now) (start .pre .settings-accepted) (start .pre .sites-long)
-    (sym (at-sites .sites-consistent .ensures) ∙ at-coordinator .before .if1 .taken)
-    (sym (at-coordinator .coordinator-consistent .ensures) ∙ c .before .before .if2 .taken)
-
-returns : tie.Need-returns
-returns c =
-    let at-together = c .before .before in
-    let at-idle = at-together .before .before in
-    let at-coordinator = at-idle .before .before in
-    let at-sites = at-coordinator .before .before in
-    let a = at-sites .before .before .before .args in
-    messages-decide (a .settings) (a .sites) (a .coordinator) (a .site-memory .now)
-    (a .coordinator-memory .now)
-    (sym (at-sites .sites-consistent .ensures) ∙ at-coordinator .before .if1 .taken)
-    (sym (at-coordinator .coordinator-consistent .ensures) ∙ at-idle .before .if2 .taken)
-    (sym (at-idle .is-idle .ensures) ∙ at-together .before .if3 .taken)
-    (sym (at-together .numbers-together .ensures (a .site-memory .now)) ∙ c .before .if4 .taken)
+at-rest-requires : tie.Need-at-rest-requires
+at-rest-requires c κs =
+    let start = c .before .before .before .before .before .before .before .before in
+    counts-fit (start .pre .sites-fit) (start .args .sites) (start .args .coordinator)
+    (start .args .coordinator-memory .now) (sym (c .before .before .before .sites-consistent .ensures) ∙ c .before .before .if2 .taken) (sym (c .before .coordinator-consistent .ensures) ∙ c .if3 .taken)
 
 returns-2 : tie.Need-returns-2
 returns-2 c =
-    let at-together = c .before in
-    let at-idle = at-together .before .before in
-    let at-coordinator = at-idle .before .before in
-    let at-sites = at-coordinator .before .before in
-    let a = at-sites .before .before .before .args in
-    apart (a .settings) (a .sites) (a .coordinator) (a .site-memory .now)
-    (a .coordinator-memory .now)
-    (sym (at-sites .sites-consistent .ensures) ∙ at-coordinator .before .if1 .taken)
-    (sym (at-coordinator .coordinator-consistent .ensures) ∙ at-idle .before .if2 .taken)
-    (sym (at-idle .is-idle .ensures) ∙ at-together .before .if3 .taken)
-    (sym (at-together .numbers-together .ensures (a .site-memory .now)) ∙ c .if4 .left)
+    let a = c .before .before .before .before .before .before .before .before .before .args in
+    c .at-rest .ensures (a .site-memory .now) (a .coordinator-memory .now)
+    ∙ rest-decides (a .settings) (a .sites) (a .coordinator) (a .site-memory .now) (a .coordinator-memory .now) (sym (c .before .before .before .before .sites-consistent .ensures) ∙ c .before .before .before .if2 .taken) (sym (c .before .before .coordinator-consistent .ensures) ∙ c .before .if3 .taken) (c .before .before .before .before .before .if1 .left)
 
 returns-3 : tie.Need-returns-3
 returns-3 c =
-    let at-idle = c .before in
-    let at-coordinator = at-idle .before .before in
-    let at-sites = at-coordinator .before .before in
-    let a = at-sites .before .before .before .args in
-    not-idle (a .settings) (a .sites) (a .coordinator) (a .site-memory .now)
-    (a .coordinator-memory .now)
-    (sym (at-sites .sites-consistent .ensures) ∙ at-coordinator .before .if1 .taken)
-    (sym (at-coordinator .coordinator-consistent .ensures) ∙ at-idle .before .if2 .taken)
-    (sym (at-idle .is-idle .ensures) ∙ c .if3 .left)
+    let a = c .before .before .before .before .before .before .before .before .args in
+    coordinator-refused (a .settings) (a .sites) (a .coordinator) (a .site-memory .now) (a .coordinator-memory .now) (sym (c .before .before .before .sites-consistent .ensures) ∙ c .before .before .if2 .taken) (sym (c .before .coordinator-consistent .ensures) ∙ c .if3 .left)
 
 returns-4 : tie.Need-returns-4
 returns-4 c =
-    let at-coordinator = c .before in
-    let at-sites = at-coordinator .before .before in
-    let a = at-sites .before .before .before .args in
-    coordinator-off (a .settings) (a .sites) (a .coordinator) (a .site-memory .now)
-    (a .coordinator-memory .now)
-    (sym (at-sites .sites-consistent .ensures) ∙ at-coordinator .before .if1 .taken)
-    (sym (at-coordinator .coordinator-consistent .ensures) ∙ c .if2 .left)
-
-returns-5 : tie.Need-returns-5
-returns-5 c =
-    let at-sites = c .before in
-    let a = at-sites .before .before .before .args in
-    sites-off (a .settings) (a .sites) (a .coordinator) (a .site-memory .now)
-    (a .coordinator-memory .now)
-    (sym (at-sites .sites-consistent .ensures) ∙ c .if1 .left)
+    let a = c .before .before .before .before .before .before .args in
+    sites-refused (a .settings) (a .sites) (a .coordinator) (a .site-memory .now) (a .coordinator-memory .now) (sym (c .before .sites-consistent .ensures) ∙ c .if2 .left)
 
 pub network-consistent-spec : {M : Type 1} → statement M
 network-consistent-spec =
     tie.close
     (tie.spec
+    returns
     sites-consistent-requires
     coordinator-consistent-requires
-    is-idle-requires
-    numbers-together-requires
-    returns
+    at-rest-requires
     returns-2
     returns-3
-    returns-4
-    returns-5)
+    returns-4)

@@ -1,8 +1,10 @@
 -- The four numbers and the line feed are written one after the other.
-use mathlib.Core.List.{List, [], _∷_}
-use Prim.Native.Nat.{ℕ, _+_}
+use mathlib.Core.List.{[], _∷_}
+use Prim.Native.Nat.{_+_}
 use native.Mathlib.Omega.{arith}
 use Rattle.model.specs.Decimal.{decimal}
+use Rattle.model.specs.declared.Message.{Message}
+use Rattle.model.specs.Messages.{message}
 use Rattle.model.specs.Transcript.{messageLine}
 use Rattle.transcript.proofs.PutLaws.{put-digits, Stage, stage-begins, stage-room, stage-on, stage-ends}
 use Rattle.transcript.proofs.LinesLaws.{spacedNumber, feed, messagePieces, message-joined}
@@ -10,59 +12,53 @@ use borrow.Author.Needs.{needs}
 use Rattle.transcript.proofs.put_message.Statement.{statement}
 use Rattle.transcript.proofs.put_message.Tie as tie
 
-cast-write-decimal : tie.Need-cast-write-decimal
-cast-write-decimal c = search needs
-
--- The function's entry, seen from behind each number.
-abbrev entry-kind : tie.After-write-decimal → tie.Start
-entry-kind c = c .before .before .before .before
-
-abbrev entry-site : tie.After-put-spaced → tie.Start
-entry-site c = entry-kind (c .before .before .before .before .before)
-
-abbrev entry-a : tie.After-put-spaced2 → tie.Start
-entry-a c = entry-site (c .before .before .before .before)
-
-abbrev entry-b : tie.After-put-spaced3 → tie.Start
-entry-b c = entry-a (c .before .before .before .before)
-
--- The line of the message that was passed, with these pieces still to be written.
-abbrev Left : tie.Start → List (List ℕ) → List ℕ → ℕ → Type 0
-Left start pieces middle next =
-    let args = start .args in
-    Stage (messageLine (args .m)) (args .at) (args .out .now) pieces middle next
+-- The message of the four numbers.
+abbrev given : tie.Start → Message
+given start = message (start .args .kind) (start .args .site) (start .args .a) (start .args .b)
 
 -- Before the first piece, and behind each number.
-begun : (c : tie.Start) → Left c (messagePieces (c .args .m)) (c .args .out .now) (c .args .at)
+begun : (c : tie.Start)
+    → Stage (messageLine (given c)) (c .args .at) (c .args .out .now) (messagePieces (given c))
+    (c .args .out .now) (c .args .at)
 begun c =
-    stage-begins (messageLine (c .args .m)) (c .args .at) (c .args .out .now) _
-    (message-joined (c .args .m)) (c .pre)
+    stage-begins (messageLine (given c)) (c .args .at) (c .args .out .now) _
+    (message-joined (given c)) (c .pre)
 
 behind-kind : (c : tie.After-write-decimal)
-    → let start = entry-kind c in
-    let m = start .args .m in
-    Left start (spacedNumber (m .site) ∷ spacedNumber (m .a) ∷ spacedNumber (m .b) ∷ feed ∷ [])
-    (c .write-decimal .last .1 .0) (start .args .at + c .write-decimal .result)
+    → let start = c .before .before .before in
+    let args = start .args in
+    let m = given start in
+    Stage (messageLine m) (args .at) (args .out .now)
+    (spacedNumber (m .site) ∷ spacedNumber (m .a) ∷ spacedNumber (m .b) ∷ feed ∷ [])
+    (c .write-decimal .last .1 .0) (args .at + c .write-decimal .result)
 behind-kind c =
-    let start = entry-kind c in
+    let start = c .before .before .before in
     stage-on (begun start)
-    (put-digits (start .args .m .kind) (start .args .at) (start .args .out .now) _ _
+    (put-digits (start .args .kind) (start .args .at) (start .args .out .now) _ _
     (stage-room (begun start)) (c .write-decimal .ensures))
 
 behind-site : (c : tie.After-put-spaced)
-    → let m = entry-site c .args .m in
-    Left (entry-site c) (spacedNumber (m .a) ∷ spacedNumber (m .b) ∷ feed ∷ [])
+    → let start = c .before .before .before .before .before .before .before in
+    let args = start .args in
+    let m = given start in
+    Stage (messageLine m) (args .at) (args .out .now)
+    (spacedNumber (m .a) ∷ spacedNumber (m .b) ∷ feed ∷ [])
     (c .put-spaced .last .1 .0) (c .put-spaced .result)
 behind-site c =
-    stage-on (behind-kind (c .before .before .before .before .before)) (c .put-spaced .ensures)
+    stage-on (behind-kind (c .before .before .before .before)) (c .put-spaced .ensures)
 
 behind-a : (c : tie.After-put-spaced2)
-    → Left (entry-a c) (spacedNumber (entry-a c .args .m .b) ∷ feed ∷ [])
+    → let start = c .before .before .before .before .before .before .before .before .before .before .before in
+    let args = start .args in
+    Stage (messageLine (given start)) (args .at) (args .out .now) (spacedNumber (args .b) ∷ feed ∷ [])
     (c .put-spaced2 .last .1 .0) (c .put-spaced2 .result)
 behind-a c = stage-on (behind-site (c .before .before .before .before)) (c .put-spaced2 .ensures)
 
 behind-b : (c : tie.After-put-spaced3)
-    → Left (entry-b c) (feed ∷ []) (c .put-spaced3 .last .1 .0) (c .put-spaced3 .result)
+    → let start = c .before .before .before .before .before .before .before .before .before .before .before .before .before .before .before in
+    let args = start .args in
+    Stage (messageLine (given start)) (args .at) (args .out .now) (feed ∷ [])
+    (c .put-spaced3 .last .1 .0) (c .put-spaced3 .result)
 behind-b c = stage-on (behind-a (c .before .before .before .before)) (c .put-spaced3 .ensures)
 
 write-decimal-requires : tie.Need-write-decimal-requires
@@ -71,13 +67,12 @@ write-decimal-requires c κs = search needs
 add-after-kind : tie.Need-add-after-kind
 add-after-kind c =
     let kind = c .before .before in
-    record { fits = omega (arith, entry-kind kind .good .1 .0 .0, stage-room (behind-kind kind)) }
-
-cast-put-spaced : tie.Need-cast-put-spaced
-cast-put-spaced c = search needs
+    let start = kind .before .before .before in
+    let stage = behind-kind kind in
+    record { fits = omega (arith, start .good .1 .1 .1 .1 .0 .0, stage-room stage) }
 
 put-spaced-requires : tie.Need-put-spaced-requires
-put-spaced-requires c κs = stage-room (behind-kind (c .before .before .before .before))
+put-spaced-requires c κs = stage-room (behind-kind (c .before .before .before))
 
 put-spaced-requires-2 : tie.Need-put-spaced-requires-2
 put-spaced-requires-2 c κs = stage-room (behind-site (c .before .before .before))
@@ -103,10 +98,8 @@ pub put-message-spec : {M : Type 1} → statement M
 put-message-spec =
     tie.close
     (tie.spec
-    cast-write-decimal
     write-decimal-requires
     add-after-kind
-    cast-put-spaced
     put-spaced-requires
     put-spaced-requires-2
     put-spaced-requires-3

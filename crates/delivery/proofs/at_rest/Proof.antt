@@ -1,0 +1,13 @@
+-- `delivery::at_rest` meets its contract: nothing waits.
+use borrow.Author.Needs.{needs}
+use Rattle.delivery.proofs.at_rest.Statement.{statement}
+use Rattle.delivery.proofs.at_rest.Tie as tie
+
+no-message-requires : tie.Need-no-message-requires
+no-message-requires c κs = search needs
+
+returns : tie.Need-returns
+returns c = rw (c .no-message .ensures)
+
+pub at-rest-spec : {M : Type 1} → statement M
+at-rest-spec = tie.close (tie.spec no-message-requires returns)

@@ -1,0 +1,59 @@
+-- `network_tests::at_rest` meets its contract: by phase, then by the two walks over the sites.
+use mathlib.Core.Path.{sym, _∙_}
+use borrow.Author.Needs.{needs}
+use Rattle.network_tests.proofs.at_rest.Statement.{statement}
+use Rattle.network_tests.proofs.at_rest.Tie as tie
+
+enum-told : tie.Need-enum-told
+enum-told c = search needs
+
+same-thresholds-requires : tie.Need-same-thresholds-requires
+same-thresholds-requires c κs = search needs
+
+all-counted-requires : tie.Need-all-counted-requires
+all-counted-requires c κs = search needs
+
+returns : tie.Need-returns
+returns c =
+    λ sites coordinator.
+    rw (c .before .before .before .enum-told .given .1, sym (c .before .before .same-thresholds .ensures sites) ∙ c .before .if1 .taken)
+    (c .all-counted .ensures sites)
+
+enum-told-2 : tie.Need-enum-told-2
+enum-told-2 c = search needs
+
+enum-told-3 : tie.Need-enum-told-3
+enum-told-3 c = search needs
+
+enum-told-4 : tie.Need-enum-told-4
+enum-told-4 c = search needs
+
+returns-2 : tie.Need-returns-2
+returns-2 c =
+    λ sites coordinator.
+    rw (c .before .before .enum-told .given .1, sym (c .before .same-thresholds .ensures sites) ∙ c .if1 .left)
+
+returns-3 : tie.Need-returns-3
+returns-3 c = λ sites coordinator. rw (c .enum-told2 .given .1)
+
+returns-4 : tie.Need-returns-4
+returns-4 c = λ sites coordinator. rw (c .enum-told3 .given .1)
+
+returns-5 : tie.Need-returns-5
+returns-5 c = λ sites coordinator. rw (c .enum-told4 .given .1)
+
+pub at-rest-spec : {M : Type 1} → statement M
+at-rest-spec =
+    tie.close
+    (tie.spec
+    enum-told
+    same-thresholds-requires
+    all-counted-requires
+    returns
+    enum-told-2
+    enum-told-3
+    enum-told-4
+    returns-2
+    returns-3
+    returns-4
+    returns-5)

@@ -1,0 +1,208 @@
+-- One arrival of a batch: what the code finds and does is the model's, and a batch that took it may take
+-- another.
+--
+--   one-places, refusal-is      what the refusal's test asks, and that it is the model's
+--   one-accepting               what delivering an accepted arrival asks
+--   holds-stopped, holds-taken  answer and lent memory then
+--   ready-next                  a batch that took an arrival may take another
+--   batchFrom-on                the model's batch, arrival by arrival
+use mathlib.Core.Path.{_≡_, refl, sym, ap, _∙_, subst}
+use mathlib.Core.Bool.{Bool, true, false}
+use mathlib.Core.List.{List, [], _∷_, _++_, append-nil}
+use Prim.Native.Nat.{ℕ, zero, suc, _+_, _-_, _*_, _/_, _≤_, _<_}
+use native.Mathlib.Nat.{mul-le-mul-right}
+use native.Mathlib.Omega.{arith}
+use lib.Dec.{ltb, eqb}
+use lib.ListN.{length, getD, length-append}
+use borrow.Author.Tests.{eq-eqb, ne-eqb, ltb-false, eqb-true}
+use Rattle.model.specs.declared.Settings.{Settings}
+use Rattle.model.specs.declared.Arrival.{Arrival}
+use Rattle.model.specs.declared.Message.{Message}
+use Rattle.model.specs.declared.SiteRecord.{SiteRecord}
+use Rattle.model.specs.Choice.{if_then_else_, isZero}
+use Rattle.model.specs.Refusals.{when, _orElse_, accepted, logTooShort}
+use Rattle.model.specs.Limits.{siteLimit, mostMessages}
+use Rattle.model.specs.Network.{Network, siteAt, afterArrival}
+use Rattle.model.specs.NetworkMemory.{allArrivals}
+use Rattle.model.specs.Runs.{Batch, refusalIn, batchRefusal, batchFrom}
+use Rattle.model.specs.DeliveryClaims.{Delivery, delivery}
+use Rattle.model.proofs.RefusalLaws.{both-accepted, passed}
+use Rattle.model.proofs.SettingsLaws.{settled}
+use Rattle.model.proofs.DeliveryTheorem.{delivery-claims}
+use Rattle.model.proofs.SoundStages.{together-of-sound}
+use Rattle.model.proofs.SitesInvariant.{arrivalsAt}
+use Rattle.model.proofs.ClosedSites.{sumBelow-allArrivals}
+use Rattle.laws.proofs.Sums.{sumBelow-le, sumBelow-const}
+use Rattle.network_memory.specs.Records.{noRecord}
+use Rattle.delivery.specs.declared.Underway.{Underway}
+use Rattle.delivery.specs.Log.{logRoom}
+use Rattle.delivery.specs.Holding.{Given, state, Holds, Accepting, ArrivalAsks, ArrivalSays, rested}
+use Rattle.delivery.proofs.HoldingLaws.{Stored, record-read, log-length}
+use Rattle.delivery.proofs.GoingLaws.{stored-of-sound}
+use Rattle.delivery.proofs.RestLaws.{sound-then, bounded-then, arrivals-then, holds-rested}
+use Rattle.tracker.specs.declared.BatchAnswer.{BatchAnswer}
+use Rattle.tracker.specs.Batch.{BatchLent}
+use Rattle.tracker.specs.Steps.{placesRefusal, PlacesAsk, withOne, stoppedBy, oneRefusal, batchOne, underwayOf, BatchHolds, BatchReady, OneAsks, lentOf}
+use Rattle.tracker.proofs.RefusalLaws.{placesRefusal-is}
+
+-- ---- A batch that is held
+
+module _ {settings : Settings} {answer : BatchAnswer} {lent : BatchLent}
+    (u : OneAsks settings answer lent) where
+  abbrev network : Network
+  network = u .batch .network
+
+  abbrev room : ℕ
+  room = logRoom (u .given .log)
+
+  stored : Stored settings network
+  stored =
+      let sound = u .ready .sound in
+      stored-of-sound (sound .all-sites) (sound .sites-sound) (sound .coordinator-sound .numbers)
+
+  written-is : answer .written ≡ length (u .batch .messages)
+  written-is = rw (append-nil (u .batch .messages)) at (u .holds .holds .written)
+
+  log-same : length (lent .log) ≡ length (u .given .log)
+  log-same =
+      log-length (u .holds .holds)
+      (rw (append-nil (u .batch .messages)) (omega (arith, u .ready .messages-within)))
+
+  -- ---- The refusal
+
+  pub one-places : PlacesAsk settings (answer .written) (length (lent .log))
+  one-places = record {
+    few-sites = settled settings (u .ready .fits .settings-accepted) .sites .at-most;
+    written-within = rw (written-is, log-same) (u .ready .messages-within);
+  }
+
+  pub refusal-is : (arrival : Arrival)
+      → placesRefusal settings (answer .sites) arrival (length (lent .log)) (answer .written)
+      ≡ oneRefusal settings room (u .batch) arrival
+  refusal-is arrival =
+      placesRefusal-is settings (answer .sites) arrival (length (lent .log)) (answer .written)
+      network (room - length (u .batch .messages))
+      (λ known. ap (λ (r : SiteRecord). r .arrivals)
+      (record-read (u .ready .fits) stored (u .holds .holds) (arrival .site) known))
+      (rw (written-is, log-same))
+
+  -- ---- An accepted arrival
+
+  module _ (arrival : Arrival)
+      (none : oneRefusal settings room (u .batch) arrival ≡ accepted) where
+    pub one-accepting : Accepting settings (u .given) (u .batch .messages) network arrival
+    one-accepting =
+        let chain = both-accepted (refusalIn settings network arrival) _ none in
+        let places = passed
+        (ltb (room - length (u .batch .messages)) (mostMessages (settings .sites)))
+        logTooShort _ (omega arith) (chain .later-accepted) in
+        let enough : mostMessages (settings .sites) ≤ room - length (u .batch .messages) =
+        ltb-false _ _ (places .test-failed) in
+        record {
+          fits = u .ready .fits;
+          room = omega (arith, enough, u .ready .messages-within);
+          sound = u .ready .sound;
+          bounded = u .ready .bounded;
+          taken = chain .first-accepted;
+        }
+
+    abbrev pub one-asks : ArrivalAsks settings arrival
+        (state (underwayOf answer) (lent .siteMemory) (lent .coordinatorMemory) (lent .log))
+    one-asks = record {
+      given = u .given;
+      earlier = u .batch .messages;
+      network = network;
+      accepting = one-accepting;
+      holds = u .holds .holds;
+    }
+
+    taken-is : batchOne settings room (u .batch) arrival ≡ withOne settings (u .batch) arrival
+    taken-is = rw (eq-eqb (oneRefusal settings room (u .batch) arrival) 0 none)
+
+    -- All arrivals fit a machine number, so the accepted ones do.
+    pub accepted-small : u .batch .accepted ≤ 32 * siteLimit
+    accepted-small =
+        let sound = u .ready .sound in
+        let few : settings .sites * siteLimit ≤ 32 * siteLimit =
+        mul-le-mul-right siteLimit
+        (settled settings (u .ready .fits .settings-accepted) .sites .at-most) in
+        omega (
+          arith,
+          u .ready .accepted-within,
+          sumBelow-allArrivals settings (network .sites) (sound .all-sites),
+          sumBelow-le (arrivalsAt (network .sites)) (λ j. siteLimit) (settings .sites)
+              (λ j j<. sound .sites-sound j j< .arrivals-within),
+          sumBelow-const siteLimit (settings .sites),
+        )
+
+    pub holds-taken : (after : Underway) (next : BatchAnswer) (memory coordinator log : List ℕ)
+        → ArrivalSays settings arrival
+        (state (underwayOf answer) (lent .siteMemory) (lent .coordinatorMemory) (lent .log))
+        (state after memory coordinator log)
+        → next .refusal ≡ accepted
+        → next .accepted ≡ answer .accepted + 1
+        → next .written ≡ after .written
+        → next .sites ≡ after .sites
+        → next .coordinator ≡ after .coordinator
+        → BatchHolds settings (u .given) (batchOne settings room (u .batch) arrival) next
+        (lentOf memory coordinator log)
+    holds-taken after next memory coordinator log says refusal-none accepted-more written-then
+        sites-then coordinator-then =
+        let done = afterArrival settings network arrival in
+        let held = holds-rested (done .network) (done .messages) (says .delivers one-asks) in
+        subst (λ (b : Batch).
+        BatchHolds settings (u .given) b next (lentOf memory coordinator log))
+        (sym taken-is)
+        (record {
+          refusal = refusal-none;
+          accepted = accepted-more ∙ ap (λ (n : ℕ). n + 1) (u .holds .accepted);
+          holds = record {
+            records = rw sites-then (held .records);
+            counted = rw sites-then (held .counted);
+            coordinator = coordinator-then ∙ held .coordinator;
+            written = written-then ∙ held .written;
+            waiting = refl;
+            site-memory = held .site-memory;
+            coordinator-memory = held .coordinator-memory;
+            log = held .log;
+          };
+        })
+
+    pub ready-next : BatchReady settings (u .given) (batchOne settings room (u .batch) arrival)
+    ready-next =
+        let done = afterArrival settings network arrival in
+        let few = delivery-claims .few-messages settings network arrival (u .ready .sound .idle) in
+        subst (BatchReady settings (u .given)) (sym taken-is)
+        (record {
+          fits = u .ready .fits;
+          sound = sound-then one-accepting;
+          bounded = bounded-then one-accepting;
+          accepted-within =
+              omega (arith, arrivals-then one-accepting, u .ready .accepted-within);
+          messages-within =
+              omega (
+                arith,
+                length-append (u .batch .messages) (done .messages),
+                few,
+                one-accepting .room,
+              );
+        })
+
+  -- ---- A refused arrival
+
+  pub holds-stopped : (arrival : Arrival) (next : BatchAnswer)
+      → (oneRefusal settings room (u .batch) arrival ≡ accepted → ⊥)
+      → next .refusal ≡ oneRefusal settings room (u .batch) arrival
+      → next .accepted ≡ answer .accepted
+      → underwayOf next ≡ underwayOf answer
+      → BatchHolds settings (u .given) (batchOne settings room (u .batch) arrival) next lent
+  holds-stopped arrival next refused refusal-then accepted-same same =
+      let stops : batchOne settings room (u .batch) arrival
+      ≡ stoppedBy (u .batch) (oneRefusal settings room (u .batch) arrival) =
+      rw (ne-eqb (oneRefusal settings room (u .batch) arrival) 0 refused) in
+      subst (λ (b : Batch). BatchHolds settings (u .given) b next lent) (sym stops)
+      (record {
+        refusal = refusal-then;
+        accepted = accepted-same ∙ u .holds .accepted;
+        holds = rw same (u .holds .holds);
+      })

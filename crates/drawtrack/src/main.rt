@@ -4,9 +4,8 @@
 
 use libc::STDIN_FILENO;
 use libc::STDOUT_FILENO;
-use session::Turn;
 
-// The most bytes of input that can matter: 48 of a settings line, 8192 of a worklist and one more.
+// The most bytes of input that matter: 48 of a settings line, 8192 of a worklist and one more.
 const INPUT_BYTES: usize = 8241;
 
 // Writes the bytes that a call wrote.
@@ -16,19 +15,18 @@ fn write_out(written: usize, out: &[u8]) {
     }
 }
 
-// A call for each line, until the session has ended. Each line that it goes on after takes six bytes
-// or more, so there are at most 1375 calls.
-fn take_lines(
-    first: Turn,
+// A call for each line, until the session has ended. Each line after which it goes on takes six bytes
+// or more, so it ends long before the turns do.
+fn serve(
     input: &[u8],
     site_memory: &mut [u32],
     coordinator_memory: &mut [u64],
+    log: &mut [u64],
+    list: &mut [u32],
     out: &mut [u8],
 ) {
-    let mut log_space = [0u64; 376];
-    let mut list_space = [0u32; 1000];
-    let log: &mut [u64] = &mut log_space;
-    let list: &mut [u32] = &mut list_space;
+    let first = session::begin(input, site_memory, coordinator_memory, out);
+    write_out(first.written, out);
     let mut session = first.session;
     let mut turns: usize = 0;
     while session.going && turns < INPUT_BYTES {
@@ -47,18 +45,22 @@ fn take_lines(
     }
 }
 
+// The memory for the program's limits: 4 sites of 4 × 100 + 1024 numbers, 1000 + 1024 numbers of the
+// coordinator, a log of 94 messages, 1000 listed items, and the lines of 94 messages or the results.
 fn main() {
-    let mut input_space = [0u8; INPUT_BYTES];
-    let mut site_space = [0u32; 5696];
-    let mut coordinator_space = [0u64; 2024];
-    let mut out_space = [0u8; 8192];
-    let input: &mut [u8] = &mut input_space;
-    let site_memory: &mut [u32] = &mut site_space;
-    let coordinator_memory: &mut [u64] = &mut coordinator_space;
-    let out: &mut [u8] = &mut out_space;
-    let length = io::read_full(STDIN_FILENO, input);
-    let given = &input[..length];
-    let first = session::begin(given, site_memory, coordinator_memory, out);
-    write_out(first.written, out);
-    take_lines(first, given, site_memory, coordinator_memory, out);
+    let mut input = [0u8; 8241];
+    let mut site_memory = [0u32; 5696];
+    let mut coordinator_memory = [0u64; 2024];
+    let mut log = [0u64; 376];
+    let mut list = [0u32; 1000];
+    let mut out = [0u8; 8192];
+    let length = io::read_full(STDIN_FILENO, &mut input);
+    serve(
+        &input[..length],
+        &mut site_memory,
+        &mut coordinator_memory,
+        &mut log,
+        &mut list,
+        &mut out,
+    );
 }

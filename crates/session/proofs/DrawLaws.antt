@@ -226,7 +226,7 @@ module _ {session : Session} {given : Lent} {arrivals : List Arrival}
           arith,
           ok-then .count-is-sum,
           ap length (rest-then .messages-are
-          ∙ ap (λ (xs : List Arrival). runOf settings xs .messages) accepted-then),
+              ∙ ap (λ (xs : List Arrival). runOf settings xs .messages) accepted-then),
           length-append (run .messages) (messagesIn (answer .written) (lentAfter .log)),
           length-messagesIn (answer .written) (lentAfter .log),
         )

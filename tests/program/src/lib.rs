@@ -1,0 +1,205 @@
+//! Inputs of the program `drawtrack`, and what the built program writes for them.
+
+use std::io::Write;
+use std::path::{Path, PathBuf};
+use std::process::{Command, Stdio};
+
+/// The generator splitmix64.
+pub struct Random(u64);
+
+impl Random {
+    pub fn new(seed: u64) -> Random {
+        Random(seed)
+    }
+
+    pub fn next(&mut self) -> u64 {
+        self.0 = self.0.wrapping_add(0x9e37_79b9_7f4a_7c15);
+        let mut mixed = self.0;
+        mixed = (mixed ^ (mixed >> 30)).wrapping_mul(0xbf58_476d_1ce4_e5b9);
+        mixed = (mixed ^ (mixed >> 27)).wrapping_mul(0x94d0_49bb_1331_11eb);
+        mixed ^ (mixed >> 31)
+    }
+
+    /// A number below `bound`, which is at least 1.
+    pub fn below(&mut self, bound: u64) -> u64 {
+        self.next() % bound
+    }
+
+    /// A number from `low` to `high`, both included.
+    pub fn between(&mut self, low: u64, high: u64) -> u64 {
+        low + self.below(high - low + 1)
+    }
+
+    /// One of these.
+    pub fn pick<'a, T>(&mut self, choices: &'a [T]) -> &'a T {
+        &choices[self.below(choices.len() as u64) as usize]
+    }
+}
+
+/// Where the gate leaves the built program.
+pub fn built_program() -> PathBuf {
+    Path::new(env!("CARGO_MANIFEST_DIR")).join("../../target/bin/drawtrack")
+}
+
+/// What the built program writes for this input.
+pub fn run_program(input: &[u8]) -> Vec<u8> {
+    let mut child = Command::new(built_program())
+        .stdin(Stdio::piped())
+        .stdout(Stdio::piped())
+        .spawn()
+        .expect("rt check drawtrack has built the program");
+    let mut stdin = child.stdin.take().expect("its input is a pipe");
+    let bytes = input.to_vec();
+    // The program reads no more than it needs, so a longer input may meet a closed pipe.
+    let writer = std::thread::spawn(move || {
+        let _ = stdin.write_all(&bytes);
+    });
+    let output = child.wait_with_output().expect("it ends");
+    writer.join().expect("the writer ends");
+    assert!(output.status.success(), "it never traps: {:?}", output.status);
+    output.stdout
+}
+
+/// Settings that pass and that the program serves.
+pub fn served_settings(random: &mut Random) -> [u64; 6] {
+    let sites = random.between(1, 4);
+    let epsilon = *random.pick(&[60, 61, 100, 250, 500, 999, 1000]);
+    let phi = random.between(epsilon, 1000);
+    let rank = *random.pick(&[1, 2, 250, 500, 501, 750, 999, 1000]);
+    let least = (6000 + epsilon - 1) / epsilon;
+    let capacity = random.between(least, 100);
+    let universe = *random.pick(&[1, 2, 5, 10, 37, 999, 1000]);
+    [sites, epsilon, phi, rank, capacity, universe]
+}
+
+pub fn line_of(numbers: &[u64]) -> Vec<u8> {
+    let words: Vec<String> = numbers.iter().map(u64::to_string).collect();
+    format!("{}\n", words.join(";")).into_bytes()
+}
+
+/// A draw that is accepted; a few codes and classes come again and again.
+pub fn accepted_draw(random: &mut Random, settings: &[u64; 6]) -> [u64; 3] {
+    let item = if random.below(3) == 0 { 0 } else { random.below(settings[5]) };
+    let value = if random.below(4) == 0 { 1023 } else { random.below(1024) };
+    [random.below(settings[0]), item, value]
+}
+
+/// A worklist of accepted draws of at most so many bytes.
+pub fn worklist(random: &mut Random, settings: &[u64; 6], most: usize) -> Vec<u8> {
+    let mut bytes = Vec::new();
+    loop {
+        let line = line_of(&accepted_draw(random, settings));
+        if bytes.len() + line.len() > most {
+            return bytes;
+        }
+        bytes.extend(line);
+    }
+}
+
+/// A line that is no draw.
+fn malformed_line(random: &mut Random) -> Vec<u8> {
+    random
+        .pick::<&[u8]>(&[
+            b"\n", b"0;7\n", b"0;7;3;1\n", b"00;7;3\n", b"0;07;3\n", b"0;7;03\n", b"0;7;3",
+            b";7;3\n", b"0;;3\n", b"0;7;\n", b"10000000;7;3\n", b"0;12345678;3\n", b"0;7;3\r\n",
+            b" 0;7;3\n", b"0;7;3 \n", b"-1;7;3\n", b"0,7,3\n", b"0;7;\x003\n", b"\xff\n", b"0;a;3\n",
+        ])
+        .to_vec()
+}
+
+/// An input of one of the sorts that the program can meet.
+pub fn input(random: &mut Random, sort: u64) -> Vec<u8> {
+    let mut settings = served_settings(random);
+    let most = *random.pick(&[0, 6, 60, 400, 2000]);
+    match sort % 16 {
+        // all draws accepted, up to the full length
+        0 | 1 => {
+            let lines = worklist(random, &settings, most);
+            [line_of(&settings), lines].concat()
+        }
+        2 => {
+            let length = random.between(8180, 8192) as usize;
+            let lines = worklist(random, &settings, length);
+            [line_of(&settings), lines].concat()
+        }
+        // a refused draw after accepted ones: 5, 6, 7
+        3..=5 => {
+            let mut draw = accepted_draw(random, &settings);
+            let which = (sort % 16 - 3) as usize;
+            let limit = [settings[0], settings[5], 1024][which];
+            draw[which] = *random.pick(&[limit, limit + 1, 9_999_999]);
+            let before = worklist(random, &settings, most);
+            let after = worklist(random, &settings, 60);
+            [line_of(&settings), before, line_of(&draw), after].concat()
+        }
+        // a malformed line after accepted ones: 13
+        6 | 7 => {
+            let before = worklist(random, &settings, most);
+            let bad = malformed_line(random);
+            let after = worklist(random, &settings, 60);
+            [line_of(&settings), before, bad, after].concat()
+        }
+        // no final line feed
+        8 => {
+            let mut bytes = [line_of(&settings), worklist(random, &settings, most + 30)].concat();
+            bytes.pop();
+            bytes
+        }
+        // a setting at or past its limit: 1, 2, 3, 4 or accepted
+        9 => {
+            let which = random.below(6) as usize;
+            let limits: [&[u64]; 6] = [
+                &[0, 1, 4, 5, 32, 33, 9_999_999],
+                &[0, 1, 2, 59, 60, 1000, 1001],
+                &[0, 1, 59, 60, 1000, 1001],
+                &[0, 1, 1000, 1001],
+                &[0, 1, 5, 6, 100, 101, 3000, 3001],
+                &[0, 1, 1000, 1001, 65_536, 65_537],
+            ];
+            settings[which] = *random.pick(limits[which]);
+            [line_of(&settings), worklist(random, &served_settings(&mut Random::new(1)), 60)].concat()
+        }
+        // p below e, and c * e around 6000
+        10 => {
+            settings[1] = random.between(59, 1000);
+            settings[2] = (settings[1] + random.below(3)).saturating_sub(1);
+            settings[4] = 6000 / settings[1] + random.below(2);
+            [line_of(&settings), worklist(random, &settings, 60)].concat()
+        }
+        // a malformed settings line
+        11 => {
+            let mut line = line_of(&settings);
+            let place = random.below(line.len() as u64) as usize;
+            match random.below(4) {
+                0 => line[place] = random.below(256) as u8,
+                1 => line.truncate(place),
+                2 => line.insert(place, b'0'),
+                _ => line.insert(place, b';'),
+            }
+            [line, worklist(random, &settings, 60)].concat()
+        }
+        // a worklist of about the most bytes, of rubbish or of draws: 4 or 13 or whatever comes first
+        12 => {
+            let length = random.between(8190, 8194) as usize;
+            let mut lines = worklist(random, &settings, length);
+            let fill = *random.pick(b"x0\n;");
+            lines.resize(length, fill);
+            [line_of(&settings), lines].concat()
+        }
+        // much too long
+        13 => {
+            let length = random.between(8193, 100_000) as usize;
+            let lines = worklist(random, &settings, length);
+            [line_of(&settings), lines].concat()
+        }
+        // any bytes
+        14 => {
+            let length = random.below(200);
+            (0..length).map(|_| random.below(256) as u8).collect()
+        }
+        // nothing, or little
+        _ => random
+            .pick::<&[u8]>(&[b"", b"\n", b";", b"1", b"1;1000;1000;500;6;10", b"1;1000;1000;500;6;10\n"])
+            .to_vec(),
+    }
+}

@@ -1,0 +1,44 @@
+//! The built program `drawtrack` against the separate implementation, byte for byte, on inputs of
+//! every sort. PROGRAM_INPUTS and PROGRAM_SEED ask for more of them, and for others.
+
+use program::{input, run_program, Random};
+use reference::drawtrack::transcript;
+
+fn number(name: &str, otherwise: u64) -> u64 {
+    std::env::var(name).ok().and_then(|text| text.parse().ok()).unwrap_or(otherwise)
+}
+
+#[test]
+fn same_transcript() {
+    let seed = number("PROGRAM_SEED", 1);
+    let mut random = Random::new(seed);
+    for sort in 0..number("PROGRAM_INPUTS", 320) {
+        let bytes = input(&mut random, sort);
+        let expected = transcript(&bytes);
+        let written = run_program(&bytes);
+        assert!(
+            written == expected,
+            "seed {seed}, input {sort}: {:?}\nprogram: {}\nreference: {}",
+            String::from_utf8_lossy(&bytes),
+            String::from_utf8_lossy(&written),
+            String::from_utf8_lossy(&expected)
+        );
+    }
+}
+
+#[test]
+fn instance_p2() {
+    let expected = "1 0 7 1\n2 0 1 3\n3 0 0 0\n4 0 0 0\n7 0 1 1\nlisted 7\nclass 3\nmessages 5\n";
+    assert_eq!(run_program(b"1;1000;1000;500;6;10\n0;7;3\n"), expected.as_bytes());
+}
+
+#[test]
+fn worklist_length() {
+    let settings = b"1;1000;1000;500;6;10\n".to_vec();
+    let rubbish = |n: usize| [settings.clone(), vec![b'x'; n]].concat();
+    assert_eq!(run_program(&rubbish(8192)), b"refused 13\n");
+    assert_eq!(run_program(&rubbish(8193)), b"refused 4\n");
+    // The longest settings line, and one byte more than a worklist may have: all that is read.
+    let longest = b"9999999;9999999;9999999;9999999;9999999;9999999\n".to_vec();
+    assert_eq!(run_program(&[longest, vec![b'x'; 8193]].concat()), b"refused 1\n");
+}

@@ -2,3 +2,6 @@
 pub mod RefusalLaws
 pub mod BatchLaws
 pub mod WalkLaws
+pub mod Again
+pub mod Elem
+pub mod Tail

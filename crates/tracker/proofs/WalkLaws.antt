@@ -74,6 +74,11 @@ batchRest-on settings room batch arrival rest goes =
 
 -- ---- The call so far
 
+-- Where the call stands: its answer so far, and lent memory and log.
+pub record Stand : Type 0 where
+  pub answer : BatchAnswer
+  pub lent : BatchLent
+
 pub record Goes (call : BatchCall) (rest : List Arrival) (answer : BatchAnswer) (lent : BatchLent)
     : Type 0 where
   pub start-accepted : startRefusal call ≡ accepted

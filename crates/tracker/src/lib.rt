@@ -150,3 +150,31 @@ pub fn run_one(
         log,
     )
 }
+
+// The batch call: a lent run of arrivals, walked one by one until one is refused.
+pub fn run_batch(
+    settings: Settings,
+    sites: Sites,
+    coordinator: CoordinatorRecord,
+    arrivals: &[Arrival],
+    site_memory: &mut [Word],
+    coordinator_memory: &mut [u64],
+    log: &mut [u64],
+) -> BatchAnswer
+    ensures { λ r. ⌜ BatchSays (record { settings = settings; sites = sites; coordinator = coordinator; arrivals = now (arrivals .entry); siteMemory = now («site_memory» .entry); coordinatorMemory = now («coordinator_memory» .entry); log = now (log .entry) }) (lentOf (now («site_memory» .exit)) (now («coordinator_memory» .exit)) (now (log .exit))) r ⌝ }
+{
+    let mut answer = open_batch(settings, sites, coordinator, site_memory, coordinator_memory);
+    let mut i: usize = 0;
+    while i < arrivals.len() && answer.refusal == 0 {
+        answer = batch_one(
+            settings,
+            answer,
+            arrivals[i],
+            site_memory,
+            coordinator_memory,
+            log,
+        );
+        i += 1;
+    }
+    answer
+}

@@ -163,7 +163,13 @@ pub fn run_batch(
 ) -> BatchAnswer
     ensures { λ r. ⌜ BatchSays (record { settings = settings; sites = sites; coordinator = coordinator; arrivals = now (arrivals .entry); siteMemory = now («site_memory» .entry); coordinatorMemory = now («coordinator_memory» .entry); log = now (log .entry) }) (lentOf (now («site_memory» .exit)) (now («coordinator_memory» .exit)) (now (log .exit))) r ⌝ }
 {
-    let mut answer = open_batch(settings, sites, coordinator, site_memory, coordinator_memory);
+    let mut answer = open_batch(
+        settings,
+        sites,
+        coordinator,
+        site_memory,
+        coordinator_memory,
+    );
     let mut i: usize = 0;
     while i < arrivals.len() && answer.refusal == 0 {
         answer = batch_one(

@@ -84,11 +84,25 @@ use Rattle.tracker.proofs.run_batch.Code as code
 use Rattle.tracker.proofs.run_batch.Code.Mir as m
 
 abbrev stayed : Stays (fun.ended .signature .params) (fun.ended .kept)
-stayed =
-    (stay-none (λ _. S.the-row) yes, (stay-none (λ _. P.the-row) yes,
-    (stay-none (λ _. D.the-row) yes, (stay-none-slice (0 ∷ []) tt (plain (λ _. T.the-row)) yes,
-    (stay-slice (1 ∷ []) tt (plain (λ _. u32)), (stay-slice (2 ∷ []) tt (plain (λ _. u64)),
-    (stay-slice (3 ∷ []) tt (plain (λ _. u64)), tt)))))))
+stayed = (
+  stay-none (λ _. S.the-row) yes,
+  (
+    stay-none (λ _. P.the-row) yes,
+    (
+      stay-none (λ _. D.the-row) yes,
+      (
+        stay-none-slice (0 ∷ []) tt (plain (λ _. T.the-row)) yes,
+        (
+          stay-slice (1 ∷ []) tt (plain (λ _. u32)),
+          (
+            stay-slice (2 ∷ []) tt (plain (λ _. u64)),
+            (stay-slice (3 ∷ []) tt (plain (λ _. u64)), tt),
+          ),
+        ),
+      ),
+    ),
+  ),
+)
 
 fits-at : (i n : ℕ) → i < n → n * 12 < 2 ^ 63 → i * 12 < 2 ^ 64
 fits-at i n l g = omega (arith, l, g)
@@ -169,13 +183,13 @@ abbrev Ones : {M : Type 1} (𝓤 : URA M) (H : Heap 𝓤) (A : Atoms 𝓤) (mem 
 Ones 𝓤 H A mem run = tripleOf 𝓤 H A one.signature (one.spec 𝓤 H A mem run)
 
 module _ {M : Type 1} (𝓤 : URA M) (H : Heap 𝓤) (A : Atoms 𝓤) (W : Given 𝓤 H A)
-  (mem : Memory → SProp 𝓤) (run : Routine → Fun 𝓤)
-  (κ κ₁ κ₂ κ₃ : Lft) (q q₁ q₂ q₃ : Share)
-  (b o : ℕ) (γ : GName) (ys : List Arrival)
-  (b₁ o₁ : ℕ) (γ₁ : GName) (ms₀ : List ℕ)
-  (b₂ o₂ : ℕ) (γ₂ : GName) (cs₀ : List ℕ)
-  (b₃ o₃ : ℕ) (γ₃ : GName) (ns₀ : List ℕ)
-  (t₀ : Settings) (p₀ : Sites) (d₀ : CoordinatorRecord) where
+    (mem : Memory → SProp 𝓤) (run : Routine → Fun 𝓤)
+    (κ κ₁ κ₂ κ₃ : Lft) (q q₁ q₂ q₃ : Share)
+    (b o : ℕ) (γ : GName) (ys : List Arrival)
+    (b₁ o₁ : ℕ) (γ₁ : GName) (ms₀ : List ℕ)
+    (b₂ o₂ : ℕ) (γ₂ : GName) (cs₀ : List ℕ)
+    (b₃ o₃ : ℕ) (γ₃ : GName) (ns₀ : List ℕ)
+    (t₀ : Settings) (p₀ : Sites) (d₀ : CoordinatorRecord) where
   -- All that the call is given.
   abbrev asked : BatchCall
   asked = record {
@@ -220,10 +234,16 @@ module _ {M : Type 1} (𝓤 : URA M) (H : Heap 𝓤) (A : Atoms 𝓤) (W : Given
   elem i = getD ys i none
 
   abbrev bound : walkOf 𝓤 H A fun.ended stayed (fun.clauses 𝓤 H A mem run) .Ghost
-  bound =
-      (((κ, (κ₁, (κ₂, (κ₃, tt)))), (q, (q₁, (q₂, (q₃, tt)))), tt,
+  bound = (
+    (
+      (κ, (κ₁, (κ₂, (κ₃, tt)))),
+      (q, (q₁, (q₂, (q₃, tt)))),
+      tt,
       (t₀, (p₀, (d₀, (x, (xm γ₁ ms₀, (xc γ₂ cs₀, (xl γ₃ ns₀, tt))))))),
-      (VS t₀ ∷ [], (VP p₀ ∷ [], (VD d₀ ∷ [], (v ∷ [], (vm ∷ [], (vc ∷ [], (vl ∷ [], tt)))))))), tt)
+      (VS t₀ ∷ [], (VP p₀ ∷ [], (VD d₀ ∷ [], (v ∷ [], (vm ∷ [], (vc ∷ [], (vl ∷ [], tt))))))),
+    ),
+    tt,
+  )
 
   abbrev Post : Val → SProp 𝓤
   Post = walkOf 𝓤 H A fun.ended stayed (fun.clauses 𝓤 H A mem run) .post bound
@@ -290,9 +310,16 @@ module _ {M : Type 1} (𝓤 : URA M) (H : Heap 𝓤) (A : Atoms 𝓤) (W : Given
     opens-passed = (t₀, (p₀, (d₀, (xm δ₁ ms₀, (xc δ₂ cs₀, tt)))))
 
     abbrev opens-to : Opens 𝓤 H A mem run .Ghost
-    opens-to =
-        (((ν₁ ∷ [], (ν₂ ∷ [], tt)), (fullShare, (fullShare, tt)), tt, opens-passed,
-        (VS t₀ ∷ [], (VP p₀ ∷ [], (VD d₀ ∷ [], (vm ∷ [], (vc ∷ [], tt)))))), tt)
+    opens-to = (
+      (
+        (ν₁ ∷ [], (ν₂ ∷ [], tt)),
+        (fullShare, (fullShare, tt)),
+        tt,
+        opens-passed,
+        (VS t₀ ∷ [], (VP p₀ ∷ [], (VD d₀ ∷ [], (vm ∷ [], (vc ∷ [], tt))))),
+      ),
+      tt,
+    )
 
     abbrev opens-lent : List (Item 𝓤)
     opens-lent =
@@ -316,14 +343,34 @@ module _ {M : Type 1} (𝓤 : URA M) (H : Heap 𝓤) (A : Atoms 𝓤) (W : Given
   -- One arrival: the log is lent too, for ν₃ under δ₃.
   module _ (s : Stand) (a : Arrival) (ν₁ ν₂ ν₃ : ℕ) (δ₁ δ₂ δ₃ : GName) where
     abbrev passed : Settings × (BatchAnswer × (Arrival × (RefT (List ℕ) × (RefT (List ℕ) × (RefT (List ℕ) × Unit {0})))))
-    passed =
-        (t₀, (s .answer, (a, (xm δ₁ (s .lent .siteMemory), (xc δ₂ (s .lent .coordinatorMemory),
-        (xl δ₃ (s .lent .log), tt))))))
+    passed = (
+      t₀,
+      (
+        s .answer,
+        (
+          a,
+          (
+            xm δ₁ (s .lent .siteMemory),
+            (
+              xc δ₂ (s .lent .coordinatorMemory),
+              (xl δ₃ (s .lent .log), tt),
+            ),
+          ),
+        ),
+      ),
+    )
 
     abbrev to : Ones 𝓤 H A mem run .Ghost
-    to =
-        (((ν₁ ∷ [], (ν₂ ∷ [], (ν₃ ∷ [], tt))), (fullShare, (fullShare, (fullShare, tt))), tt, passed,
-        (VS t₀ ∷ [], (VK (s .answer) ∷ [], (VT a ∷ [], (vm ∷ [], (vc ∷ [], (vl ∷ [], tt))))))), tt)
+    to = (
+      (
+        (ν₁ ∷ [], (ν₂ ∷ [], (ν₃ ∷ [], tt))),
+        (fullShare, (fullShare, (fullShare, tt))),
+        tt,
+        passed,
+        (VS t₀ ∷ [], (VK (s .answer) ∷ [], (VT a ∷ [], (vm ∷ [], (vc ∷ [], (vl ∷ [], tt)))))),
+      ),
+      tt,
+    )
 
     abbrev lent-all : List (Item 𝓤)
     lent-all =
@@ -351,10 +398,10 @@ module _ {M : Type 1} (𝓤 : URA M) (H : Heap 𝓤) (A : Atoms 𝓤) (W : Given
   -- ---- The loop
 
   module _ (𝓣 : Tables 𝓤 H)
-    (known : Triple 𝓤 (𝓣 .C #tracker·batch-one) (Ones 𝓤 H A mem run))
-    (g : Room T.the-row n) (gm : Room u32 (length ms₀)) (gc : Room u64 (length cs₀))
-    (gl : Room u64 (length ns₀)) (p : Passed)
-    (l₀ l₁ l₂ l₃ l₄ l₅ l₆ l₇ l₈ l₉ l₁₀ l₁₁ l₁₂ l₁₃ l₁₄ l₁₅ l₁₆ l₁₇ l₁₈ l₁₉ l₂₀ l₂₁ l₂₂ l₂₃ l₂₄ : ℕ) where
+      (known : Triple 𝓤 (𝓣 .C #tracker·batch-one) (Ones 𝓤 H A mem run))
+      (g : Room T.the-row n) (gm : Room u32 (length ms₀)) (gc : Room u64 (length cs₀))
+      (gl : Room u64 (length ns₀)) (p : Passed)
+      (l₀ l₁ l₂ l₃ l₄ l₅ l₆ l₇ l₈ l₉ l₁₀ l₁₁ l₁₂ l₁₃ l₁₄ l₁₅ l₁₆ l₁₇ l₁₈ l₁₉ l₂₀ l₂₁ l₂₂ l₂₃ l₂₄ : ℕ) where
     abbrev C : Calls 𝓤 H
     C = 𝓣 .C
 
@@ -439,8 +486,8 @@ module _ {M : Type 1} (𝓤 : URA M) (H : Heap 𝓤) (A : Atoms 𝓤) (W : Given
     more : (i : ℕ) (s : Stand) (X : SProp 𝓤) → i < n → eqb (s .answer .refusal) 0 ≡ true
         → OneAsks t₀ (s .answer) (s .lent) → Good (s .answer) → Same (s .lent)
         → ((s′ : Stand) → Good (s′ .answer) → Same (s′ .lent)
-            → OneSays t₀ (elem i) (s .answer) (s .lent) (s′ .answer) (s′ .lent)
-            → ent 𝓤 (⋆ 𝓤 H A (At (i + 1) s′)) X)
+        → OneSays t₀ (elem i) (s .answer) (s .lent) (s′ .answer) (s′ .lent)
+        → ent 𝓤 (⋆ 𝓤 H A (At (i + 1) s′)) X)
         → ent 𝓤 (⋆ 𝓤 H A (At i s)) (Wp 𝓤 H C Λ En m.turn-1 (afterTurn 𝓤 H X Left))
     unfolding afterTurn
     more i s X l zero-yet asks gs same k =
@@ -694,8 +741,8 @@ module _ {M : Type 1} (𝓤 : URA M) (H : Heap 𝓤) (A : Atoms 𝓤) (W : Given
         (walked-open asked r (ws .1 .1 .1 .0) (ws .1 .1 .1 .1 .0) (e .0) (e .1) (e .2)))))))))))))
 
   module _ (𝓣 : Tables 𝓤 H)
-    (opens-known : Triple 𝓤 (𝓣 .C #tracker·open-batch) (Opens 𝓤 H A mem run))
-    (known : Triple 𝓤 (𝓣 .C #tracker·batch-one) (Ones 𝓤 H A mem run)) where
+      (opens-known : Triple 𝓤 (𝓣 .C #tracker·open-batch) (Opens 𝓤 H A mem run))
+      (known : Triple 𝓤 (𝓣 .C #tracker·batch-one) (Ones 𝓤 H A mem run)) where
     walk : Passed → Room T.the-row n → Room u32 (length ms₀) → Room u64 (length cs₀)
         → Room u64 (length ns₀)
         → ent 𝓤
@@ -732,20 +779,46 @@ module _ {M : Type 1} (𝓤 : URA M) (H : Heap 𝓤) (A : Atoms 𝓤) (W : Given
         begins 𝓣 known g gm gc gl p l₀ l₁ l₂ l₃ l₄ l₅ l₆ l₇ l₈ l₉ l₁₀ l₁₁ l₁₂ l₁₃ l₁₄ l₁₅ l₁₆ l₁₇ l₁₈ l₁₉ l₂₀ l₂₁ l₂₂ l₂₃ l₂₄ opens-known)))))))))))))))))))))))))
 
 module _ {M : Type 1} (𝓤 : URA M) (H : Heap 𝓤) (A : Atoms 𝓤) (W : Given 𝓤 H A)
-  (mem : Memory → SProp 𝓤) (run : Routine → Fun 𝓤) (𝓣 : Tables 𝓤 H)
-  (opens-known : Triple 𝓤 (𝓣 .C #tracker·open-batch) (Opens 𝓤 H A mem run))
-  (known : Triple 𝓤 (𝓣 .C #tracker·batch-one) (Ones 𝓤 H A mem run)) where
+    (mem : Memory → SProp 𝓤) (run : Routine → Fun 𝓤) (𝓣 : Tables 𝓤 H)
+    (opens-known : Triple 𝓤 (𝓣 .C #tracker·open-batch) (Opens 𝓤 H A mem run))
+    (known : Triple 𝓤 (𝓣 .C #tracker·batch-one) (Ones 𝓤 H A mem run)) where
   walks : Walks 𝓤 H A fun.ended stayed (WpFn 𝓤 H (𝓣 .C) (𝓣 .Λ) code.function)
       (fun.clauses 𝓤 H A mem run)
   walks =
       walked 𝓤 H A fun.ended stayed (fun.clauses 𝓤 H A mem run)
       (WpFn 𝓤 H (𝓣 .C) (𝓣 .Λ) code.function)
-      (λ κs. (LL.vals S.the-type S′.the-laws, (LL.vals P.the-type P′.the-laws, (LL.vals D.the-type D′.the-laws,
-      (slice-vals, (slice-vals, (slice-vals, (slice-vals, tt))))))))
-      (λ κs. (LL.tells S.the-type S′.the-laws, (LL.tells P.the-type P′.the-laws, (LL.tells D.the-type D′.the-laws,
-      (shr-slice-tells (named 0) (κs .0) T.the-row, (mut-slice-tells (named 1) (κs .1 .0) u32,
-      (mut-slice-tells (named 2) (κs .1 .1 .0) u64, (mut-slice-tells (named 3) (κs .1 .1 .1 .0) u64,
-      tt))))))))
+      (λ κs. (
+        LL.vals S.the-type S′.the-laws,
+        (
+          LL.vals P.the-type P′.the-laws,
+          (
+            LL.vals D.the-type D′.the-laws,
+            (slice-vals, (slice-vals, (slice-vals, (slice-vals, tt)))),
+          ),
+        ),
+      ))
+      (λ κs. (
+        LL.tells S.the-type S′.the-laws,
+        (
+          LL.tells P.the-type P′.the-laws,
+          (
+            LL.tells D.the-type D′.the-laws,
+            (
+              shr-slice-tells (named 0) (κs .0) T.the-row,
+              (
+                mut-slice-tells (named 1) (κs .1 .0) u32,
+                (
+                  mut-slice-tells (named 2) (κs .1 .1 .0) u64,
+                  (
+                    mut-slice-tells (named 3) (κs .1 .1 .1 .0) u64,
+                    tt,
+                  ),
+                ),
+              ),
+            ),
+          ),
+        ),
+      ))
       (λ κs qs bounds a g are. via 𝓤 _ (fst∗ 𝓤 _ (emp 𝓤))
       (walk 𝓤 H A W mem run (κs .0) (κs .1 .0) (κs .1 .1 .0) (κs .1 .1 .1 .0)
       (qs .0) (qs .1 .0) (qs .1 .1 .0) (qs .1 .1 .1 .0)
@@ -761,13 +834,25 @@ module _ {M : Type 1} (𝓤 : URA M) (H : Heap 𝓤) (A : Atoms 𝓤) (W : Given
   meets : Meets 𝓤 H A fun.signature (WpFn 𝓤 H (𝓣 .C) (𝓣 .Λ) code.function)
       (fun.spec 𝓤 H A mem run)
   meets =
-      walk-meets 𝓤 H A fun.ended stayed W
-      (goes-none 𝓤 H A W 4 (λ _. S.the-row) yes (λ κs x f. refl),
-      (goes-none 𝓤 H A W 4 (λ _. P.the-row) yes (λ κs x f. refl),
-      (goes-none 𝓤 H A W 4 (λ _. D.the-row) yes (λ κs x f. refl),
-      (goes-none-slice 𝓤 H A W 4 (0 ∷ []) tt (plain (λ _. T.the-row)) yes,
-      (goes-slice 𝓤 H A W 4 1 tt (plain (λ _. u32)), (goes-slice 𝓤 H A W 4 2 tt (plain (λ _. u64)),
-      (goes-slice 𝓤 H A W 4 3 tt (plain (λ _. u64)), tt)))))))
+      walk-meets 𝓤 H A fun.ended stayed W (
+        goes-none 𝓤 H A W 4 (λ _. S.the-row) yes (λ κs x f. refl),
+        (
+          goes-none 𝓤 H A W 4 (λ _. P.the-row) yes (λ κs x f. refl),
+          (
+            goes-none 𝓤 H A W 4 (λ _. D.the-row) yes (λ κs x f. refl),
+            (
+              goes-none-slice 𝓤 H A W 4 (0 ∷ []) tt (plain (λ _. T.the-row)) yes,
+              (
+                goes-slice 𝓤 H A W 4 1 tt (plain (λ _. u32)),
+                (
+                  goes-slice 𝓤 H A W 4 2 tt (plain (λ _. u64)),
+                  (goes-slice 𝓤 H A W 4 3 tt (plain (λ _. u64)), tt),
+                ),
+              ),
+            ),
+          ),
+        ),
+      )
       (fun.clauses 𝓤 H A mem run) (WpFn 𝓤 H (𝓣 .C) (𝓣 .Λ) code.function)
       (WpFn-mono 𝓤 H (W .laws) 𝓣 code.function) walks
 

@@ -60,7 +60,9 @@ pub struct Settings {
     pub universe: u32,
 }
 
-// One element of the stream: document 01's draw. `item` is its code, `value` its volume class.
+// One element of the stream: document 01's draw. `item` is its code, `value` its volume class. Laid
+// out as C lays it out, so that a caller in C or Rust can lend a run of them to the batch call.
+#[repr(C)]
 pub struct Arrival {
     pub site: u32,
     pub item: u32,

@@ -4,6 +4,7 @@
 --   listRefusal, marginRefusal        the chains of tests; the quantile has the memory tests alone
 --   Lists, ReadsMargin, ReadsQuantile the promises
 --   ReadAsks, SidesAsk, ValuesAsk     what is asked inside: a coordinator that passed its tests
+--   WriteAsks, Writes                 the pass that writes the list
 use mathlib.Core.Path.{_≡_}
 use mathlib.Core.Bool.{Bool, true, _&&_}
 use mathlib.Core.List.{List}
@@ -89,6 +90,22 @@ pub record ReadAsks (settings : Settings) (numbers : CoordinatorRecord) (memory 
     pub settings-accepted : settingsRefusal settings ≡ accepted
     pub memory-long : coordinatorWords settings ≤ length memory
     pub consistent : coordinatorConsistent settings (coordinatorIn settings numbers memory) ≡ true
+
+-- The heavy hitters of the coordinator that record and memory hold.
+abbrev pub hittersIn : Settings → CoordinatorRecord → List ℕ → List ℕ
+hittersIn settings numbers memory = heavyHitters settings (coordinatorIn settings numbers memory)
+
+-- The same, and a list with a place for each item that is listed.
+pub record WriteAsks (settings : Settings) (numbers : CoordinatorRecord) (memory list : List ℕ)
+    : Type 0 where
+  pub reading : ReadAsks settings numbers memory
+  pub places : length (hittersIn settings numbers memory) ≤ length list
+
+-- The listed items at the front of the list, and their number.
+pub record Writes (settings : Settings) (numbers : CoordinatorRecord) (memory before after : List ℕ)
+    (r : ℕ) : Type 0 where
+  pub count : r ≡ length (hittersIn settings numbers memory)
+  pub list : after ≡ overwrite (hittersIn settings numbers memory) before
 
 -- Both sides of the list rule fit.
 pub record SidesAsk (settings : Settings) (total number : ℕ) : Type 0 where

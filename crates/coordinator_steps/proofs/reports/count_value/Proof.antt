@@ -2,8 +2,8 @@
 use native.Mathlib.Omega.{arith}
 use borrow.Author.Tests.{eq-eqb, ne-eqb}
 use borrow.Author.Needs.{needs}
-use Rattle.coordinator_steps.proofs.count_value.Statement.{statement}
-use Rattle.coordinator_steps.proofs.count_value.Tie as tie
+use Rattle.coordinator_steps.proofs.reports.count_value.Statement.{statement}
+use Rattle.coordinator_steps.proofs.reports.count_value.Tie as tie
 
 cast-place : tie.Need-cast-place
 cast-place c = search needs

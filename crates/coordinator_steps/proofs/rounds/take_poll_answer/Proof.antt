@@ -1,8 +1,8 @@
 -- The site after this one is polled, if there is one; else the round closes.
 use borrow.Author.Tests.{lt-ltb, le-ltb}
 use borrow.Author.Needs.{needs}
-use Rattle.coordinator_steps.proofs.take_poll_answer.Statement.{statement}
-use Rattle.coordinator_steps.proofs.take_poll_answer.Tie as tie
+use Rattle.coordinator_steps.proofs.rounds.take_poll_answer.Statement.{statement}
+use Rattle.coordinator_steps.proofs.rounds.take_poll_answer.Tie as tie
 
 add-next : tie.Need-add-next
 add-next c = search needs

@@ -1,7 +1,7 @@
 -- The answer is put together from the record in its phase and the message.
 use borrow.Author.Needs.{needs}
-use Rattle.coordinator_steps.proofs.speak.Statement.{statement}
-use Rattle.coordinator_steps.proofs.speak.Tie as tie
+use Rattle.coordinator_steps.proofs.answers.speak.Statement.{statement}
+use Rattle.coordinator_steps.proofs.answers.speak.Tie as tie
 
 in-phase-requires : tie.Need-in-phase-requires
 in-phase-requires c κs = search needs

@@ -3,8 +3,8 @@ use mathlib.Core.Path.{_∙_}
 use borrow.Author.Tests.{eq-eqb, ne-eqb}
 use borrow.Author.Needs.{needs}
 use Rattle.coordinator_steps.proofs.MemoryLaws.{memory-value}
-use Rattle.coordinator_steps.proofs.take_count_report.Statement.{statement}
-use Rattle.coordinator_steps.proofs.take_count_report.Tie as tie
+use Rattle.coordinator_steps.proofs.reports.take_count_report.Statement.{statement}
+use Rattle.coordinator_steps.proofs.reports.take_count_report.Tie as tie
 
 count-value-requires : tie.Need-count-value-requires
 count-value-requires c κs = search needs

@@ -1,7 +1,7 @@
 -- The answer is put together from the record in its phase and the message of zeros.
 use borrow.Author.Needs.{needs}
-use Rattle.coordinator_steps.proofs.keep_silent.Statement.{statement}
-use Rattle.coordinator_steps.proofs.keep_silent.Tie as tie
+use Rattle.coordinator_steps.proofs.answers.keep_silent.Statement.{statement}
+use Rattle.coordinator_steps.proofs.answers.keep_silent.Tie as tie
 
 in-phase-requires : tie.Need-in-phase-requires
 in-phase-requires c κs = search needs

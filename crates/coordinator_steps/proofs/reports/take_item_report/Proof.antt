@@ -1,8 +1,8 @@
 -- The item's number gains the amount; the record stays.
 use borrow.Author.Needs.{needs}
 use Rattle.coordinator_steps.proofs.MemoryLaws.{memory-item}
-use Rattle.coordinator_steps.proofs.take_item_report.Statement.{statement}
-use Rattle.coordinator_steps.proofs.take_item_report.Tie as tie
+use Rattle.coordinator_steps.proofs.reports.take_item_report.Statement.{statement}
+use Rattle.coordinator_steps.proofs.reports.take_item_report.Tie as tie
 
 mul-memory : tie.Need-mul-memory
 mul-memory c = search needs

@@ -1,8 +1,8 @@
 -- One value left ends the halving; else the middle of the interval is probed.
 use borrow.Author.Tests.{eq-eqb, ne-eqb}
 use borrow.Author.Needs.{needs}
-use Rattle.coordinator_steps.proofs.narrow.Statement.{statement}
-use Rattle.coordinator_steps.proofs.narrow.Tie as tie
+use Rattle.coordinator_steps.proofs.rounds.narrow.Statement.{statement}
+use Rattle.coordinator_steps.proofs.rounds.narrow.Tie as tie
 
 keep-silent-requires : tie.Need-keep-silent-requires
 keep-silent-requires c κs = search needs

@@ -1,8 +1,8 @@
 -- The site after this one is probed, if there is one; else the interval is halved.
 use borrow.Author.Tests.{lt-ltb, le-ltb}
 use borrow.Author.Needs.{needs}
-use Rattle.coordinator_steps.proofs.take_probe_answer.Statement.{statement}
-use Rattle.coordinator_steps.proofs.take_probe_answer.Tie as tie
+use Rattle.coordinator_steps.proofs.rounds.take_probe_answer.Statement.{statement}
+use Rattle.coordinator_steps.proofs.rounds.take_probe_answer.Tie as tie
 
 add-gained : tie.Need-add-gained
 add-gained c = search needs

@@ -2,9 +2,10 @@
 use borrow.Author.Tests.{le-leb, lt-leb}
 use native.Mathlib.Nat.{mul-le-mul}
 use native.Mathlib.Omega.{arith}
+use Prim.Native.Nat.{_*_}
 use borrow.Author.Needs.{needs}
-use Rattle.coordinator_steps.proofs.halve.Statement.{statement}
-use Rattle.coordinator_steps.proofs.halve.Tie as tie
+use Rattle.coordinator_steps.proofs.rounds.halve.Statement.{statement}
+use Rattle.coordinator_steps.proofs.rounds.halve.Tie as tie
 
 middle-of-requires : tie.Need-middle-of-requires
 middle-of-requires c κs = search needs
@@ -25,7 +26,9 @@ narrow-requires c κs = search needs
 
 returns : tie.Need-returns
 returns c = λ memory.
-    rw (le-leb _ _ (c .before .if1 .taken))
+    let start = c .before .before .before .before .before .args in
+    rw (le-leb (start .settings .rank * start .coordinator .base) (1000 * start .sum)
+    (c .before .if1 .taken))
     (simp (c .before .before .before .before .middle-of .ensures) at (c .narrow .ensures memory))
 
 add-narrow : tie.Need-add-narrow
@@ -36,7 +39,9 @@ narrow-requires-2 c κs = search needs
 
 returns-2 : tie.Need-returns-2
 returns-2 c = λ memory.
-    rw (lt-leb _ _ (c .before .if1 .left))
+    let start = c .before .before .before .before .before .args in
+    rw (lt-leb (start .settings .rank * start .coordinator .base) (1000 * start .sum)
+    (c .before .if1 .left))
     (simp (c .before .before .before .before .middle-of .ensures) at (c .narrow2 .ensures memory))
 
 pub halve-spec : {M : Type 1} → statement M

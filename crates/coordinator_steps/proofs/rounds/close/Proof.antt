@@ -1,8 +1,8 @@
 -- The threshold that the base gives decides whether the halving starts.
 use borrow.Author.Tests.{le-leb, lt-leb}
 use borrow.Author.Needs.{needs}
-use Rattle.coordinator_steps.proofs.close.Statement.{statement}
-use Rattle.coordinator_steps.proofs.close.Tie as tie
+use Rattle.coordinator_steps.proofs.rounds.close.Statement.{statement}
+use Rattle.coordinator_steps.proofs.rounds.close.Tie as tie
 
 threshold-of-requires : tie.Need-threshold-of-requires
 threshold-of-requires c κs = search needs

@@ -81,7 +81,7 @@ step-asks settings numbers m memory none =
     record {
       settings-accepted = facts .settings-accepted;
       memory-long = facts .memory-long;
-      ready = ready-of-consistent settings (coordinatorIn settings numbers memory)
+      ready = ready-of-consistent settings numbers memory (facts .memory-long)
           (facts .consistent);
       message-accepted = rows .later-accepted;
     }
@@ -92,11 +92,11 @@ pub announce-asks : (settings : Settings) (numbers : CoordinatorRecord) (memory 
 announce-asks settings numbers memory none =
     let rows = both-accepted (coordinatorMemoryRefusal settings numbers memory) _ none in
     let facts = tested settings numbers memory (rows .first-accepted) in
-    let ready = ready-of-consistent settings (coordinatorIn settings numbers memory)
+    let ready = ready-of-consistent settings numbers memory (facts .memory-long)
     (facts .consistent) in
     record {
       settings-accepted = facts .settings-accepted;
-      phase-shape = ready .shape .phase-shape;
+      phase-sound = ready .sound .phase-sound;
     }
 
 -- ---- What is handed back

@@ -17,11 +17,10 @@ use Rattle.laws.proofs.Sums.{sumBelow-le, sumBelow-const}
 use Rattle.model.specs.declared.Settings.{Settings}
 use Rattle.model.specs.declared.Message.{Message}
 use Rattle.model.specs.declared.Phase.{Phase}
-use Rattle.model.specs.declared.Phase.the-variants.{Idle, Collecting, Probing, Announcing}
+use Rattle.model.specs.declared.Phase.the-variants.{Idle, Announcing}
 use Rattle.model.specs.Limits.{siteLimit}
 use Rattle.model.specs.Counters.{Counter}
 use Rattle.model.specs.Site.{Site, freshSite}
-use Rattle.model.specs.Coordinator.{Coordinator}
 use Rattle.model.specs.Network.{Network, siteAt}
 use Rattle.model.specs.NetworkMemory.{allArrivals}
 use Rattle.model.specs.SoundNetwork.{SoundCounter, SoundSite, sumOfPhase}

@@ -9,8 +9,7 @@ use mathlib.Core.List.{List, [], _∷_}
 use Prim.Native.Nat.{ℕ, zero, suc, _+_, _*_, _≤_, _<_}
 use native.Mathlib.Omega.{arith}
 use lib.Dec.{eqb, ltb, leb}
-use lib.ListN.{length, getD, take, drop, length-drop}
-use lib.Seq.{length-take-le}
+use lib.ListN.{length, getD, drop}
 use borrow.Author.Tests.{leb-true, eqb-true, not-false}
 use Rattle.laws.proofs.Tests.{both-true}
 use Rattle.model.specs.declared.Settings.{Settings}
@@ -19,15 +18,15 @@ use Rattle.model.specs.declared.Phase.the-variants.{Idle, Collecting, Probing, 
 use Rattle.model.specs.declared.Sites.{Sites}
 use Rattle.model.specs.declared.CoordinatorRecord.{CoordinatorRecord}
 use Rattle.model.specs.Refusals.{accepted}
-use Rattle.model.specs.Limits.{valueCount, messageLimit}
+use Rattle.model.specs.Limits.{messageLimit}
 use Rattle.model.specs.Settings.{settingsRefusal}
 use Rattle.model.specs.Site.{Site, freshSite}
 use Rattle.model.specs.SiteMemory.{siteWords, siteIn}
-use Rattle.model.specs.Coordinator.{Coordinator, isIdle}
+use Rattle.model.specs.Coordinator.{isIdle}
 use Rattle.model.specs.CoordinatorMemory.{coordinatorConsistent}
 use Rattle.model.specs.Network.{Network, siteAt}
 use Rattle.model.specs.NetworkMemory.{networkIn, sitesConsistent, sameThreshold, allPending, allArrivals, atRestTogether, networkConsistent, networkTooShort, networkRefusal}
-use Rattle.model.specs.SoundNetwork.{SoundSite, SoundPhase, SoundCoordinator, Sound}
+use Rattle.model.specs.SoundNetwork.{SoundSite, Sound}
 use Rattle.model.proofs.RefusalLaws.{both-accepted, passed}
 use Rattle.model.proofs.SettingsLaws.{settled}
 use Rattle.model.proofs.ConsistentCoordinator.{CoordinatorWithin, coordinator-sound-of, coordinator-within-of}

@@ -46,7 +46,8 @@ pub fn no_message() -> Message
     }
 }
 
-// The threshold that a base gives.
+// The threshold that a base gives. Internal: `coordinator_memory_refusal`, with which every call
+// begins, decides what it requires: accepted settings, and a base within the limit.
 pub fn threshold_of(settings: Settings, base: u64) -> u64
     requires { ⌜ ThresholdAsks settings base ⌝ }
     ensures { λ r. ⌜ r ≡ thresholdOf settings base ⌝ }
@@ -61,7 +62,8 @@ pub fn threshold_of(settings: Settings, base: u64) -> u64
 }
 
 // The next kind 7 of a coordinator that announces; after the last it is at rest. In another phase
-// it stays as it is.
+// it stays as it is. Internal: `next_announcement` of crate `coordinator` decides by its tests what
+// it requires, and for a batch the tests at its start do.
 pub fn announce_step(settings: Settings, coordinator: CoordinatorRecord) -> Answered
     requires { ⌜ AnnounceAsks settings coordinator ⌝ }
     ensures { λ r. ⌜ ((memory : List ℕ) → r ≡ answerOf
@@ -85,7 +87,8 @@ pub fn announce_step(settings: Settings, coordinator: CoordinatorRecord) -> Answ
 }
 
 // Any message that is accepted. Kinds 1 and 2 touch one number of the memory at most, the others
-// none.
+// none. Internal: `receive` of crate `coordinator` decides by its tests what it requires, and for a
+// batch the tests at its start do.
 pub fn receive_step(
     settings: Settings,
     coordinator: CoordinatorRecord,

@@ -1,5 +1,6 @@
 // Kinds 1 and 2, at a coordinator that is idle: the reports of an item and of a count. They touch
-// one number of the memory at most. The functions are internal: `receive_step` calls them.
+// one number of the memory at most. The functions are internal: `receive_step` alone calls them,
+// and what they require follows from what it requires, which the tests of `receive` decide.
 ghost use mathlib.Core.Path.{_≡_};
 ghost use Prim.Native.Nat.{_+_};
 ghost use lib.Dec.{eqb};
@@ -17,7 +18,7 @@ use model::Message;
 use model::Phase;
 use model::Settings;
 
-// A kind 1 at an idle coordinator.
+// A kind 1 at an idle coordinator. Internal: `receive` tests that its item is known.
 pub fn take_item_report(
     settings: Settings,
     coordinator: CoordinatorRecord,
@@ -46,7 +47,8 @@ fn count_value(settings: Settings, threshold: u64, value: u64, memory: &mut [u64
     }
 }
 
-// A kind 2 at an idle coordinator. The last of a round starts the collecting.
+// A kind 2 at an idle coordinator. The last of a round starts the collecting. Internal: `receive`
+// tests the signals, and the value while values are counted.
 pub fn take_count_report(
     settings: Settings,
     coordinator: CoordinatorRecord,

@@ -1,6 +1,7 @@
 // Kinds 4 and 6, the answers by which a round is closed: the pendings that are collected, and the
 // halving of the interval of values. They change the record alone. The functions are internal:
-// `receive_step` calls them.
+// `receive_step` alone calls them, and what they require follows from what it requires, which the
+// tests of `receive` decide.
 ghost use mathlib.Core.Path.{_≡_};
 ghost use mathlib.Core.List.{List};
 ghost use Prim.Native.Nat.{ℕ, _+_, _≤_, _<_};
@@ -40,7 +41,7 @@ fn close(settings: Settings, coordinator: CoordinatorRecord) -> Answered
     keep_silent(next, Phase::Announcing(0))
 }
 
-// A kind 4 from the site that is polled.
+// A kind 4 from the site that is polled. Internal: `receive` tests the site and the pending.
 pub fn take_poll_answer(
     settings: Settings,
     coordinator: CoordinatorRecord,
@@ -105,7 +106,8 @@ fn halve(
     narrow(settings, coordinator, half + 1, high)
 }
 
-// A kind 6 from the site that is probed.
+// A kind 6 from the site that is probed. Internal: `receive` tests the site, the interval and the
+// count.
 pub fn take_probe_answer(
     settings: Settings,
     coordinator: CoordinatorRecord,

@@ -29,7 +29,7 @@ use Rattle.model.proofs.RefusalLaws.{both-accepted, passed}
 use Rattle.model.proofs.SettingsLaws.{settled}
 use Rattle.coordinator_tests.proofs.Chains.{last-row}
 use Rattle.coordinator_tests.proofs.ConsistencyLaws.{histogram-part}
-use Rattle.coordinator_tests.proofs.ReadyLaws.{tested, consistent-facts}
+use Rattle.coordinator_tests.proofs.ReadyLaws.{tested, within-of-consistent}
 use Rattle.reading.specs.Contracts.{ReadAsks, SidesAsk, ValuesAsk, hittersIn, ruleHolds, listRefusal, marginRefusal}
 
 pub read-asks : (settings : Settings) (numbers : CoordinatorRecord) (memory : List ℕ)
@@ -92,13 +92,13 @@ module _ (settings : Settings) (numbers : CoordinatorRecord) (memory : List ℕ)
       → SidesAsk settings (numbers .total) (getD memory item 0)
   sides-ask item inside =
       let ranges = settled settings (asks .settings-accepted) in
-      let facts = consistent-facts settings here (asks .consistent) in
+      let within = within-of-consistent settings here (asks .consistent) in
       record {
         phi-small = ranges .phi .at-most;
         epsilon-within = ranges .phi-epsilon;
-        total-within = facts .within .total-within;
+        total-within = within .total-within;
         number-within = rw (getD-take (settings .universe) memory item 0 inside) at
-            (facts .within .estimates-within item);
+            (within .estimates-within item);
       }
 
   pub listed-is : (item : ℕ)
@@ -112,13 +112,13 @@ module _ (settings : Settings) (numbers : CoordinatorRecord) (memory : List ℕ)
       (take (settings .universe + 1024 - settings .universe) (drop (settings .universe) memory))
   values-ask =
       let ranges = settled settings (asks .settings-accepted) in
-      let facts = consistent-facts settings here (asks .consistent) in
+      let within = within-of-consistent settings here (asks .consistent) in
       let part = histogram-part settings memory in
       record {
         rank-small = ranges .rank .at-most;
-        total-within = facts .within .total-within;
+        total-within = within .total-within;
         few = rw (part, length-take) (omega arith);
-        counts-within = rw part (facts .histogram-all);
+        counts-within = rw part (within .histogram-within);
       }
 
 -- ---- The least value

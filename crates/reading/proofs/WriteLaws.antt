@@ -44,7 +44,8 @@ module _ (settings : Settings) (c : Coordinator) where
         (drop-cons before count 0 left)
         ∙ set-at (listedBelow settings c item) _ _ item count (sym (so-far .counting .counted))
         ∙ sym (append-snoc (listedBelow settings c item) item (drop (suc count) before))
-        ∙ ap (λ (l : List ℕ). l ++ drop (suc count) before) (sym (listed-yes settings c item yes-listed))
+        ∙ ap (λ (l : List ℕ). l ++ drop (suc count) before)
+        (sym (listed-yes settings c item yes-listed))
         ∙ ap (λ (n : ℕ). listedBelow settings c (item + 1) ++ drop n before) (sym (add-one count));
   }
 

@@ -11,7 +11,7 @@ use mathlib.Core.List.{List}
 use lib.IntN.{pos}
 use Prim.Native.Nat.{ℕ, _-_, _*_, _≤_}
 use lib.Dec.{leb, ltb}
-use lib.ListN.{length}
+use lib.ListN.{length, getD}
 use Rattle.model.specs.declared.Settings.{Settings}
 use Rattle.model.specs.declared.CoordinatorRecord.{CoordinatorRecord}
 use Rattle.model.specs.declared.Quantile.the-variants.{Nothing}
@@ -20,7 +20,7 @@ use Rattle.model.specs.Refusals.{when, _orElse_, accepted, unknownItem, listToo
 use Rattle.model.specs.Limits.{valueCount, coordinatorLimit}
 use Rattle.model.specs.Settings.{settingsRefusal}
 use Rattle.model.specs.SiteMemory.{overwrite}
-use Rattle.model.specs.CoordinatorMemory.{coordinatorIn, coordinatorWords, coordinatorConsistent, coordinatorMemoryRefusal, allWithin}
+use Rattle.model.specs.CoordinatorMemory.{coordinatorIn, coordinatorWords, coordinatorConsistent, coordinatorMemoryRefusal}
 use Rattle.model.specs.Reading.{heavyHitters, margin, quantileOf}
 use Rattle.reading.specs.declared.Listed.{Listed}
 use Rattle.reading.specs.declared.Margin.{Margin}
@@ -126,4 +126,4 @@ pub record ValuesAsk (rank total : ℕ) (counts : List ℕ) : Type 0 where
   pub rank-small : rank ≤ 1000
   pub total-within : total ≤ coordinatorLimit
   pub few : length counts ≤ valueCount
-  pub counts-within : allWithin coordinatorLimit counts ≡ true
+  pub counts-within : (value : ℕ) → getD counts value 0 ≤ coordinatorLimit

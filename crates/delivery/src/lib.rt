@@ -41,7 +41,7 @@ pub struct Underway {
 }
 
 // A message waits last.
-fn join(queue: Queue, message: Message) -> Queue
+pub fn join(queue: Queue, message: Message) -> Queue
     ensures { λ r. ⌜ r ≡ joined queue message ⌝ }
 {
     if queue.count == 0 {
@@ -60,7 +60,7 @@ fn join(queue: Queue, message: Message) -> Queue
 }
 
 // The messages that wait without their head.
-fn take_head(queue: Queue) -> Queue
+pub fn take_head(queue: Queue) -> Queue
     ensures { λ r. ⌜ r ≡ withoutHead queue ⌝ }
 {
     let none = coordinator_steps::no_message();
@@ -100,7 +100,7 @@ pub fn record_of(sites: Sites, which: usize) -> SiteRecord
 }
 
 // The record of one site changed.
-fn with_record(sites: Sites, which: usize, numbers: SiteRecord) -> Sites
+pub fn with_record(sites: Sites, which: usize, numbers: SiteRecord) -> Sites
     requires { ⌜ which < 32 ⌝ }
     ensures { λ r. ⌜ r ≡ withRecord sites which numbers ⌝ }
 {
@@ -173,7 +173,7 @@ fn send_two(
 }
 
 // Whether a message is for the coordinator: the kinds 1, 2, 4 and 6.
-fn to_coordinator(message: Message) -> bool
+pub fn to_coordinator(message: Message) -> bool
     ensures { λ r. ⌜ r ≡ toCoordinator message ⌝ }
 {
     if message.kind == 1 {

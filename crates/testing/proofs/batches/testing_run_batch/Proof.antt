@@ -50,7 +50,7 @@ use Rattle.model.specs.declared.CoordinatorRecord.{CoordinatorRecord}
 use Rattle.tracker.specs.declared.BatchAnswer.{BatchAnswer}
 use Rattle.tracker.specs.Batch.{BatchSays}
 use Rattle.testing.specs.declared.batches.Opening.{Opening}
-use Rattle.testing.specs.Calls.{lent}
+use Rattle.testing.specs.Openings.{change}
 use Rattle.testing.specs.Batch.{Opens, ClosesAsk, Closes, BatchLends, callOf, leftBy}
 use Rattle.testing.proofs.Batching.{closes-ask, batch-exported}
 use Rattle.model.proofs.Settings as S
@@ -236,7 +236,7 @@ module _ {M : Type 1} (𝓤 : URA M) (H : Heap 𝓤) (A : Atoms 𝓤) (W : Given
 
   -- The opening.
   abbrev Opened : Opening → List ℕ → List ℕ → Type 0
-  Opened r ss cs = Opens (x₀ .now) (lent (x₁ .now) ss) (lent (x₂ .now) cs) (length (x₇ .now)) r
+  Opened r ss cs = Opens (x₀ .now) (change (x₁ .now) ss) (change (x₂ .now) cs) (length (x₇ .now)) r
 
   abbrev opens-passed : GName → GName
       → RefT (List ℕ) × (RefT (List ℕ) × (RefT (List ℕ) × (ℕ × Unit {0})))
@@ -341,7 +341,7 @@ module _ {M : Type 1} (𝓤 : URA M) (H : Heap 𝓤) (A : Atoms 𝓤) (W : Given
   module _ (opening : Opening) (done : BatchAnswer) (ss cs : List ℕ) where
     abbrev Closed : ℕ → List ℕ → List ℕ → List ℕ → Type 0
     Closed r ss′ cs′ os =
-        Closes (opening .fits) done (lent ss ss′) (lent cs cs′) (lent (x₇ .now) os) r
+        Closes (opening .fits) done (change ss ss′) (change cs cs′) (change (x₇ .now) os) r
 
     abbrev closes-passed : Opening × (BatchAnswer
         × (RefT (List ℕ) × (RefT (List ℕ) × (RefT (List ℕ) × Unit {0}))))
@@ -419,12 +419,12 @@ module _ {M : Type 1} (𝓤 : URA M) (H : Heap 𝓤) (A : Atoms 𝓤) (W : Given
     where
       lends : BatchLends
       lends = record {
-        sites = lent (x₁ .now) ss′;
-        coordinator = lent (x₂ .now) cs′;
-        siteMemory = lent (x₄ .now) ms;
-        coordinatorMemory = lent (x₅ .now) ds;
-        log = lent (x₆ .now) ns;
-        out = lent (x₇ .now) os;
+        sites = change (x₁ .now) ss′;
+        coordinator = change (x₂ .now) cs′;
+        siteMemory = change (x₄ .now) ms;
+        coordinatorMemory = change (x₅ .now) ds;
+        log = change (x₆ .now) ns;
+        out = change (x₇ .now) os;
       }
 
   -- ---- The walk

@@ -1,8 +1,8 @@
 -- Test by test, as `siteLent`.
 use mathlib.Core.Path.{sym, _∙_}
 use borrow.Author.Needs.{needs}
-use Rattle.testing.proofs.lends.site_lent.Statement.{statement}
-use Rattle.testing.proofs.lends.site_lent.Tie as tie
+use Rattle.testing.proofs.openings.site_lent.Statement.{statement}
+use Rattle.testing.proofs.openings.site_lent.Tie as tie
 
 places-lent-requires : tie.Need-places-lent-requires
 places-lent-requires c κs = search needs

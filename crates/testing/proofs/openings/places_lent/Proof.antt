@@ -1,7 +1,7 @@
 -- Test by test, as `placesLent`.
 use borrow.Author.Tests.{lt-leb, le-leb}
-use Rattle.testing.proofs.lends.places_lent.Statement.{statement}
-use Rattle.testing.proofs.lends.places_lent.Tie as tie
+use Rattle.testing.proofs.openings.places_lent.Statement.{statement}
+use Rattle.testing.proofs.openings.places_lent.Tie as tie
 
 returns : tie.Need-returns
 returns c = rw (lt-leb 6 _ (c .if1 .taken))

@@ -1,3 +1,4 @@
 -- The boundary's numbers, and what its calls promise.
 pub mod Numbers
 pub mod Calls
+pub mod Batch

@@ -1,5 +1,6 @@
 // The test boundary: every call of the tracker on numbers and slices of numbers, for tests in other
 // languages. No product crate names it.
+pub mod batches;
 pub mod coordinators;
 pub mod lends;
 pub mod numbers;

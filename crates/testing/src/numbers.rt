@@ -3,7 +3,7 @@ ghost use mathlib.Core.Path.{_≡_};
 ghost use Prim.Native.Nat.{_≤_, max};
 ghost use lib.ListN.{length};
 ghost use Rattle.model.specs.SiteMemory.{overwrite};
-ghost use Rattle.testing.specs.Numbers.{settingsFrom, siteFrom, siteNumbers, sitesNumbers, oneMessage, twoMessages, phaseFrom, phaseNumbers, foundNumbers, greatestHeld, coordinatorFits, coordinatorFrom, coordinatorNumbers, quantileNumbers};
+ghost use Rattle.testing.specs.Numbers.{settingsFrom, siteFrom, siteNumbers, sitesFrom, sitesNumbers, oneMessage, twoMessages, phaseFrom, phaseNumbers, foundNumbers, greatestHeld, coordinatorFits, coordinatorFrom, coordinatorNumbers, quantileNumbers};
 use model::CoordinatorRecord;
 use model::Message;
 use model::Phase;
@@ -66,6 +66,35 @@ pub fn write_site(numbers: &mut [u64], site: SiteRecord)
 }
 
 // All records and the count of messages.
+pub fn sites_from(numbers: &[u64]) -> Sites
+    requires { ⌜ 129 ≤ length (now numbers) ⌝ }
+    ensures { λ r. ⌜ r ≡ sitesFrom (now (numbers .entry)) ⌝ }
+{
+    let zero = SiteRecord {
+        arrivals: 0,
+        pending: 0,
+        threshold: 0,
+        used: 0,
+    };
+    let mut records = [zero; 32];
+    let mut i = 0;
+    while i < 32 {
+        let at = 4 * i;
+        records[i] = SiteRecord {
+            arrivals: numbers[at],
+            pending: numbers[at + 1],
+            threshold: numbers[at + 2],
+            used: numbers[at + 3],
+        };
+        i += 1;
+    }
+    Sites {
+        records: records,
+        messages: numbers[128],
+    }
+}
+
+// Their numbers.
 pub fn write_sites(numbers: &mut [u64], sites: Sites)
     requires { ⌜ 129 ≤ length (now numbers) ⌝ }
     ensures { λ r. ⌜ now (numbers .exit) ≡ overwrite (sitesNumbers sites) (now (numbers .entry)) ⌝ }

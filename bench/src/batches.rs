@@ -22,8 +22,8 @@ const BATCH: usize = 1000;
 /// Where in the stream a batch is timed: after so many arrivals.
 const PLACES: [u64; 4] = [0, 100_000, 1_000_000, 10_000_000];
 /// How often a batch is timed: for about so long, but not less often than this.
-const NANOSECONDS: f64 = 250_000_000.0;
-const ROUNDS: (usize, usize) = (20, 400);
+const NANOSECONDS: f64 = 400_000_000.0;
+const ROUNDS: (usize, usize) = (60, 800);
 
 /// The rows up to a place of the stream.
 pub fn measure(last: u64) {

@@ -17,7 +17,10 @@ const BASE: u64 = 900_000_000;
 enum Meets {
     Counted,
     Unused,
+    /// New items in rising order, so that the counters of least count stand together.
     Replaced,
+    /// New items in no order, so that those counters stand anywhere.
+    ReplacedAnywhere,
 }
 
 /// One site with all its counters in use: the items 0 to capacity - 1, with equal counts.
@@ -43,19 +46,29 @@ fn high_threshold(settings: [u32; 6]) -> Reference {
 /// Batches of so many arrivals, each of which meets such a counter. They are taken in turns, and
 /// are so many that no replacing item is counted still when it comes again.
 fn batches(meets: Meets, capacity: u32, count: u32) -> Vec<Vec<Arrival>> {
-    let distinct =
-        if meets == Meets::Replaced { (2 * capacity).next_multiple_of(count) } else { count };
-    let arrival = |number: u32| {
-        let item = match meets {
-            // Steps through all counters in no simple order.
-            Meets::Counted => number.wrapping_mul(7919) % capacity,
-            Meets::Unused => capacity - count + number,
-            Meets::Replaced => capacity + number,
-        };
-        Arrival { site: 0, item, value: number.wrapping_mul(389) % 1024 }
+    let replacing = (4 * capacity).next_multiple_of(count);
+    let items: Vec<u32> = match meets {
+        // All counters, in no simple order.
+        Meets::Counted => (0..count).map(|number| number.wrapping_mul(7919) % capacity).collect(),
+        Meets::Unused => (capacity - count..capacity).collect(),
+        Meets::Replaced => (capacity..capacity + replacing).collect(),
+        Meets::ReplacedAnywhere => shuffled((capacity..capacity + replacing).collect()),
     };
-    let all: Vec<Arrival> = (0..distinct).map(arrival).collect();
+    let arrival = |(number, &item): (usize, &u32)| {
+        let value = (number as u32).wrapping_mul(389) % 1024;
+        Arrival { site: 0, item, value }
+    };
+    let all: Vec<Arrival> = items.iter().enumerate().map(arrival).collect();
     all.chunks(count as usize).map(<[Arrival]>::to_vec).collect()
+}
+
+fn shuffled(mut items: Vec<u32>) -> Vec<u32> {
+    let mut state: u64 = 1;
+    for place in (1..items.len()).rev() {
+        state = state.wrapping_mul(6_364_136_223_846_793_005).wrapping_add(1);
+        items.swap(place, (state >> 33) as usize % (place + 1));
+    }
+    items
 }
 
 /// A network that takes batches in turns, with so many counters in use before each.
@@ -120,10 +133,13 @@ fn measure_step(start: &Reference, used: u64, batches: Vec<Vec<Arrival>>) -> Tim
 /// The rows for a site with so many counters.
 pub fn measure(capacity: u32, table: &mut Table) {
     let epsilon = 6000_u32.div_ceil(capacity).max(2);
-    let start = high_threshold([1, epsilon, 1000, 500, capacity, 3 * capacity + 1000]);
-    for (name, meets) in
-        [("counted", Meets::Counted), ("unused", Meets::Unused), ("replaced", Meets::Replaced)]
-    {
+    let start = high_threshold([1, epsilon, 1000, 500, capacity, 5 * capacity + 1000]);
+    for (name, meets) in [
+        ("counted", Meets::Counted),
+        ("unused", Meets::Unused),
+        ("replaced, in order", Meets::Replaced),
+        ("replaced, anywhere", Meets::ReplacedAnywhere),
+    ] {
         let count = match meets {
             Meets::Unused => capacity.min(100),
             _ if capacity > 1000 => 100,

@@ -112,7 +112,7 @@ const MET: [u8; 14] = [
 fn few_sites() {
     let mut random = Random::new(2_001);
     let mut both = Both::new();
-    for round in 0..100 {
+    for round in 0..200 {
         for (kind, &stream) in ALL.iter().enumerate() {
             let sites = random.pick(&[1, 1, 2, 3, 4, 7]);
             let numbers = some_settings(&mut random, sites);
@@ -120,7 +120,7 @@ fn few_sites() {
             run(&mut both, numbers, stream, seed, 60, &[0, 1, 2, 7, 40]);
         }
     }
-    both.enough(100_000, &MET, 50);
+    both.enough(1_000_000, &MET, 1_000);
 }
 
 #[test]
@@ -134,7 +134,7 @@ fn many_sites() {
             run(&mut both, numbers, stream, seed, 80, &[0, 1, 5, 60]);
         }
     }
-    both.enough(20_000, &[ACCEPTED, SHORT_LOG, INCONSISTENT], 50);
+    both.enough(50_000, &[ACCEPTED, SHORT_LOG, INCONSISTENT], 500);
 }
 
 /// Small epsilons, which need many counters and many arrivals for a threshold above 1.
@@ -146,6 +146,8 @@ fn many_counters() {
         [2, 10, 12, 900, 700, 1000],
         [4, 20, 20, 250, 300, 65_536],
         [3, 60, 80, 1, 100, 500],
+        [32, 40, 50, 700, 150, 2000],
+        [32, 2, 2, 500, 3000, 5000],
     ]
     .into_iter()
     .enumerate()
@@ -154,8 +156,8 @@ fn many_counters() {
             [Stream::Uniform, Stream::RoundRobin, Stream::Flood].into_iter().enumerate()
         {
             let seed = 30_000 + 100 * place as u64 + 10 * kind as u64;
-            run(&mut both, numbers, stream, seed, 24, &[0, 1, 300, 600]);
+            run(&mut both, numbers, stream, seed, 30, &[0, 1, 300, 600]);
         }
     }
-    both.enough(1_000, &[ACCEPTED, SHORT_LOG], 20);
+    both.enough(5_000, &[ACCEPTED, SHORT_LOG], 50);
 }

@@ -106,9 +106,11 @@ fn processes_do_as_the_batch_call() {
         .enumerate()
         {
             let settings = [sites, epsilon, phi, rank, capacity, universe];
-            let seed = 100 * u64::from(sites) + 10 * place as u64;
-            for (all, now) in refused.iter_mut().zip(run(settings, u64::from(draws), seed)) {
-                *all += now;
+            for seed in 0..3 {
+                let seed = 100 * u64::from(sites) + 10 * place as u64 + seed;
+                for (all, now) in refused.iter_mut().zip(run(settings, u64::from(draws), seed)) {
+                    *all += now;
+                }
             }
         }
     }

@@ -12,4 +12,5 @@ pub mod BeginLaws
 pub mod HandLaws
 pub mod HandToCoordinator
 pub mod HandToSite
+pub mod HandSteps
 pub mod RestLaws

@@ -7,7 +7,7 @@
 --   Fits                   what was given has room for the settings' network
 --   Going                  a delivery that was reached from an accepted arrival at a sound network
 --   Delivering             some delivery goes on in a state: what a step of it requires
---   StepAsks, StepSays     a step of it
+--   StepSays               what a step of it comes to
 --   EndSays                all of it
 --   ArrivalAsks            a network at rest in a state, and an arrival that it accepts
 --   BeginAsks, BeginSays   the arrival at its site, its messages going out
@@ -139,11 +139,7 @@ abbrev pub goesOn : Underway → Bool
 goesOn underway =
     not (isZero (underway .waiting .count)) || isAnnouncing (underway .coordinator .phase)
 
--- A step of a delivery that goes on, and what it comes to, whatever delivery the state holds.
-pub record StepAsks (settings : Settings) (held : State) : Type 0 where
-  pub delivering : Delivering settings held
-  pub goes-on : goesOn (held .underway) ≡ true
-
+-- What a step of a delivery comes to, whatever delivery the state holds.
 pub record StepSays (settings : Settings) (before after : State) : Type 0 where
   pub next : (u : Delivering settings before)
       → Holds settings (u .given) (u .earlier) (deliveryStep settings (u .now)) after

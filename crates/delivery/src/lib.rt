@@ -11,7 +11,9 @@ ghost use Rattle.model.specs.Messages.{toCoordinator};
 ghost use Rattle.network_memory.specs.Records.{noRecord, withRecord};
 ghost use Rattle.delivery.specs.Log.{putRecord};
 ghost use Rattle.delivery.specs.Sending.{resting, joined, withoutHead, oneCounted, sent, sentIf, sentTwo, loggedIf, loggedTwo, SendAsks, SendTwoAsks};
-ghost use Rattle.delivery.specs.Holding.{state, goesOn, Delivering, StepAsks, StepSays, EndSays, ArrivalAsks, BeginAsks, BeginSays, ArrivalSays};
+ghost use Rattle.delivery.specs.Holding.{state, goesOn, Delivering, EndSays, ArrivalAsks, BeginAsks, BeginSays, ArrivalSays};
+ghost use Rattle.delivery.specs.Handing.{coordinatorChange, changed, HandAsks, HandSays};
+use coordinator_steps::Answered;
 use counters::Word;
 use model::Arrival;
 use model::CoordinatorRecord;
@@ -39,7 +41,7 @@ pub struct Underway {
 }
 
 // A message waits last.
-fn join(queue: Queue, message: Message) -> Queue
+pub fn join(queue: Queue, message: Message) -> Queue
     ensures { λ r. ⌜ r ≡ joined queue message ⌝ }
 {
     if queue.count == 0 {
@@ -58,7 +60,7 @@ fn join(queue: Queue, message: Message) -> Queue
 }
 
 // The messages that wait without their head.
-fn take_head(queue: Queue) -> Queue
+pub fn take_head(queue: Queue) -> Queue
     ensures { λ r. ⌜ r ≡ withoutHead queue ⌝ }
 {
     let none = coordinator_steps::no_message();
@@ -98,7 +100,7 @@ pub fn record_of(sites: Sites, which: usize) -> SiteRecord
 }
 
 // The record of one site changed.
-fn with_record(sites: Sites, which: usize, numbers: SiteRecord) -> Sites
+pub fn with_record(sites: Sites, which: usize, numbers: SiteRecord) -> Sites
     requires { ⌜ which < 32 ⌝ }
     ensures { λ r. ⌜ r ≡ withRecord sites which numbers ⌝ }
 {
@@ -171,7 +173,7 @@ fn send_two(
 }
 
 // Whether a message is for the coordinator: the kinds 1, 2, 4 and 6.
-fn to_coordinator(message: Message) -> bool
+pub fn to_coordinator(message: Message) -> bool
     ensures { λ r. ⌜ r ≡ toCoordinator message ⌝ }
 {
     if message.kind == 1 {
@@ -204,44 +206,65 @@ fn goes_on(underway: Underway) -> bool
     }
 }
 
+// What a hand-over changes: the record of one site, the coordinator's and the messages that wait; and
+// the answer, if `count` is 1. Where the coordinator is handed a message no site's record changes, and
+// that of site 0 stands here as it is.
+pub struct Change {
+    pub which: usize,
+    pub site: SiteRecord,
+    pub coordinator: CoordinatorRecord,
+    pub waiting: Queue,
+    pub count: u32,
+    pub out: Message,
+}
+
+// The coordinator's answer, with so many messages waiting still.
+fn coordinator_change(sites: Sites, waiting: Queue, answer: Answered) -> Change
+    ensures { λ r. ⌜ r ≡ coordinatorChange sites waiting answer ⌝ }
+{
+    let site = record_of(sites, 0);
+    let coordinator = answer.coordinator;
+    let out = answer.out;
+    Change {
+        which: 0,
+        site: site,
+        coordinator: coordinator,
+        waiting: waiting,
+        count: answer.count,
+        out: out,
+    }
+}
+
 // One step of a delivery: the head of the messages that wait is handed over, or, where none waits, the
-// next announcement is asked for; the answer goes out.
-fn take_step(
+// next announcement is asked for. What is under way is only read, and only what changes is handed back:
+// the records of 32 sites are not copied for a message.
+fn hand_over(
     settings: Settings,
     underway: Underway,
     site_memory: &[Word],
     coordinator_memory: &mut [u64],
-    log: &mut [u64],
-) -> Underway
-    requires { ⌜ StepAsks settings (state underway (now «site_memory») (now «coordinator_memory») (now log)) ⌝ }
-    ensures { λ r. ⌜ StepSays settings (state underway (now («site_memory» .entry)) (now («coordinator_memory» .entry)) (now (log .entry))) (state r (now («site_memory» .entry)) (now («coordinator_memory» .exit)) (now (log .exit))) ⌝ }
+) -> Change
+    requires { ⌜ HandAsks settings underway (now «site_memory») (now «coordinator_memory») ⌝ }
+    ensures { λ r. ⌜ HandSays settings underway (now («site_memory» .entry)) (now («coordinator_memory» .entry)) (now («coordinator_memory» .exit)) r ⌝ }
 {
-    let mut next = underway;
+    let sites = underway.sites;
+    let coordinator = underway.coordinator;
     let waiting = underway.waiting;
     if waiting.count == 0 {
-        let coordinator = underway.coordinator;
         let answer = coordinator_steps::announce_step(settings, coordinator);
-        let after = answer.coordinator;
-        let out = answer.out;
-        next.coordinator = after;
-        return send_answer(next, answer.count, out, log);
+        return coordinator_change(sites, waiting, answer);
     }
     let message = waiting.first;
-    next.waiting = take_head(waiting);
+    let rest = take_head(waiting);
     if to_coordinator(message) {
-        let coordinator = underway.coordinator;
         let answer = coordinator_steps::receive_step(
             settings,
             coordinator,
             message,
             coordinator_memory,
         );
-        let after = answer.coordinator;
-        let out = answer.out;
-        next.coordinator = after;
-        return send_answer(next, answer.count, out, log);
+        return coordinator_change(sites, rest, answer);
     }
-    let sites = underway.sites;
     let which = message.site as usize;
     let start = which * site_memory::site_words(settings);
     let part = &site_memory[start..];
@@ -249,8 +272,30 @@ fn take_step(
     let answer = site_steps::receive_step(settings, numbers, message, part);
     let after = answer.site;
     let out = answer.reply;
-    next.sites = with_record(sites, which, after);
-    send_answer(next, answer.count, out, log)
+    Change {
+        which: which,
+        site: after,
+        coordinator: coordinator,
+        waiting: rest,
+        count: answer.count,
+        out: out,
+    }
+}
+
+// What is under way with a hand-over's changes.
+fn settle(underway: Underway, by: Change) -> Underway
+    requires { ⌜ by .which < 32 ⌝ }
+    ensures { λ r. ⌜ r ≡ changed underway by ⌝ }
+{
+    let sites = underway.sites;
+    let site = by.site;
+    let coordinator = by.coordinator;
+    let waiting = by.waiting;
+    let mut next = underway;
+    next.sites = with_record(sites, by.which, site);
+    next.coordinator = coordinator;
+    next.waiting = waiting;
+    next
 }
 
 // A delivery to its end.
@@ -266,7 +311,12 @@ fn deliver(
 {
     let mut underway = first;
     while goes_on(underway) {
-        underway = take_step(settings, underway, site_memory, coordinator_memory, log);
+        let by = hand_over(settings, underway, site_memory, coordinator_memory);
+        underway = settle(underway, by);
+        if by.count != 0 {
+            let out = by.out;
+            underway = send(underway, out, log);
+        }
     }
     underway
 }

@@ -30,7 +30,7 @@ use Rattle.model.specs.NetworkMemory.{sitesWords, networkIn, sitesConsistent, a
 use Rattle.model.proofs.RefusalLaws.{refused-same}
 use Rattle.site_memory.specs.Ready.{SiteReady}
 use Rattle.site_memory.proofs.ReadyLaws.{ready-of-consistent}
-use Rattle.coordinator_tests.proofs.ReadyLaws.{consistent-facts}
+use Rattle.model.proofs.ConsistentCoordinator.{coordinator-within-of}
 use Rattle.network_memory.specs.Records.{noRecord}
 use Rattle.network_tests.specs.Contracts.{SitesFit, NetworkFits, RecordsFit, CountsFit}
 
@@ -94,9 +94,9 @@ counts-fit {settings} {siteMemory} fits sites coordinator coordinatorNumbers sit
             omega (arith, ready j j< .pending-within, ready j j< .threshold-within);
         arrivals-within = λ j j<. ready j j< .arrivals-within;
       };
-      total-within = consistent-facts settings
+      total-within = coordinator-within-of settings
           (coordinatorIn settings coordinator coordinatorNumbers) coordinator-holds
-          .within .total-within;
+          .total-within;
     }
 
 -- ---- The rows of the test

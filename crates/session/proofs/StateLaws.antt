@@ -14,7 +14,7 @@ use Rattle.history.specs.State.{State, AtRest}
 use Rattle.history.proofs.RunSound.{sound-run}
 use Rattle.history.proofs.Invariant.{StateOk, Resting, resting}
 use Rattle.session.specs.declared.Session.{Session}
-use Rattle.session.specs.Contracts.{Represents}
+use Rattle.session.specs.Course.{Represents}
 
 abbrev pub runAfter : Session → List Arrival → Run
 runAfter session arrivals = runOf (session .settings) arrivals

@@ -1,11 +1,11 @@
--- One arrival of a batch: what the code finds and does is the model's, and a batch that took it may take
--- another.
+-- One arrival of a batch: what the code finds and does is the model's, and a batch that took it may
+-- take another.
 --
 --   one-places, refusal-is      what the refusal's test asks, and that it is the model's
+--   none-of                     no refusal found, no refusal in the model
 --   one-accepting               what delivering an accepted arrival asks
 --   holds-stopped, holds-taken  answer and lent memory then
 --   ready-next                  a batch that took an arrival may take another
---   batchFrom-on                the model's batch, arrival by arrival
 use mathlib.Core.Path.{_≡_, refl, sym, ap, _∙_, subst}
 use mathlib.Core.Bool.{Bool, true, false}
 use mathlib.Core.List.{List, [], _∷_, _++_, append-nil}
@@ -85,6 +85,14 @@ module _ {settings : Settings} {answer : BatchAnswer} {lent : BatchLent}
       (λ known. ap (λ (r : SiteRecord). r .arrivals)
       (record-read (u .ready .fits) stored (u .holds .holds) (arrival .site) known))
       (rw (written-is, log-same))
+
+  -- The code found no refusal: the model has none.
+  pub none-of : (arrival : Arrival) {number : ℕ}
+      → number
+      ≡ placesRefusal settings (answer .sites) arrival (length (lent .log)) (answer .written)
+      → number ≡ accepted
+      → oneRefusal settings room (u .batch) arrival ≡ accepted
+  none-of arrival is none = sym (refusal-is arrival) ∙ sym is ∙ none
 
   -- ---- An accepted arrival
 

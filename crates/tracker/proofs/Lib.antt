@@ -2,6 +2,7 @@
 pub mod RefusalLaws
 pub mod BatchLaws
 pub mod WalkLaws
+pub mod Lending
 pub mod Again
 pub mod Elem
 pub mod Tail

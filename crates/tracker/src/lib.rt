@@ -1,11 +1,12 @@
-// The batch call: document 01's call over many draws. Refusals 1 to 4 and 11 are tested once, when the
-// call starts; then each arrival is tested and delivered, until one is refused.
+// The batch call: document 01's call over many draws. Refusals 1 to 4 and 11 are tested once, when
+// the call starts; then each arrival is tested and delivered, until one is refused. The functions
+// that require something are internal: what they require is decided by `open_batch` and holds after
+// each accepted arrival.
 
 ghost use mathlib.Core.Path.{_≡_};
 ghost use mathlib.Core.List.{[], _∷_};
-ghost use Rattle.model.specs.NetworkMemory.{networkRefusal};
 ghost use Rattle.tracker.specs.Batch.{BatchSays};
-ghost use Rattle.tracker.specs.Steps.{opened, placesRefusal, PlacesAsk, OneAsks, OneSays, lentOf};
+ghost use Rattle.tracker.specs.Steps.{OpenSays, placesRefusal, PlacesAsk, OneAsks, OneSays, lentOf};
 use counters::Word;
 use model::ACCEPTED;
 use model::Arrival;
@@ -14,8 +15,8 @@ use model::LOG_TOO_SHORT;
 use model::Settings;
 use model::Sites;
 
-// What the batch call answers: the refusal that stopped it or 0, the arrivals accepted, the messages
-// written to the log, and both records as they are then.
+// What the batch call answers: the refusal that stopped it or 0, the arrivals accepted, the
+// messages written to the log, and both records as they are then.
 pub struct BatchAnswer {
     pub refusal: u32,
     pub accepted: u64,
@@ -24,8 +25,8 @@ pub struct BatchAnswer {
     pub coordinator: CoordinatorRecord,
 }
 
-// The answer before the first arrival: why the call is refused when it starts, if it is. The memory is
-// only read.
+// The answer before the first arrival: why the call is refused when it starts, if it is. The memory
+// is only read.
 fn open_batch(
     settings: Settings,
     sites: Sites,
@@ -33,7 +34,9 @@ fn open_batch(
     site_memory: &mut [Word],
     coordinator_memory: &mut [u64],
 ) -> BatchAnswer
-    ensures { λ r. ⌜ (r ≡ opened (networkRefusal settings sites coordinator (now («site_memory» .entry)) (now («coordinator_memory» .entry))) sites coordinator) × (now («site_memory» .exit) ≡ now («site_memory» .entry)) × (now («coordinator_memory» .exit) ≡ now («coordinator_memory» .entry)) ⌝ }
+    ensures { λ r. ⌜ OpenSays settings sites coordinator
+        (now («site_memory» .entry)) (now («coordinator_memory» .entry)) r
+        (now («site_memory» .exit)) (now («coordinator_memory» .exit)) ⌝ }
 {
     let refusal = network_tests::network_refusal(
         settings,
@@ -88,8 +91,13 @@ fn batch_one(
     coordinator_memory: &mut [u64],
     log: &mut [u64],
 ) -> BatchAnswer
-    requires { ⌜ OneAsks settings answer (lentOf (now «site_memory») (now «coordinator_memory») (now log)) ⌝ }
-    ensures { λ r. ⌜ OneSays settings arrival answer (lentOf (now («site_memory» .entry)) (now («coordinator_memory» .entry)) (now (log .entry))) r (lentOf (now («site_memory» .exit)) (now («coordinator_memory» .exit)) (now (log .exit))) ⌝ }
+    requires { ⌜ OneAsks settings answer
+        (lentOf (now «site_memory») (now «coordinator_memory») (now log)) ⌝ }
+    ensures { λ r. ⌜ OneSays settings arrival answer
+        (lentOf (now («site_memory» .entry)) (now («coordinator_memory» .entry)) (now (log .entry)))
+        r
+        (lentOf (now («site_memory» .exit)) (now («coordinator_memory» .exit)) (now (log .exit)))
+        ⌝ }
 {
     let sites = answer.sites;
     let coordinator = answer.coordinator;
@@ -129,7 +137,17 @@ pub fn run_one(
     coordinator_memory: &mut [u64],
     log: &mut [u64],
 ) -> BatchAnswer
-    ensures { λ r. ⌜ BatchSays (record { settings = settings; sites = sites; coordinator = coordinator; arrivals = arrival ∷ []; siteMemory = now («site_memory» .entry); coordinatorMemory = now («coordinator_memory» .entry); log = now (log .entry) }) (lentOf (now («site_memory» .exit)) (now («coordinator_memory» .exit)) (now (log .exit))) r ⌝ }
+    ensures { λ r. ⌜ BatchSays (record {
+      settings = settings;
+      sites = sites;
+      coordinator = coordinator;
+      arrivals = arrival ∷ [];
+      siteMemory = now («site_memory» .entry);
+      coordinatorMemory = now («coordinator_memory» .entry);
+      log = now (log .entry);
+    })
+        (lentOf (now («site_memory» .exit)) (now («coordinator_memory» .exit)) (now (log .exit)))
+        r ⌝ }
 {
     let answer = open_batch(
         settings,
@@ -161,7 +179,17 @@ pub fn run_batch(
     coordinator_memory: &mut [u64],
     log: &mut [u64],
 ) -> BatchAnswer
-    ensures { λ r. ⌜ BatchSays (record { settings = settings; sites = sites; coordinator = coordinator; arrivals = now (arrivals .entry); siteMemory = now («site_memory» .entry); coordinatorMemory = now («coordinator_memory» .entry); log = now (log .entry) }) (lentOf (now («site_memory» .exit)) (now («coordinator_memory» .exit)) (now (log .exit))) r ⌝ }
+    ensures { λ r. ⌜ BatchSays (record {
+      settings = settings;
+      sites = sites;
+      coordinator = coordinator;
+      arrivals = now (arrivals .entry);
+      siteMemory = now («site_memory» .entry);
+      coordinatorMemory = now («coordinator_memory» .entry);
+      log = now (log .entry);
+    })
+        (lentOf (now («site_memory» .exit)) (now («coordinator_memory» .exit)) (now (log .exit)))
+        r ⌝ }
 {
     let mut answer = open_batch(
         settings,

@@ -6,9 +6,7 @@ use mathlib.Core.Path.{sym}
 use Prim.Native.Nat.{_-_}
 use borrow.Author.Needs.{needs}
 use Rattle.reading.proofs.ReadLaws.{Searching, searching-start, searching-found, searching-on, searching-end}
-use Rattle.coordinator_tests.proofs.NumberLaws.{within-at}
 use Rattle.coordinator_steps.proofs.StepLaws.{valueCount-is}
-use Rattle.model.specs.Limits.{coordinatorLimit}
 use Rattle.reading.proofs.least_value.Statement.{statement}
 use Rattle.reading.proofs.least_value.Tie as tie
 
@@ -41,8 +39,7 @@ add-below c =
       c .before .loop-test .taken,
       start .pre .few,
       valueCount-is,
-      within-at coordinatorLimit (start .args .counts .now) (start .pre .counts-within)
-          (at-loop .loop .value),
+      start .pre .counts-within (at-loop .loop .value),
     )
 
 mul-if1 : tie.Need-mul-if1 Inv-loop μ-loop
@@ -55,8 +52,7 @@ mul-if1 c =
       c .before .loop-test .taken,
       start .pre .few,
       valueCount-is,
-      within-at coordinatorLimit (start .args .counts .now) (start .pre .counts-within)
-          (at-loop .loop .value),
+      start .pre .counts-within (at-loop .loop .value),
     )
 
 cast-t12 : tie.Need-cast-t12 Inv-loop μ-loop
@@ -86,7 +82,7 @@ loop-again c =
     searching-on (start .args .rank) (start .args .total) (start .args .counts .now)
     (at-loop .loop .below)
     (at-loop .loop .value) (at-loop .loop .inv) (c .before .before .loop-test .taken)
-    (within-at coordinatorLimit (start .args .counts .now) (start .pre .counts-within)
+    (start .pre .counts-within
     (at-loop .loop .value))
     (c .if1 .left)
 

@@ -1,8 +1,15 @@
 -- A draw that is refused, and one that is taken.
-use Rattle.session.proofs.DrawLaws.{draw-refused, draw-taken}
+use mathlib.Core.List.{[]}
+use Rattle.session.specs.Calls.{lent}
+use Rattle.session.proofs.TakeLaws.{draw-refused, log-holds, draw-taken}
 use borrow.Author.Needs.{needs}
 use Rattle.session.proofs.take_draw.Statement.{statement}
 use Rattle.session.proofs.take_draw.Tie as tie
+use Rattle.session.proofs.take_draw.Reads as reads
+use Rattle.session.proofs.take_draw.Lts as lts
+use Rattle.session.proofs.put_messages.Reads as put-messages-reads
+use Rattle.session.proofs.refuse.Reads as refuse-reads
+use Rattle.tracker.proofs.run_one.Reads as run-one-reads
 
 run-one-requires : tie.Need-run-one-requires
 run-one-requires c κs = search needs
@@ -24,16 +31,20 @@ same-length-4 c = search needs
 
 returns : tie.Need-returns
 returns c =
-    let start = c .before .before .before .before .before .before .before .before .before .before .before .before .before .before .before .before .before .before .before .before .before .before .before .before in
-    let called = c .before .before .before .before .before .before .before .before .before .before .before .before .run-one in
-    record {
-      right = λ arrivals stands room.
-          draw-refused stands room (start .args .step) _ (called .result) (called .ensures) _ _
-          (c .before .before .refuse .ensures) (c .before .before .before .before .if1 .taken);
-    }
+    let run = c .before .before .before .before .before .before .before .before .before .before .before .before in
+    let start = run .before .before .before .before .before .before .before .before .before .before .before .before .args in
+    draw-refused (start .session) (start .step)
+    (lent (start .site-memory .now) (start .coordinator-memory .now) (start .log .now) [] (start .out .now)) _
+    (run .run-one .result) (run .run-one .ensures) (c .before .before .before .before .if1 .taken) [] _ _
+    (c .before .before .refuse .ensures)
 
-write-messages-requires : tie.Need-write-messages-requires
-write-messages-requires c κs = search needs
+put-messages-requires : tie.Need-put-messages-requires
+put-messages-requires c κs =
+    let run = c .before .before .before .before .before .before .before .before .before .before in
+    let start = run .before .before .before .before .before .before .before .before .before .before .before .before .args in
+    log-holds (start .session) (start .step)
+    (lent (start .site-memory .now) (start .coordinator-memory .now) (start .log .now) [] (start .out .now)) _
+    (run .run-one .result) (run .run-one .ensures) (c .before .before .if1 .left)
 
 same-length-5 : tie.Need-same-length-5
 same-length-5 c = search needs
@@ -49,13 +60,12 @@ same-length-8 c = search needs
 
 returns-2 : tie.Need-returns-2
 returns-2 c =
-    let start = c .before .before .before .before .before .before .before .before .before .before .before .before .before .before .before .before .before .before .before .before .before .before .before .before .before .before .before in
-    let called = c .before .before .before .before .before .before .before .before .before .before .before .before .before .before .before .run-one in
-    record {
-      right = λ arrivals stands room.
-          draw-taken stands room (start .args .step) _ (called .result) (called .ensures)
-          (c .before .before .before .before .before .before .before .if1 .left) _ _ (c .before .before .before .before .write-messages .ensures);
-    }
+    let run = c .before .before .before .before .before .before .before .before .before .before .before .before .before .before .before in
+    let start = run .before .before .before .before .before .before .before .before .before .before .before .before .args in
+    draw-taken (start .session) (start .step)
+    (lent (start .site-memory .now) (start .coordinator-memory .now) (start .log .now) [] (start .out .now)) _
+    (run .run-one .result) (run .run-one .ensures) (c .before .before .before .before .before .before .before .if1 .left) [] _ _
+    (c .before .before .before .before .put-messages .ensures)
 
 pub take-draw-spec : {M : Type 1} → statement M
 take-draw-spec =
@@ -68,7 +78,7 @@ take-draw-spec =
     same-length-3
     same-length-4
     returns
-    write-messages-requires
+    put-messages-requires
     same-length-5
     same-length-6
     same-length-7

@@ -1,7 +1,7 @@
 -- `tracker::batch_one` meets its contract: the arrival is refused, or taken with full delivery.
-use mathlib.Core.Path.{refl, sym, ap, _∙_}
+use mathlib.Core.Path.{refl, _∙_}
 use native.Mathlib.Omega.{arith}
-use Rattle.tracker.proofs.BatchLaws.{one-places, refusal-is, one-asks, accepted-small, holds-taken, holds-stopped}
+use Rattle.tracker.proofs.BatchLaws.{one-places, refusal-is, none-of, one-asks, accepted-small, holds-taken, holds-stopped}
 use borrow.Author.Needs.{needs}
 use Rattle.tracker.proofs.batch_one.Statement.{statement}
 use Rattle.tracker.proofs.batch_one.Tie as tie
@@ -23,15 +23,24 @@ at-rest-requires c κs = search needs
 
 take-arrival-requires : tie.Need-take-arrival-requires
 take-arrival-requires c κs =
-    let start = c .before .before .before .before .before .before .before .before .before .before .before in
-    rw (c .before .before .before .at-rest .ensures) (one-asks (start .pre) (start .args .arrival) (sym (refusal-is (start .pre) (start .args .arrival)) ∙ sym (c .before .before .before .before .before .one-refusal .ensures) ∙ c .before .before .before .before .if1 .left))
+    let rested = c .before .before .before in
+    let tested = rested .before in
+    let start = tested .before .before .before .before .before .before .before in
+    let none = none-of (start .pre) (start .args .arrival) (tested .before .one-refusal .ensures)
+    (tested .if1 .left) in
+    rw (rested .at-rest .ensures) (one-asks (start .pre) (start .args .arrival) none)
 
 add-t23 : tie.Need-add-t23
 add-t23 c =
-    let start = c .before .before .before .before .before .before .before .before .before .before .before .before .before .before .before .before .before .before .before .before .before in
+    let rested = c .before .before .before .before .before .before .before .before .before .before
+    .before .before .before in
+    let tested = rested .before in
+    let start = tested .before .before .before .before .before .before .before in
+    let none = none-of (start .pre) (start .args .arrival) (tested .before .one-refusal .ensures)
+    (tested .if1 .left) in
     omega (
       arith,
-      accepted-small (start .pre) (start .args .arrival) (sym (refusal-is (start .pre) (start .args .arrival)) ∙ sym (c .before .before .before .before .before .before .before .before .before .before .before .before .before .before .before .one-refusal .ensures) ∙ c .before .before .before .before .before .before .before .before .before .before .before .before .before .before .if1 .left),
+      accepted-small (start .pre) (start .args .arrival) none,
       start .pre .holds .accepted,
     )
 
@@ -46,12 +55,18 @@ same-length-3 c = search needs
 
 returns-2 : tie.Need-returns-2
 returns-2 c =
-    let start = c .before .before .before .before .before .before .before .before .before .before .before .before .before .before .before .before .before .before .before .before .before in
-    let taken = c .before .before .before .before .before .before .before .before .before .take-arrival in
-    let says = rw (c .before .before .before .before .before .before .before .before .before .before .before .before .before .at-rest .ensures) at (taken .ensures) in
+    let delivered = c .before .before .before .before .before .before .before .before .before in
+    let taken = delivered .take-arrival in
+    let rested = delivered .before .before .before .before in
+    let tested = rested .before in
+    let start = tested .before .before .before .before .before .before .before in
+    let says = rw (rested .at-rest .ensures) at (taken .ensures) in
     record {
       next = λ u.
-          holds-taken u (start .args .arrival) (sym (refusal-is u (start .args .arrival)) ∙ sym (c .before .before .before .before .before .before .before .before .before .before .before .before .before .before .before .one-refusal .ensures) ∙ c .before .before .before .before .before .before .before .before .before .before .before .before .before .before .if1 .left) (taken .result) _
+          holds-taken u (start .args .arrival)
+          (none-of u (start .args .arrival) (tested .before .one-refusal .ensures)
+          (tested .if1 .left))
+          (taken .result) _
           (taken .last .1 .1 .1 .0) (taken .last .1 .1 .1 .1 .0) (taken .last .1 .1 .1 .1 .1 .0)
           says refl refl refl refl refl;
     }

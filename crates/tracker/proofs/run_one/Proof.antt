@@ -1,10 +1,34 @@
 -- `tracker::run_one` meets its contract: a batch of one arrival.
-use mathlib.Core.List.{[], _∷_}
-use Rattle.tracker.specs.Batch.{BatchCall}
-use Rattle.tracker.proofs.WalkLaws.{walked-open, walked-asks, walked-step, walked-done, walked-stopped}
+use mathlib.Core.List.{List, [], _∷_}
+use Prim.Native.Nat.{ℕ}
+use Rattle.model.specs.declared.Settings.{Settings}
+use Rattle.model.specs.declared.Arrival.{Arrival}
+use Rattle.model.specs.declared.Sites.{Sites}
+use Rattle.model.specs.declared.CoordinatorRecord.{CoordinatorRecord}
+use Rattle.tracker.specs.declared.BatchAnswer.{BatchAnswer}
+use Rattle.tracker.specs.Steps.{OpenSays, lentOf}
+use Rattle.tracker.proofs.WalkLaws.{Walked, walked-open, walked-asks, walked-step, walked-done, walked-stopped}
 use borrow.Author.Needs.{needs}
 use Rattle.tracker.proofs.run_one.Statement.{statement}
 use Rattle.tracker.proofs.run_one.Tie as tie
+
+-- After the start, one arrival is still to come.
+opened-one : (settings : Settings) (sites : Sites) (coordinator : CoordinatorRecord)
+    (arrival : Arrival) (siteMemory coordinatorMemory log : List ℕ)
+    (answer : BatchAnswer) (siteThen coordinatorThen : List ℕ)
+    → OpenSays settings sites coordinator siteMemory coordinatorMemory answer siteThen
+    coordinatorThen
+    → Walked (record {
+      settings = settings;
+      sites = sites;
+      coordinator = coordinator;
+      arrivals = arrival ∷ [];
+      siteMemory = siteMemory;
+      coordinatorMemory = coordinatorMemory;
+      log = log;
+    }) (arrival ∷ []) answer (lentOf siteThen coordinatorThen log)
+opened-one _ _ _ _ _ _ _ answer siteThen coordinatorThen says =
+    walked-open _ answer siteThen coordinatorThen says
 
 open-batch-requires : tie.Need-open-batch-requires
 open-batch-requires c κs = search needs
@@ -17,37 +41,24 @@ same-length-2 c = search needs
 
 returns : tie.Need-returns
 returns c =
-    let a = c .before .before .before .before .before .before .before .before .before .before .before .before .args in
-    let call : BatchCall = record {
-      settings = a .settings;
-      sites = a .sites;
-      coordinator = a .coordinator;
-      arrivals = a .arrival ∷ [];
-      siteMemory = a .site-memory .now;
-      coordinatorMemory = a .coordinator-memory .now;
-      log = a .log .now;
-    } in
-    let opens = c .before .before .before .before .before .before .open-batch in
-    let walked = walked-open call (opens .result) (opens .last .1 .1 .1 .0) (opens .last .1 .1 .1 .1 .0)
-    (opens .ensures .0) (opens .ensures .1) (opens .ensures .2) in
+    let opened = c .before .before .before .before .before .before in
+    let opens = opened .open-batch in
+    let a = opened .before .before .before .before .before .before .args in
+    let walked = opened-one (a .settings) (a .sites) (a .coordinator) (a .arrival)
+    (a .site-memory .now) (a .coordinator-memory .now) (a .log .now) (opens .result) _ _
+    (opens .ensures) in
     walked-stopped walked (c .if1 .taken)
 
 batch-one-requires : tie.Need-batch-one-requires
 batch-one-requires c κs =
-    let a = c .before .before .before .before .before .before .before .before .before .before .before .before .before .before .before .args in
-    let call : BatchCall = record {
-      settings = a .settings;
-      sites = a .sites;
-      coordinator = a .coordinator;
-      arrivals = a .arrival ∷ [];
-      siteMemory = a .site-memory .now;
-      coordinatorMemory = a .coordinator-memory .now;
-      log = a .log .now;
-    } in
-    let opens = c .before .before .before .before .before .before .before .before .before .open-batch in
-    let walked = walked-open call (opens .result) (opens .last .1 .1 .1 .0) (opens .last .1 .1 .1 .1 .0)
-    (opens .ensures .0) (opens .ensures .1) (opens .ensures .2) in
-    walked-asks walked (c .before .before .before .if1 .left)
+    let tested = c .before .before .before in
+    let opened = tested .before .before .before .before .before .before in
+    let opens = opened .open-batch in
+    let a = opened .before .before .before .before .before .before .args in
+    let walked = opened-one (a .settings) (a .sites) (a .coordinator) (a .arrival)
+    (a .site-memory .now) (a .coordinator-memory .now) (a .log .now) (opens .result) _ _
+    (opens .ensures) in
+    walked-asks walked (tested .if1 .left)
 
 same-length-3 : tie.Need-same-length-3
 same-length-3 c = search needs
@@ -60,20 +71,15 @@ same-length-5 c = search needs
 
 returns-2 : tie.Need-returns-2
 returns-2 c =
-    let a = c .before .before .before .before .before .before .before .before .before .before .before .before .before .before .before .before .before .before .before .before .before .before .args in
-    let call : BatchCall = record {
-      settings = a .settings;
-      sites = a .sites;
-      coordinator = a .coordinator;
-      arrivals = a .arrival ∷ [];
-      siteMemory = a .site-memory .now;
-      coordinatorMemory = a .coordinator-memory .now;
-      log = a .log .now;
-    } in
-    let opens = c .before .before .before .before .before .before .before .before .before .before .before .before .before .before .before .before .open-batch in
-    let walked = walked-open call (opens .result) (opens .last .1 .1 .1 .0) (opens .last .1 .1 .1 .1 .0)
-    (opens .ensures .0) (opens .ensures .1) (opens .ensures .2) in
-    walked-done (walked-step walked (c .before .before .before .before .before .before .before .before .before .before .if1 .left) (c .before .before .before .before .before .before .batch-one .ensures))
+    let done = c .before .before .before .before .before .before in
+    let tested = done .before .before .before .before in
+    let opened = tested .before .before .before .before .before .before in
+    let opens = opened .open-batch in
+    let a = opened .before .before .before .before .before .before .args in
+    let walked = opened-one (a .settings) (a .sites) (a .coordinator) (a .arrival)
+    (a .site-memory .now) (a .coordinator-memory .now) (a .log .now) (opens .result) _ _
+    (opens .ensures) in
+    walked-done (walked-step walked (tested .if1 .left) (done .batch-one .ensures))
 
 pub run-one-spec : {M : Type 1} → statement M
 run-one-spec =

@@ -1,0 +1,92 @@
+-- `public_delivery::call_due` meets its contract: by what was refused, what is left, what waits, then by phase.
+use borrow.Author.Tests.{eq-eqb, ne-eqb}
+use borrow.Author.Needs.{needs}
+use Rattle.public_delivery.proofs.call_due.Statement.{statement}
+use Rattle.public_delivery.proofs.call_due.Tie as tie
+
+returns : tie.Need-returns
+returns c =
+    let progress = c .before .before .args .progress in
+    rw (ne-eqb (progress .refusal) 0 (c .if1 .taken))
+
+returns-2 : tie.Need-returns-2
+returns-2 c =
+    let progress = c .before .before .before .before .args .progress in
+    rw (eq-eqb (progress .refusal) 0 (c .before .before .if1 .left), eq-eqb (progress .left) 0 (c .if2 .taken))
+
+returns-3 : tie.Need-returns-3
+returns-3 c =
+    let progress = c .before .before .before .before .before .before .before .args .progress in
+    rw (
+      eq-eqb (progress .refusal) 0 (c .before .before .before .before .before .if1 .left),
+      ne-eqb (progress .left) 0 (c .before .before .before .if2 .left),
+      ne-eqb (progress .waiting .count) 0 (c .if3 .taken),
+    )
+
+enum-told : tie.Need-enum-told
+enum-told c = search needs
+
+enum-told-2 : tie.Need-enum-told-2
+enum-told-2 c = search needs
+
+enum-told-3 : tie.Need-enum-told-3
+enum-told-3 c = search needs
+
+enum-told-4 : tie.Need-enum-told-4
+enum-told-4 c = search needs
+
+returns-4 : tie.Need-returns-4
+returns-4 c =
+    let progress = c .before .before .before .before .before .before .before .before .before .before .args .progress in
+    rw (
+      eq-eqb (progress .refusal) 0 (c .before .before .before .before .before .before .before .before .if1 .left),
+      ne-eqb (progress .left) 0 (c .before .before .before .before .before .before .if2 .left),
+      eq-eqb (progress .waiting .count) 0 (c .before .before .before .if3 .left),
+      c .enum-told .given .1,
+    )
+
+returns-5 : tie.Need-returns-5
+returns-5 c =
+    let progress = c .before .before .before .before .before .before .before .before .before .before .args .progress in
+    rw (
+      eq-eqb (progress .refusal) 0 (c .before .before .before .before .before .before .before .before .if1 .left),
+      ne-eqb (progress .left) 0 (c .before .before .before .before .before .before .if2 .left),
+      eq-eqb (progress .waiting .count) 0 (c .before .before .before .if3 .left),
+      c .enum-told2 .given .1,
+    )
+
+returns-6 : tie.Need-returns-6
+returns-6 c =
+    let progress = c .before .before .before .before .before .before .before .before .before .before .args .progress in
+    rw (
+      eq-eqb (progress .refusal) 0 (c .before .before .before .before .before .before .before .before .if1 .left),
+      ne-eqb (progress .left) 0 (c .before .before .before .before .before .before .if2 .left),
+      eq-eqb (progress .waiting .count) 0 (c .before .before .before .if3 .left),
+      c .enum-told3 .given .1,
+    )
+
+returns-7 : tie.Need-returns-7
+returns-7 c =
+    let progress = c .before .before .before .before .before .before .before .before .before .before .args .progress in
+    rw (
+      eq-eqb (progress .refusal) 0 (c .before .before .before .before .before .before .before .before .if1 .left),
+      ne-eqb (progress .left) 0 (c .before .before .before .before .before .before .if2 .left),
+      eq-eqb (progress .waiting .count) 0 (c .before .before .before .if3 .left),
+      c .enum-told4 .given .1,
+    )
+
+pub call-due-spec : {M : Type 1} → statement M
+call-due-spec =
+    tie.close
+    (tie.spec
+    returns
+    returns-2
+    returns-3
+    enum-told
+    enum-told-2
+    enum-told-3
+    enum-told-4
+    returns-4
+    returns-5
+    returns-6
+    returns-7)

@@ -1,0 +1,18 @@
+-- `public_delivery::queue_of` meets its contract: by whether both messages go out.
+use native.Mathlib.Omega.{arith}
+use Rattle.public_delivery.proofs.QueueLaws.{queue-two}
+use borrow.Author.Needs.{needs}
+use Rattle.public_delivery.proofs.queue_of.Statement.{statement}
+use Rattle.public_delivery.proofs.queue_of.Tie as tie
+
+returns : tie.Need-returns
+returns c = search needs
+
+returns-2 : tie.Need-returns-2
+returns-2 c =
+    let start = c .before in
+    queue-two (start .args .count) (start .args .first) (start .args .second)
+    (omega (arith, c .if1 .left))
+
+pub queue-of-spec : {M : Type 1} → statement M
+queue-of-spec = tie.close (tie.spec returns returns-2)

@@ -1,0 +1,3 @@
+-- A full delivery by the public calls, as steps of a history.
+pub mod Progress
+pub mod Steps

@@ -1,0 +1,92 @@
+-- A delivery in progress, as code carries it, and the state of a history that it stands for.
+--
+--   heldBy ..                      records and memory as a history has them
+--   recordIn sites which           a site's record; a fresh one past the array's end
+--   queued queue                   the messages that wait, in order; never more than two
+--   joinedIf count queue m         a message waits last if the count is not 0
+--   QueueSays                      the messages of an arrival's answer wait
+--   refusedWith progress refusal   the progress with the refusal of a call
+--   isDue, isComplete              whether the next call is due; whether all has come to rest
+--   Stands state progress ..       the state of a history that records, queue and memory are
+use mathlib.Core.Path.{_≡_}
+use mathlib.Core.Bool.{Bool, not, _&&_, _||_}
+use mathlib.Core.List.{List, [], _∷_}
+use Prim.Native.Nat.{ℕ, _≤_}
+use lib.ListN.{getD, take}
+use Rattle.model.specs.declared.Message.{Message}
+use Rattle.model.specs.declared.SiteRecord.{SiteRecord}
+use Rattle.model.specs.declared.Sites.{Sites}
+use Rattle.model.specs.declared.CoordinatorRecord.{CoordinatorRecord}
+use Rattle.model.specs.Choice.{if_then_else_, isZero}
+use Rattle.model.specs.Site.{freshSite}
+use Rattle.model.specs.SiteMemory.{siteRecord}
+use Rattle.model.specs.Coordinator.{isIdle, isAnnouncing}
+use Rattle.delivery.specs.declared.Queue.{Queue}
+use Rattle.delivery.specs.Sending.{joined}
+use Rattle.history.specs.State.{Held, State}
+use Rattle.public_delivery.specs.declared.Progress.{Progress}
+
+-- ---- Records and memory
+
+abbrev pub heldBy : Sites → CoordinatorRecord → List ℕ → List ℕ → Held
+heldBy sites coordinator siteMemory coordinatorMemory = record {
+  sites = sites;
+  coordinator = coordinator;
+  siteMemory = siteMemory;
+  coordinatorMemory = coordinatorMemory;
+}
+
+abbrev pub recordIn : Sites → ℕ → SiteRecord
+recordIn sites which = getD (sites .records) which (siteRecord freshSite)
+
+-- ---- The messages that wait
+
+abbrev pub queued : Queue → List Message
+queued queue = take (queue .count) (queue .first ∷ (queue .second ∷ []))
+
+abbrev pub joinedIf : ℕ → Queue → Message → Queue
+joinedIf count queue m = if isZero count then queue else joined queue m
+
+-- As many as the answer counts: none, the first, or both.
+pub record QueueSays (count : ℕ) (first second : Message) (queue : Queue) : Type 0 where
+  pub messages : queued queue ≡ take count (first ∷ (second ∷ []))
+  pub few : queue .count ≤ 2
+
+-- ---- Refused
+
+-- A call was refused: all else is as it was.
+abbrev pub refusedWith : Progress → ℕ → Progress
+refusedWith progress refusal = record {
+  sites = progress .sites;
+  coordinator = progress .coordinator;
+  waiting = progress .waiting;
+  refusal = refusal;
+  left = progress .left;
+}
+
+-- ---- What is due
+
+-- A message waits, or the coordinator announces.
+abbrev pub goesOn : Progress → Bool
+goesOn progress =
+    not (isZero (progress .waiting .count)) || isAnnouncing (progress .coordinator .phase)
+
+-- No call was refused, and one more may be made.
+abbrev pub mayGoOn : Progress → Bool
+mayGoOn progress = isZero (progress .refusal) && not (isZero (progress .left))
+
+abbrev pub isDue : Progress → Bool
+isDue progress = mayGoOn progress && goesOn progress
+
+-- Nothing waits, and the coordinator is idle.
+abbrev pub isComplete : Progress → Bool
+isComplete progress =
+    isZero (progress .waiting .count) && isIdle (progress .coordinator .phase)
+
+-- ---- The state of a history
+
+pub record Stands (state : State) (progress : Progress) (siteMemory coordinatorMemory : List ℕ)
+    : Type 0 where
+  pub held-is : state .held
+      ≡ heldBy (progress .sites) (progress .coordinator) siteMemory coordinatorMemory
+  pub waiting-are : state .waiting ≡ queued (progress .waiting)

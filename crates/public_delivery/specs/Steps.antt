@@ -1,0 +1,133 @@
+-- One call of a delivery, and all of them, as steps of a history: whatever state the records, the
+-- queue and the memory stand for, arisen or not, each call that is accepted is a step from it, and
+-- a call that is refused leaves it.
+--
+--   Blocked settings state        a call that is due is refused: in no history (crate `history`)
+--   Stepped settings state ..     a step of delivery, or the state as it was with a refusal
+--   AskAsks, HandAsks, DueAsks    what each call requires of the progress
+--   StepSays                      what each call promises
+--   Came settings first ..        steps of delivery since a first state
+--   DeliverAsks, DeliverSays      call by call, until none is due
+use mathlib.Core.Path.{_≡_}
+use mathlib.Core.Bool.{Bool, true, false}
+use mathlib.Core.List.{List, _∷_}
+use Prim.Native.Nat.{ℕ, _+_, _≤_}
+use lib.ListN.{length}
+use Rattle.model.specs.declared.Settings.{Settings}
+use Rattle.model.specs.declared.Message.{Message}
+use Rattle.model.specs.Refusals.{accepted}
+use Rattle.model.specs.Messages.{toCoordinator}
+use Rattle.model.specs.SiteMemory.{siteWords}
+use Rattle.model.specs.Coordinator.{isAnnouncing}
+use Rattle.network_tests.specs.Contracts.{SitesFit}
+use Rattle.site.specs.Calls as SiteCalls
+use Rattle.coordinator.specs.Calls as CoordinatorCalls
+use Rattle.history.specs.State.{State, recordAt, sitePart}
+use Rattle.history.specs.Histories.{Delivers, Deliveries}
+use Rattle.public_delivery.specs.declared.Progress.{Progress}
+use Rattle.public_delivery.specs.Progress.{isDue, Stands}
+
+-- ---- One call
+
+-- What is due and refused.
+pub data Blocked (settings : Settings) (state : State) : Type 0 where
+  coordinator-refuses : (m : Message) (later : List Message)
+      → state .waiting ≡ m ∷ later
+      → toCoordinator m ≡ true
+      → (CoordinatorCalls.receiveRefusal settings (state .held .coordinator) m
+      (state .held .coordinatorMemory)
+      ≡ accepted → ⊥)
+      → Blocked settings state
+  site-refuses : (m : Message) (later : List Message) (words : ℕ)
+      → state .waiting ≡ m ∷ later
+      → toCoordinator m ≡ false
+      → siteWords settings ≤ words
+      → (SiteCalls.receiveRefusal settings (recordAt (state .held) (m .site)) (m .site) m
+      (sitePart settings (state .held) (m .site) words)
+      ≡ accepted → ⊥)
+      → Blocked settings state
+  announcement-refused :
+      isAnnouncing (state .held .coordinator .phase) ≡ true
+      → (CoordinatorCalls.announceRefusal settings (state .held .coordinator)
+      (state .held .coordinatorMemory)
+      ≡ accepted → ⊥)
+      → Blocked settings state
+
+pub data Stepped
+    (settings : Settings)
+    (state : State)
+    (after : Progress)
+    (siteMemory coordinatorMemory : List ℕ) : Type 0 where
+  -- the call is accepted: a step of a history
+  goes : (next : State)
+      → Delivers settings state next
+      → Stands next after siteMemory coordinatorMemory
+      → after .refusal ≡ accepted
+      → Stepped settings state after siteMemory coordinatorMemory
+  -- it is refused: all is as it was
+  stops : Stands state after siteMemory coordinatorMemory
+      → (after .refusal ≡ accepted → ⊥)
+      → Blocked settings state
+      → Stepped settings state after siteMemory coordinatorMemory
+
+-- Nothing waits, and the coordinator announces.
+pub record AskAsks (progress : Progress) : Type 0 where
+  pub not-refused : progress .refusal ≡ accepted
+  pub nothing-waits : progress .waiting .count ≡ 0
+  pub announces : isAnnouncing (progress .coordinator .phase) ≡ true
+
+-- A message waits, and it is for the coordinator, or for a site.
+pub record HandAsks (way : Bool) (progress : Progress) : Type 0 where
+  pub not-refused : progress .refusal ≡ accepted
+  pub some : progress .waiting .count ≡ 0 → ⊥
+  pub few : progress .waiting .count ≤ 2
+  pub way-is : toCoordinator (progress .waiting .first) ≡ way
+
+-- One of them.
+pub record DueAsks (progress : Progress) : Type 0 where
+  pub not-refused : progress .refusal ≡ accepted
+  pub few : progress .waiting .count ≤ 2
+  pub announces : progress .waiting .count ≡ 0
+      → isAnnouncing (progress .coordinator .phase) ≡ true
+
+pub record StepSays
+    (settings : Settings)
+    (siteMemory coordinatorBefore coordinatorAfter : List ℕ)
+    (before after : Progress) : Type 0 where
+  pub few : after .waiting .count ≤ 2
+  pub left-is : after .left ≡ before .left
+  pub steps : (state : State)
+      → Stands state before siteMemory coordinatorBefore
+      → Stepped settings state after siteMemory coordinatorAfter
+
+-- ---- All calls
+
+-- From a first state on: so many accepted calls, as many as are now fewer left; and if a call was
+-- refused, it was the last.
+pub record Came
+    (settings : Settings)
+    (first : State)
+    (begun now : Progress)
+    (siteMemory coordinatorMemory : List ℕ) : Type 0 where
+  pub taken : ℕ
+  pub after : State
+  pub deliveries : Deliveries settings first taken after
+  pub stands : Stands after now siteMemory coordinatorMemory
+  pub counted : now .refusal ≡ accepted → taken + now .left ≡ begun .left
+  pub blocked : (now .refusal ≡ accepted → ⊥) → Blocked settings after
+
+pub record DeliverAsks (settings : Settings) (siteMemory : List ℕ) (begun : Progress) : Type 0
+  where
+    pub fits : SitesFit settings siteMemory
+    pub few : begun .waiting .count ≤ 2
+    pub not-refused : begun .refusal ≡ accepted
+
+-- From every state that the progress stands for; and then no call is due.
+pub record DeliverSays
+    (settings : Settings)
+    (siteMemory coordinatorBefore coordinatorAfter : List ℕ)
+    (begun ended : Progress) : Type 0 where
+  pub none-due : isDue ended ≡ false
+  pub comes : (first : State)
+      → Stands first begun siteMemory coordinatorBefore
+      → Came settings first begun ended siteMemory coordinatorAfter

@@ -1,0 +1,234 @@
+// One arrival with full delivery, by the public calls alone: the arrival by `site::observe`, then each
+// message that goes out by `site::receive` or `coordinator::receive`, in the order of going out, and
+// kind 7 by `coordinator::next_announcement` until the coordinator is idle. No internal step is taken:
+// crate `history` knows each of these calls by its contract alone, and here its histories are made by
+// code.
+
+ghost use mathlib.Core.Path.{_≡_};
+ghost use mathlib.Core.Bool.{true, false};
+ghost use mathlib.Core.List.{List};
+ghost use Prim.Native.Nat.{ℕ, _+_, _<_};
+ghost use lib.ListN.{length, getD};
+ghost use Rattle.model.specs.Refusals.{accepted};
+ghost use Rattle.model.specs.Settings.{settingsRefusal};
+ghost use Rattle.model.specs.Network.{deliveryFuel};
+ghost use Rattle.network_tests.specs.Contracts.{SitesFit};
+ghost use Rattle.site.specs.Calls.{startRefusal};
+ghost use Rattle.public_delivery.specs.Progress.{joinedIf, refusedWith, QueueSays, isDue, isComplete, recordIn};
+ghost use Rattle.public_delivery.specs.Steps.{AskAsks, HandAsks, DueAsks, StepSays, DeliverAsks, DeliverSays};
+use counters::Word;
+use delivery::Queue;
+use model::ACCEPTED;
+use model::Arrival;
+use model::CoordinatorRecord;
+use model::MEMORY_TOO_SHORT;
+use model::Message;
+use model::Phase;
+use model::Settings;
+use model::SiteRecord;
+use model::Sites;
+use model::UNKNOWN_SITE;
+
+// A delivery in progress: the records, the messages that wait, the refusal of the last call, and how
+// many calls may still be made.
+pub struct Progress {
+    pub sites: Sites,
+    pub coordinator: CoordinatorRecord,
+    pub waiting: Queue,
+    pub refusal: u32,
+    pub left: u64,
+}
+
+// Why the arrival was refused, if it was; whether its delivery came to rest; and both records as they
+// are then. From records and memory that arose by the calls every delivery comes to rest.
+pub struct DeliveryAnswer {
+    pub refusal: u32,
+    pub complete: bool,
+    pub sites: Sites,
+    pub coordinator: CoordinatorRecord,
+}
+
+// The messages that an arrival's answer hands out, as those that wait.
+fn queue_of(count: u32, first: Message, second: Message) -> Queue
+    ensures { λ r. ⌜ QueueSays count first second r ⌝ }
+{
+    if count < 2 {
+        return Queue {
+            count: count,
+            first: first,
+            second: second,
+        };
+    }
+    Queue {
+        count: 2,
+        first: first,
+        second: second,
+    }
+}
+
+// The message that an answer hands out waits last, if there is one.
+fn join_answer(queue: Queue, count: u32, message: Message) -> Queue
+    ensures { λ r. ⌜ r ≡ joinedIf count queue message ⌝ }
+{
+    if count == 0 {
+        return queue;
+    }
+    delivery::join(queue, message)
+}
+
+// A call was refused: all else is as it was.
+fn stop(progress: Progress, refusal: u32) -> Progress
+    ensures { λ r. ⌜ r ≡ refusedWith progress refusal ⌝ }
+{
+    let sites = progress.sites;
+    let coordinator = progress.coordinator;
+    let waiting = progress.waiting;
+    Progress {
+        sites: sites,
+        coordinator: coordinator,
+        waiting: waiting,
+        refusal: refusal,
+        left: progress.left,
+    }
+}
+
+// The record of one site.
+fn record_at(sites: Sites, which: usize) -> SiteRecord
+    requires { ⌜ which < 32 ⌝ }
+    ensures { λ r. ⌜ r ≡ recordIn sites which ⌝ }
+{
+    sites.records[which]
+}
+
+// The next kind 7 is asked for, and waits.
+fn ask(settings: Settings, progress: Progress, coordinator_memory: &[u64]) -> Progress
+    requires { ⌜ AskAsks progress ⌝ }
+    ensures { λ r. ⌜ ((siteMemory : List ℕ) → StepSays settings siteMemory (now («coordinator_memory» .entry)) (now («coordinator_memory» .entry)) progress r) ⌝ }
+{
+    let coordinator = progress.coordinator;
+    let answer = coordinator::next_announcement(settings, coordinator, coordinator_memory);
+    if answer.refusal != ACCEPTED {
+        return stop(progress, answer.refusal);
+    }
+    let after = answer.coordinator;
+    let out = answer.out;
+    let waiting = progress.waiting;
+    let mut next = progress;
+    next.coordinator = after;
+    next.waiting = join_answer(waiting, answer.count, out);
+    next
+}
+
+// The message that waits first is handed to the coordinator; the answer waits last.
+fn hand_to_coordinator(
+    settings: Settings,
+    progress: Progress,
+    coordinator_memory: &mut [u64],
+) -> Progress
+    requires { ⌜ HandAsks true progress ⌝ }
+    ensures { λ r. ⌜ ((siteMemory : List ℕ) → StepSays settings siteMemory (now («coordinator_memory» .entry)) (now («coordinator_memory» .exit)) progress r) ⌝ }
+{
+    let coordinator = progress.coordinator;
+    let waiting = progress.waiting;
+    let message = waiting.first;
+    let answer = coordinator::receive(settings, coordinator, message, coordinator_memory);
+    if answer.refusal != ACCEPTED {
+        return stop(progress, answer.refusal);
+    }
+    let after = answer.coordinator;
+    let out = answer.out;
+    let mut next = progress;
+    next.coordinator = after;
+    next.waiting = join_answer(delivery::take_head(waiting), answer.count, out);
+    next
+}
+
+// The message that waits first is handed to the site that it names; the reply waits last.
+fn hand_to_site(settings: Settings, progress: Progress, site_memory: &[Word]) -> Progress
+    requires { ⌜ SitesFit settings (now «site_memory») × HandAsks false progress ⌝ }
+    ensures { λ r. ⌜ ((coordinatorMemory : List ℕ) → StepSays settings (now («site_memory» .entry)) coordinatorMemory coordinatorMemory progress r) ⌝ }
+{
+    let sites = progress.sites;
+    let waiting = progress.waiting;
+    let message = waiting.first;
+    if settings.sites <= message.site {
+        return stop(progress, UNKNOWN_SITE);
+    }
+    let which = message.site as usize;
+    let start = which * site_memory::site_words(settings);
+    let part = &site_memory[start..];
+    let numbers = record_at(sites, which);
+    let answer = site::receive(settings, numbers, message.site, message, part);
+    if answer.refusal != ACCEPTED {
+        return stop(progress, answer.refusal);
+    }
+    let after = answer.site;
+    let out = answer.reply;
+    let mut next = progress;
+    next.sites = delivery::with_record(sites, which, after);
+    next.waiting = join_answer(delivery::take_head(waiting), answer.count, out);
+    next
+}
+
+// Whether a call is due, and may be made: a message waits, or the coordinator announces.
+fn call_due(progress: Progress) -> bool
+    ensures { λ r. ⌜ r ≡ isDue progress ⌝ }
+{
+    if progress.refusal != ACCEPTED {
+        return false;
+    }
+    if progress.left == 0 {
+        return false;
+    }
+    let waiting = progress.waiting;
+    if waiting.count != 0 {
+        return true;
+    }
+    let coordinator = progress.coordinator;
+    let phase = coordinator.phase;
+    match phase {
+        Phase::Idle => false,
+        Phase::Collecting(_) => false,
+        Phase::Probing(_, _, _, _) => false,
+        Phase::Announcing(_) => true,
+    }
+}
+
+// The call that is due.
+fn take_step(
+    settings: Settings,
+    progress: Progress,
+    site_memory: &[Word],
+    coordinator_memory: &mut [u64],
+) -> Progress
+    requires { ⌜ SitesFit settings (now «site_memory») × DueAsks progress ⌝ }
+    ensures { λ r. ⌜ StepSays settings (now («site_memory» .entry)) (now («coordinator_memory» .entry)) (now («coordinator_memory» .exit)) progress r ⌝ }
+{
+    let waiting = progress.waiting;
+    if waiting.count == 0 {
+        return ask(settings, progress, coordinator_memory);
+    }
+    let message = waiting.first;
+    if delivery::to_coordinator(message) {
+        return hand_to_coordinator(settings, progress, coordinator_memory);
+    }
+    hand_to_site(settings, progress, site_memory)
+}
+
+// Call by call, until none is due.
+fn deliver(
+    settings: Settings,
+    first: Progress,
+    site_memory: &[Word],
+    coordinator_memory: &mut [u64],
+) -> Progress
+    requires { ⌜ DeliverAsks settings (now «site_memory») first ⌝ }
+    ensures { λ r. ⌜ DeliverSays settings (now («site_memory» .entry)) (now («coordinator_memory» .entry)) (now («coordinator_memory» .exit)) first r ⌝ }
+{
+    let mut progress = first;
+    while call_due(progress) {
+        progress.left = progress.left - 1;
+        progress = take_step(settings, progress, site_memory, coordinator_memory);
+    }
+    progress
+}

@@ -1,0 +1,84 @@
+-- The list is refused, or its line and the others are written one after the other.
+use Rattle.session.proofs.FinishLaws.{finish-refused, finish-listed}
+use borrow.Author.Needs.{needs}
+use Rattle.session.proofs.finish.Statement.{statement}
+use Rattle.session.proofs.finish.Tie as tie
+use Rattle.session.proofs.finish.Reads as reads
+use Rattle.session.proofs.finish.Lts as lts
+use Rattle.reading.proofs.list_heavy_hitters.Reads as list-heavy-hitters-reads
+use Rattle.reading.proofs.read_quantile.Reads as read-quantile-reads
+use Rattle.session.proofs.refuse.Reads as refuse-reads
+use Rattle.session.proofs.stop.Reads as stop-reads
+use Rattle.transcript.proofs.write_class.Reads as write-class-reads
+use Rattle.transcript.proofs.write_count.Reads as write-count-reads
+use Rattle.transcript.proofs.write_listed.Reads as write-listed-reads
+
+list-heavy-hitters-requires : tie.Need-list-heavy-hitters-requires
+list-heavy-hitters-requires c κs = search needs
+
+refuse-requires : tie.Need-refuse-requires
+refuse-requires c κs = search needs
+
+same-length : tie.Need-same-length
+same-length c = search needs
+
+same-length-2 : tie.Need-same-length-2
+same-length-2 c = search needs
+
+returns : tie.Need-returns
+returns c =
+    let listed = c .before .before .before .before .before .before .before .before in
+    finish-refused _ _ _ _ (listed .list-heavy-hitters .result) (listed .list-heavy-hitters .ensures) _ _ _
+    (c .before .before .refuse .ensures) (c .before .before .before .before .if1 .taken)
+
+read-quantile-requires : tie.Need-read-quantile-requires
+read-quantile-requires c κs = search needs
+
+cast-write-listed : tie.Need-cast-write-listed
+cast-write-listed c = search needs
+
+write-listed-requires : tie.Need-write-listed-requires
+write-listed-requires c κs = search needs
+
+write-class-requires : tie.Need-write-class-requires
+write-class-requires c κs = search needs
+
+write-count-requires : tie.Need-write-count-requires
+write-count-requires c κs = search needs
+
+stop-requires : tie.Need-stop-requires
+stop-requires c κs = search needs
+
+same-length-3 : tie.Need-same-length-3
+same-length-3 c = let listed = c .before .before .before .before .before .before .before .before .before .before .before .before .before .before .before .before .before .before in search needs
+
+same-length-4 : tie.Need-same-length-4
+same-length-4 c = search needs
+
+returns-2 : tie.Need-returns-2
+returns-2 c =
+    let listed = c .before .before .before .before .before .before .before .before .before .before .before .before .before .before .before .before .before .before .before .before in
+    let read = c .before .before .before .before .before .before .before .before .before .before .before .before .before .before .before in
+    finish-listed _ _ _ _ (listed .list-heavy-hitters .result) (listed .list-heavy-hitters .ensures) _ _ _
+    (read .before .if1 .left) (read .read-quantile .result) (read .read-quantile .ensures) _ _ _ _ _
+    (c .before .before .before .before .before .before .before .before .before .before .before .write-listed .ensures) (c .before .before .before .before .before .before .before .write-class .ensures)
+    (c .before .before .before .write-count .ensures) (c .stop .ensures)
+
+pub finish-spec : {M : Type 1} → statement M
+finish-spec =
+    tie.close
+    (tie.spec
+    list-heavy-hitters-requires
+    refuse-requires
+    same-length
+    same-length-2
+    returns
+    read-quantile-requires
+    cast-write-listed
+    write-listed-requires
+    write-class-requires
+    write-count-requires
+    stop-requires
+    same-length-3
+    same-length-4
+    returns-2)

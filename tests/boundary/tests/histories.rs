@@ -112,7 +112,7 @@ const MET: [u8; 14] = [
 fn few_sites() {
     let mut random = Random::new(2_001);
     let mut both = Both::new();
-    for round in 0..200 {
+    for round in 0..120 {
         for (kind, &stream) in ALL.iter().enumerate() {
             let sites = random.pick(&[1, 1, 2, 3, 4, 7]);
             let numbers = some_settings(&mut random, sites);
@@ -120,7 +120,7 @@ fn few_sites() {
             run(&mut both, numbers, stream, seed, 60, &[0, 1, 2, 7, 40]);
         }
     }
-    both.enough(1_000_000, &MET, 1_000);
+    both.enough(600_000, &MET, 500);
 }
 
 #[test]

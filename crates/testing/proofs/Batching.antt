@@ -1,4 +1,4 @@
--- The batch call of the boundary: what fits, the two parts around the tracker's call, and the whole.
+-- The batch call of the boundary: what fits, both parts around the tracker's call, and the whole.
 --
 --   BatchFits, batch-fits       what the test shows
 --   opening-made                records made from numbers that fit

@@ -53,7 +53,8 @@ reading-on numbers records i reading inside =
       left-length = omega (arith, width);
       records-are =
           ap (λ (l : List SiteRecord). set l i (siteAt numbers (4 * i))) are
-          ∙ set-at (recordsFrom i numbers) y ys (siteAt numbers (4 * i)) i (length-recordsFrom i numbers)
+          ∙ set-at (recordsFrom i numbers) y ys (siteAt numbers (4 * i)) i
+          (length-recordsFrom i numbers)
           ∙ sym (append-assoc (recordsFrom i numbers) (siteAt numbers (4 * i) ∷ []) ys)
           ∙ ap (λ (n : ℕ). recordsFrom n numbers ++ ys) (sym (add-one i));
     }

@@ -11,7 +11,6 @@ use lib.Dec.{leb}
 use lib.ListN.{length}
 use denote.Ref.{RefT, now}
 use denote.Triple.Both.{Both}
-use Rattle.model.specs.Choice.{if_then_else_}
 use Rattle.model.specs.SiteMemory.{overwrite}
 use Rattle.testing.specs.declared.openings.PlacesOpened.{PlacesOpened}
 use Rattle.testing.specs.declared.openings.SiteOpened.{SiteOpened}
@@ -91,17 +90,18 @@ noCoordinator = record { fits = false; settings = zeroSettings; coordinator = ze
 
 pub record OpensPlaces (settings : List ℕ) (places least : ℕ) (opened : PlacesOpened)
     : Type 0 where
-  pub opened-is : opened
-      ≡ (if placesLent settings places least then placesMade settings else noPlaces)
+  pub fits-is : opened .fits ≡ placesLent settings places least
+  pub made : opened .fits ≡ true → opened ≡ placesMade settings
+  pub left : opened .fits ≡ false → opened ≡ noPlaces
 
 pub record OpensSite (settings site : List ℕ) (places least : ℕ) (opened : SiteOpened)
     : Type 0 where
-  pub opened-is : opened
-      ≡ (if siteLent settings site places least then siteMade settings site else noSite)
+  pub fits-is : opened .fits ≡ siteLent settings site places least
+  pub made : opened .fits ≡ true → opened ≡ siteMade settings site
+  pub left : opened .fits ≡ false → opened ≡ noSite
 
 pub record OpensCoordinator (settings numbers : List ℕ) (places least : ℕ)
     (opened : CoordinatorOpened) : Type 0 where
-  pub opened-is : opened
-      ≡ (if coordinatorLent settings numbers places least
-      then coordinatorMade settings numbers
-      else noCoordinator)
+  pub fits-is : opened .fits ≡ coordinatorLent settings numbers places least
+  pub made : opened .fits ≡ true → opened ≡ coordinatorMade settings numbers
+  pub left : opened .fits ≡ false → opened ≡ noCoordinator

@@ -1,10 +1,10 @@
--- `testing_run_batch` meets its contract: a walk of its MIR, by hand, since it takes a `&[Arrival]`. It
--- has no branch and no loop, and calls three functions. The first is lent `sites` and `coordinator`
--- again, each for a lifetime that is made for the call; the other two are given what they are lent for
--- good. All that the proof knows of the three is that they meet their contracts.
--- Numbers: 0 settings, 1 sites, 2 coordinator, 3 arrivals, 4 site memory, 5 coordinator memory, 6 log,
--- 7 out. Letters: x a reference and v its machine value, κ its lifetime and q the share of it; ν and δ a
--- lifetime and a ghost name made for a call, l the places of the locals.
+-- `testing_run_batch` meets its contract: a walk of its MIR, by hand, for it takes a `&[Arrival]`.
+-- It has no branch and no loop, and calls three functions. The first is lent `sites` and
+-- `coordinator` again, each for a lifetime that is made for the call; the other two are given what
+-- they are lent for good. All that the proof knows of the three is that they meet their contracts.
+-- Numbers: 0 settings, 1 sites, 2 coordinator, 3 arrivals, 4 the sites' memory, 5 coordinator's,
+-- 6 log, 7 out. Letters: x a reference and v its machine value, κ its lifetime and q a share of it;
+-- ν and δ a lifetime and a ghost name made for a call, l the places of the locals.
 use mathlib.Core.Path.{_≡_, refl, _∙_, ap, subst}
 use Prim.Native.Nat.{ℕ}
 use mathlib.Core.List.{List, [], _∷_}
@@ -254,8 +254,13 @@ module _ {M : Type 1} (𝓤 : URA M) (H : Heap 𝓤) (A : Atoms 𝓤) (W : Given
   -- ---- What the three calls are given, and what they say
 
   -- The opening.
-  abbrev Opened : Opening → List ℕ → List ℕ → Type 0
-  Opened r ss cs = Opens (x₀ .now) (change (x₁ .now) ss) (change (x₂ .now) cs) (length (x₇ .now)) r
+  abbrev OpenLasts : Type 0
+  OpenLasts = Unit {0} × (List ℕ × (List ℕ × (Unit {0} × Unit {0})))
+
+  abbrev Opened : Opening → OpenLasts → Type 0
+  Opened r ws =
+      Opens (x₀ .now) (change (x₁ .now) (ws .1 .0)) (change (x₂ .now) (ws .1 .1 .0))
+      (length (x₇ .now)) r
 
   abbrev opens-passed : GName → GName
       → RefT (List ℕ) × (RefT (List ℕ) × (RefT (List ℕ) × (ℕ × Unit {0})))
@@ -290,9 +295,14 @@ module _ {M : Type 1} (𝓤 : URA M) (H : Heap 𝓤) (A : Atoms 𝓤) (W : Given
         move ! (2 ∷ 0 ∷ []) $ join ! $ join ! $ frame ! $ ends !
 
   -- The tracker's call.
+  abbrev RunLasts : Type 0
+  RunLasts =
+      Unit {0} × (Unit {0} × (Unit {0} × (Unit {0}
+      × (List ℕ × (List ℕ × (List ℕ × Unit {0}))))))
+
   module _ (opening : Opening) where
-    abbrev Ran : BatchAnswer → List ℕ → List ℕ → List ℕ → Type 0
-    Ran r ms ds ns =
+    abbrev Ran : BatchAnswer → RunLasts → Type 0
+    Ran r ns =
         BatchSays
         (record {
           settings = opening .settings;
@@ -303,7 +313,11 @@ module _ {M : Type 1} (𝓤 : URA M) (H : Heap 𝓤) (A : Atoms 𝓤) (W : Given
           coordinatorMemory = x₅ .now;
           log = x₆ .now;
         })
-        (record { siteMemory = ms; coordinatorMemory = ds; log = ns }) r
+        (record {
+          siteMemory = ns .1 .1 .1 .1 .0;
+          coordinatorMemory = ns .1 .1 .1 .1 .1 .0;
+          log = ns .1 .1 .1 .1 .1 .1 .0;
+        }) r
 
     abbrev runs-passed : Settings × (Sites × (CoordinatorRecord × (RefT (List Arrival)
         × (RefT (List ℕ) × (RefT (List ℕ) × (RefT (List ℕ) × Unit {0}))))))
@@ -356,15 +370,22 @@ module _ {M : Type 1} (𝓤 : URA M) (H : Heap 𝓤) (A : Atoms 𝓤) (W : Given
         nothing ! $ move ! (5 ∷ 0 ∷ []) $ join ! $ move ! (4 ∷ 0 ∷ []) $ join ! $
         move ! (3 ∷ 0 ∷ []) $ join ! $ move ! (2 ∷ 0 ∷ []) $ join ! $ join ! $ frame ! $ ends !
 
-  -- The answer's numbers, from sites ss and coordinator cs.
-  module _ (opening : Opening) (done : BatchAnswer) (ss cs : List ℕ) where
-    abbrev Closed : ℕ → List ℕ → List ℕ → List ℕ → Type 0
-    Closed r ss′ cs′ os =
-        Closes (opening .fits) done (change ss ss′) (change cs cs′) (change (x₇ .now) os) r
+  -- The answer's numbers, from sites and coordinator as the opening left them.
+  abbrev CloseLasts : Type 0
+  CloseLasts = Unit {0} × (Unit {0} × (List ℕ × (List ℕ × (List ℕ × Unit {0}))))
+
+  module _ (opening : Opening) (done : BatchAnswer) (ws : OpenLasts) where
+    abbrev Closed : ℕ → CloseLasts → Type 0
+    Closed r os =
+        Closes (opening .fits) done (change (ws .1 .0) (os .1 .1 .0))
+        (change (ws .1 .1 .0) (os .1 .1 .1 .0)) (change (x₇ .now) (os .1 .1 .1 .1 .0)) r
 
     abbrev closes-passed : Opening × (BatchAnswer
         × (RefT (List ℕ) × (RefT (List ℕ) × (RefT (List ℕ) × Unit {0}))))
-    closes-passed = (opening, (done, (at x₁ (x₁ .name) ss, (at x₂ (x₂ .name) cs, (x₇, tt)))))
+    closes-passed = (
+      opening,
+      (done, (at x₁ (x₁ .name) (ws .1 .0), (at x₂ (x₂ .name) (ws .1 .1 .0), (x₇, tt)))),
+    )
 
     abbrev closes-to : Closes′ 𝓤 H A mem run .Ghost
     closes-to = (
@@ -381,10 +402,11 @@ module _ {M : Type 1} (𝓤 : URA M) (H : Heap 𝓤) (A : Atoms 𝓤) (W : Given
     abbrev closes-lent : List (Item 𝓤)
     closes-lent =
         ‵ (flft κ₁ q₁) ∷ ‵ (flft κ₂ q₂) ∷ ‵ (flft κ₇ q₇)
-        ∷ Own₁ ss ∷ Own₂ cs ∷ ‵ (MutSlice (named 7) κ₇ u64 .own x₇ (v₇ ∷ [])) ∷ []
+        ∷ Own₁ (ws .1 .0) ∷ Own₂ (ws .1 .1 .0)
+        ∷ ‵ (MutSlice (named 7) κ₇ u64 .own x₇ (v₇ ∷ [])) ∷ []
 
     closes-goes : Is O.the-row opening (VO opening ∷ []) → Is K.the-row done (VK done ∷ [])
-        → ClosesAsk (opening .fits) ss cs (x₇ .now)
+        → ClosesAsk (opening .fits) (ws .1 .0) (ws .1 .1 .0) (x₇ .now)
         → ent 𝓤 (⋆ 𝓤 H A closes-lent) (Closes′ 𝓤 H A mem run .pre closes-to)
     closes-goes good answer-good asks =
         qed W closes-lent ∵ says ! asks $
@@ -392,41 +414,58 @@ module _ {M : Type 1} (𝓤 : URA M) (H : Heap 𝓤) (A : Atoms 𝓤) (W : Given
         move ! (1 ∷ 0 ∷ []) $ join ! $ frame ! $
         nothing ! $ move ! (3 ∷ 0 ∷ []) $ fjoin ! $ move ! (2 ∷ 0 ∷ []) $ fjoin ! $
         move ! (1 ∷ 0 ∷ []) $ fjoin ! $
-        owned ! K.the-row (Is K.the-row) (LL.makes K.the-type K′.the-plain 𝓤 H A) done _ answer-good $
-        fjoin ! $
+        owned ! K.the-row (Is K.the-row) (LL.makes K.the-type K′.the-plain 𝓤 H A) done _
+        answer-good $ fjoin ! $
         owned ! O.the-row (Is O.the-row) (LL.makes O.the-type O′.the-plain 𝓤 H A) opening _ good $
         fjoin ! $ ends !
 
   -- ---- The exit
 
-  -- From what the three calls leave to the contract.
+  -- What is had then: the tokens, of each parameter what `stayed` says, and the answer.
+  abbrev Ended : RunLasts → CloseLasts → ℕ → Val → List (Item 𝓤)
+  Ended ns os r u =
+      ‵ (flft κ₀ q₀) ∷ ‵ (flft κ₁ q₁) ∷ ‵ (flft κ₂ q₂) ∷ ‵ (flft κ₃ q₃)
+      ∷ ‵ (flft κ₄ q₄) ∷ ‵ (flft κ₅ q₅) ∷ ‵ (flft κ₆ q₆) ∷ ‵ (flft κ₇ q₇)
+      ∷ Own₀ ∷ ‵ (finally u64 (x₁ .name) (os .1 .1 .0))
+      ∷ ‵ (finally u64 (x₂ .name) (os .1 .1 .1 .0)) ∷ Own₃
+      ∷ ‵ (finally u32 (x₄ .name) (ns .1 .1 .1 .1 .0))
+      ∷ ‵ (finally u64 (x₅ .name) (ns .1 .1 .1 .1 .1 .0))
+      ∷ ‵ (finally u64 (x₆ .name) (ns .1 .1 .1 .1 .1 .1 .0))
+      ∷ ‵ (finally u64 (x₇ .name) (os .1 .1 .1 .1 .0))
+      ∷ ‵ (u32 .own r (u ∷ [])) ∷ []
+
+  -- From what the three calls say to the contract.
   exits : (opening : Opening) (done : BatchAnswer) (r : ℕ) (u : Val)
-      (ss cs ss′ cs′ ms ds ns os : List ℕ)
-      → Opened opening ss cs → Ran opening done ms ds ns → Closed opening done ss cs r ss′ cs′ os
-      → length ss′ ≡ length (x₁ .now) → length cs′ ≡ length (x₂ .now)
-      → length ms ≡ length (x₄ .now) → length ds ≡ length (x₅ .now)
-      → length ns ≡ length (x₆ .now) → length os ≡ length (x₇ .now)
-      → ent 𝓤
-      (⋆ 𝓤 H A
-      (‵ (flft κ₀ q₀) ∷ ‵ (flft κ₁ q₁) ∷ ‵ (flft κ₂ q₂) ∷ ‵ (flft κ₃ q₃)
-      ∷ ‵ (flft κ₄ q₄) ∷ ‵ (flft κ₅ q₅) ∷ ‵ (flft κ₆ q₆) ∷ ‵ (flft κ₇ q₇)
-      ∷ Own₀ ∷ ‵ (finally u64 (x₁ .name) ss′) ∷ ‵ (finally u64 (x₂ .name) cs′) ∷ Own₃
-      ∷ ‵ (finally u32 (x₄ .name) ms) ∷ ‵ (finally u64 (x₅ .name) ds)
-      ∷ ‵ (finally u64 (x₆ .name) ns) ∷ ‵ (finally u64 (x₇ .name) os)
-      ∷ ‵ (u32 .own r (u ∷ [])) ∷ []))
-      (Post u)
-  exits opening done r u ss cs ss′ cs′ ms ds ns os opened ran closed e₁ e₂ e₄ e₅ e₆ e₇ =
-      qed W
-      (‵ (flft κ₀ q₀) ∷ ‵ (flft κ₁ q₁) ∷ ‵ (flft κ₂ q₂) ∷ ‵ (flft κ₃ q₃)
-      ∷ ‵ (flft κ₄ q₄) ∷ ‵ (flft κ₅ q₅) ∷ ‵ (flft κ₆ q₆) ∷ ‵ (flft κ₇ q₇)
-      ∷ Own₀ ∷ ‵ (finally u64 (x₁ .name) ss′) ∷ ‵ (finally u64 (x₂ .name) cs′) ∷ Own₃
-      ∷ ‵ (finally u32 (x₄ .name) ms) ∷ ‵ (finally u64 (x₅ .name) ds)
-      ∷ ‵ (finally u64 (x₆ .name) ns) ∷ ‵ (finally u64 (x₇ .name) os)
-      ∷ ‵ (u32 .own r (u ∷ [])) ∷ []) ∵
-      suffices ! _ (ends-at 𝓤 H A fun.ended stayed (fun.clauses 𝓤 H A mem run) W bound u r
-      (tt, (ss′, (cs′, (tt, (ms, (ds, (ns, (os, tt))))))))
+      (ws : OpenLasts) (ns : RunLasts) (os : CloseLasts)
+      → Opened opening ws → Ran opening done ns → Closed opening done ws r os
+      → length (os .1 .1 .0) ≡ length (x₁ .now)
+      → length (os .1 .1 .1 .0) ≡ length (x₂ .now)
+      → length (ns .1 .1 .1 .1 .0) ≡ length (x₄ .now)
+      → length (ns .1 .1 .1 .1 .1 .0) ≡ length (x₅ .now)
+      → length (ns .1 .1 .1 .1 .1 .1 .0) ≡ length (x₆ .now)
+      → length (os .1 .1 .1 .1 .0) ≡ length (x₇ .now)
+      → ent 𝓤 (⋆ 𝓤 H A (Ended ns os r u)) (Post u)
+  exits opening done r u ws ns os opened ran closed e₁ e₂ e₄ e₅ e₆ e₇ =
+      qed W (Ended ns os r u) ∵
+      suffices ! _ (ends-at 𝓤 H A fun.ended stayed (fun.clauses 𝓤 H A mem run) W bound u r (
+        tt,
+        (
+          lends .sites .after,
+          (
+            lends .coordinator .after,
+            (
+              tt,
+              (
+                lends .siteMemory .after,
+                (lends .coordinatorMemory .after, (lends .log .after, (lends .out .after, tt))),
+              ),
+            ),
+          ),
+        ),
+      )
       (tt, (e₁, (e₂, (tt, (e₄, (e₅, (e₆, (e₇, tt))))))))) $
-      says ! (batch-exported (x₀ .now) (x₃ .now) lends ss cs opening done r opened ran closed) $
+      says ! (batch-exported (x₀ .now) (x₃ .now) lends (ws .1 .0) (ws .1 .1 .0) opening done r
+      opened ran closed) $
       nothing ! $ move ! (8 ∷ 0 ∷ []) $ join ! $ move ! (7 ∷ 0 ∷ []) $ join ! $
       move ! (6 ∷ 0 ∷ []) $ join ! $ move ! (5 ∷ 0 ∷ []) $ join ! $
       move ! (4 ∷ 0 ∷ []) $ join ! $ move ! (3 ∷ 0 ∷ []) $ join ! $
@@ -438,12 +477,12 @@ module _ {M : Type 1} (𝓤 : URA M) (H : Heap 𝓤) (A : Atoms 𝓤) (W : Given
     where
       lends : BatchLends
       lends = record {
-        sites = change (x₁ .now) ss′;
-        coordinator = change (x₂ .now) cs′;
-        siteMemory = change (x₄ .now) ms;
-        coordinatorMemory = change (x₅ .now) ds;
-        log = change (x₆ .now) ns;
-        out = change (x₇ .now) os;
+        sites = change (x₁ .now) (os .1 .1 .0);
+        coordinator = change (x₂ .now) (os .1 .1 .1 .0);
+        siteMemory = change (x₄ .now) (ns .1 .1 .1 .1 .0);
+        coordinatorMemory = change (x₅ .now) (ns .1 .1 .1 .1 .1 .0);
+        log = change (x₆ .now) (ns .1 .1 .1 .1 .1 .1 .0);
+        out = change (x₇ .now) (os .1 .1 .1 .1 .0);
       }
 
   -- ---- The walk
@@ -468,7 +507,8 @@ module _ {M : Type 1} (𝓤 : URA M) (H : Heap 𝓤) (A : Atoms 𝓤) (W : Given
         ∷ ShrSlice (named 3) κ₃ T.the-row ∷ MutSlice (named 4) κ₄ u32 ∷ MutSlice (named 5) κ₅ u64
         ∷ MutSlice (named 6) κ₆ u64 ∷ MutSlice (named 7) κ₇ u64 ∷ [])
         (x₀, (x₁, (x₂, (x₃, (x₄, (x₅, (x₆, (x₇, tt))))))))
-        (v₀ ∷ [], (v₁ ∷ [], (v₂ ∷ [], (v₃ ∷ [], (v₄ ∷ [], (v₅ ∷ [], (v₆ ∷ [], (v₇ ∷ [], tt))))))))) ∷ []) ∵
+        (v₀ ∷ [], (v₁ ∷ [], (v₂ ∷ [], (v₃ ∷ [], (v₄ ∷ [], (v₅ ∷ [], (v₆ ∷ [], (v₇ ∷ [], tt)))))))))
+        ∷ []) ∵
         enter ! (𝓣 .C) (𝓣 .Λ) code.function (v₀ ∷ v₁ ∷ v₂ ∷ v₃ ∷ v₄ ∷ v₅ ∷ v₆ ∷ v₇ ∷ []) _ $
         alloc1 ! (λ l₀. alloc1 ! (λ l₁. alloc1 ! (λ l₂. alloc1 ! (λ l₃. alloc1 ! (λ l₄.
         alloc1 ! (λ l₅. alloc1 ! (λ l₆. alloc1 ! (λ l₇. alloc1 ! (λ l₈. alloc1 ! (λ l₉.
@@ -494,17 +534,23 @@ module _ {M : Type 1} (𝓤 : URA M) (H : Heap 𝓤) (A : Atoms 𝓤) (W : Given
         move ! (1 ∷ []) $ fsplit ! $ move ! (1 ∷ []) $ fsplit ! $ move ! (1 ∷ []) $ fsplit ! $
         move ! (1 ∷ []) $ fsplit ! $ move ! (1 ∷ []) $ fsplit ! $ move ! (1 ∷ []) $ drop ! $
         -- the opening: sites and coordinator are lent again
-        assigns ! (addr ! (from ! (fld ! refl (hop ! (look-in ! 66 (sub ! 0 refl (whole !))) (stop !)))))
+        assigns !
+        (addr ! (from ! (fld ! refl (hop ! (look-in ! 66 (sub ! 0 refl (whole !))) (stop !)))))
         (from ! (stop !)) (init ! 48 refl (tt, tt)) $
         assigns ! (agg ! (and-then ! (load ! (from ! (stop !)) (look ! 48 refl))
-        (and-then ! (load ! (from ! (fld ! refl (stop !))) (look-in ! 66 (sub ! 1 refl (whole !)))) (no-more !))))
+        (and-then ! (load ! (from ! (fld ! refl (stop !))) (look-in ! 66 (sub ! 1 refl (whole !))))
+        (no-more !))))
         (from ! (stop !)) (init ! 46 refl (tt, (tt, (record { fits = room .g₁ .0 }, tt)))) $
-        assigns ! (addr ! (from ! (fld ! refl (hop ! (look-in ! 64 (sub ! 0 refl (whole !))) (stop !)))))
+        assigns !
+        (addr ! (from ! (fld ! refl (hop ! (look-in ! 64 (sub ! 0 refl (whole !))) (stop !)))))
         (from ! (stop !)) (init ! 44 refl (tt, tt)) $
         assigns ! (agg ! (and-then ! (load ! (from ! (stop !)) (look ! 44 refl))
-        (and-then ! (load ! (from ! (fld ! refl (stop !))) (look-in ! 64 (sub ! 1 refl (whole !)))) (no-more !))))
+        (and-then ! (load ! (from ! (fld ! refl (stop !))) (look-in ! 64 (sub ! 1 refl (whole !))))
+        (no-more !))))
         (from ! (stop !)) (init ! 42 refl (tt, (tt, (record { fits = room .g₂ .0 }, tt)))) $
-        assigns ! (of-opd ! (load ! (from ! (fld ! refl (stop !))) (look-in ! 54 (sub ! 1 refl (whole !))))) (from ! (stop !)) (init ! 40 refl (tt, record { fits = room .g₇ .0 })) $
+        assigns !
+        (of-opd ! (load ! (from ! (fld ! refl (stop !))) (look-in ! 54 (sub ! 1 refl (whole !)))))
+        (from ! (stop !)) (init ! 40 refl (tt, record { fits = room .g₇ .0 })) $
         -- sites and coordinator are lent again
         move ! (6 ∷ 14 ∷ []) $
         lends u64 lent₁ (named 1) (named 1) (x₁ .now) ! tt (λ ν₁ δ₁.
@@ -514,7 +560,8 @@ module _ {M : Type 1} (𝓤 : URA M) (H : Heap 𝓤) (A : Atoms 𝓤) (W : Given
         use1 W (Own₀ ⊛ Own₀) (shr-slice-copy 𝓤 H A W (named 0) κ₀ u32 .twice x₀ (v₀ ∷ [])) $
         split ! $
         move ! (18 ∷ 7 ∷ 4 ∷ 1 ∷ 5 ∷ 2 ∷ []) $ group ! 6 $
-        use1 W (raw (Opens′ 𝓤 H A mem run .pre (opens-to ν₁ ν₂ δ₁ δ₂))) (opens-goes ν₁ ν₂ δ₁ δ₂ room) $
+        use1 W (raw (Opens′ 𝓤 H A mem run .pre (opens-to ν₁ ν₂ δ₁ δ₂)))
+        (opens-goes ν₁ ν₂ δ₁ δ₂ room) $
         calls-at ! (fmOf 𝓤 H (W .laws) 𝓣) (Opens′ 𝓤 H A mem run) opens-known (opens-to ν₁ ν₂ δ₁ δ₂)
         (and-then ! (load ! (from ! (stop !)) (look ! 66 refl))
         (and-then ! (load ! (from ! (stop !)) (look ! 44 refl))
@@ -523,18 +570,19 @@ module _ {M : Type 1} (𝓤 : URA M) (H : Heap 𝓤) (A : Atoms 𝓤) (W : Given
         (no-more !)))))
         (λ u.
         use1 W (later (some (λ (opening : Opening).
-        ((‵ (flft κ₀ q₀) ⊛ (‵ (flft (ν₁ ∷ []) fullShare) ⊛ (‵ (flft (ν₂ ∷ []) fullShare) ⊛ ‵ ftrue)))
+        ((‵ (flft κ₀ q₀) ⊛ (‵ (flft (ν₁ ∷ []) fullShare)
+        ⊛ (‵ (flft (ν₂ ∷ []) fullShare) ⊛ ‵ ftrue)))
         ⊛ ‵ (O.the-row .own opening (u ∷ [])))
-        ⊛ raw (ensured 𝓤 H A opener.ended (opener.clauses 𝓤 H A mem run) (κ₀, (ν₁ ∷ [], (ν₂ ∷ [], tt)))
-        (opens-passed δ₁ δ₂) tt opening)))) (id⊢ 𝓤 _) $
+        ⊛ raw (ensured 𝓤 H A opener.ended (opener.clauses 𝓤 H A mem run)
+        (κ₀, (ν₁ ∷ [], (ν₂ ∷ [], tt))) (opens-passed δ₁ δ₂) tt opening)))) (id⊢ 𝓤 _) $
         await ! tt $ pick ! (λ opening.
         split ! $ move ! (1 ∷ []) $
-        use1 W (some (λ (ws : Unit {0} × (List ℕ × (List ℕ × (Unit {0} × Unit {0})))).
+        use1 W (some (λ (ws : OpenLasts).
         ‵ (lasts opener.ended (κ₀, (ν₁ ∷ [], (ν₂ ∷ [], tt))) (opens-passed δ₁ δ₂) ws)
-        ⊛ raw (fact 𝓤 (Opened opening (ws .1 .0) (ws .1 .1 .0))))) (id⊢ 𝓤 _) $
+        ⊛ raw (fact 𝓤 (Opened opening ws)))) (id⊢ 𝓤 _) $
         pick ! (λ ws.
         split ! $ move ! (1 ∷ []) $
-        heard ! (Opened opening (ws .1 .0) (ws .1 .1 .0)) (λ opened.
+        heard ! (Opened opening ws) (λ opened.
         fsplit ! $ drop ! $ fsplit ! $ fsplit ! $ move ! (1 ∷ []) $
         feqL ! (λ same₁.
         move ! (1 ∷ []) $ fsplit ! $ fsplit ! $ move ! (1 ∷ []) $
@@ -542,7 +590,8 @@ module _ {M : Type 1} (𝓤 : URA M) (H : Heap 𝓤) (A : Atoms 𝓤) (W : Given
         move ! (1 ∷ []) $ drop ! $
         move ! (2 ∷ []) $ split ! $ move ! (1 ∷ []) $
         peeks ! O.the-row (Is O.the-row) (shows 𝓤 H A O.the-row) opening (u ∷ []) (λ opening-is.
-        land ! (from ! (stop !)) (init ! 53 refl (LL.lawful O.the-type O′.the-laws 𝓤 H A W .typed opening _ opening-is .0)) $
+        land ! (from ! (stop !)) (init ! 53 refl
+        (LL.lawful O.the-type O′.the-laws 𝓤 H A W .typed opening _ opening-is .0)) $
         rewrite ! 53 (λ (w : Val). ‵ (fat fullShare O′.mir l₉ 0 w))
         (ap only (LL.tells O.the-type O′.the-laws opening (u ∷ []) opening-is)) refl $ drop ! $
         -- the lifetimes are ended, and both come back
@@ -552,20 +601,26 @@ module _ {M : Type 1} (𝓤 : URA M) (H : Heap 𝓤) (A : Atoms 𝓤) (W : Given
         returned u64 lent₂ (named 2) (named 2) (x₂ .now) ! tt ν₂ δ₂ _ same₂ $
         move ! (2 ∷ []) $ drop ! $
         -- the tracker's call: both memories and the log are given
-        assigns ! (addr ! (from ! (fld ! refl (hop ! (look-in ! 60 (sub ! 0 refl (whole !))) (stop !)))))
+        assigns !
+        (addr ! (from ! (fld ! refl (hop ! (look-in ! 60 (sub ! 0 refl (whole !))) (stop !)))))
         (from ! (stop !)) (init ! 38 refl (tt, tt)) $
         assigns ! (agg ! (and-then ! (load ! (from ! (stop !)) (look ! 38 refl))
-        (and-then ! (load ! (from ! (fld ! refl (stop !))) (look-in ! 60 (sub ! 1 refl (whole !)))) (no-more !))))
+        (and-then ! (load ! (from ! (fld ! refl (stop !))) (look-in ! 60 (sub ! 1 refl (whole !))))
+        (no-more !))))
         (from ! (stop !)) (init ! 36 refl (tt, (tt, (record { fits = room .g₄ .0 }, tt)))) $
-        assigns ! (addr ! (from ! (fld ! refl (hop ! (look-in ! 58 (sub ! 0 refl (whole !))) (stop !)))))
+        assigns !
+        (addr ! (from ! (fld ! refl (hop ! (look-in ! 58 (sub ! 0 refl (whole !))) (stop !)))))
         (from ! (stop !)) (init ! 34 refl (tt, tt)) $
         assigns ! (agg ! (and-then ! (load ! (from ! (stop !)) (look ! 34 refl))
-        (and-then ! (load ! (from ! (fld ! refl (stop !))) (look-in ! 58 (sub ! 1 refl (whole !)))) (no-more !))))
+        (and-then ! (load ! (from ! (fld ! refl (stop !))) (look-in ! 58 (sub ! 1 refl (whole !))))
+        (no-more !))))
         (from ! (stop !)) (init ! 32 refl (tt, (tt, (record { fits = room .g₅ .0 }, tt)))) $
-        assigns ! (addr ! (from ! (fld ! refl (hop ! (look-in ! 56 (sub ! 0 refl (whole !))) (stop !)))))
+        assigns !
+        (addr ! (from ! (fld ! refl (hop ! (look-in ! 56 (sub ! 0 refl (whole !))) (stop !)))))
         (from ! (stop !)) (init ! 30 refl (tt, tt)) $
         assigns ! (agg ! (and-then ! (load ! (from ! (stop !)) (look ! 30 refl))
-        (and-then ! (load ! (from ! (fld ! refl (stop !))) (look-in ! 56 (sub ! 1 refl (whole !)))) (no-more !))))
+        (and-then ! (load ! (from ! (fld ! refl (stop !))) (look-in ! 56 (sub ! 1 refl (whole !))))
+        (no-more !))))
         (from ! (stop !)) (init ! 28 refl (tt, (tt, (record { fits = room .g₆ .0 }, tt)))) $
         move ! (10 ∷ []) $
         use1 W (Own₃ ⊛ Own₃) (shr-slice-copy 𝓤 H A W (named 3) κ₃ T.the-row .twice x₃ (v₃ ∷ [])) $
@@ -590,12 +645,12 @@ module _ {M : Type 1} (𝓤 : URA M) (H : Heap 𝓤) (A : Atoms 𝓤) (W : Given
         (runs-passed opening) tt done)))) (id⊢ 𝓤 _) $
         await ! tt $ pick ! (λ done.
         split ! $ move ! (1 ∷ []) $
-        use1 W (some (λ (ns : Unit {0} × (Unit {0} × (Unit {0} × (Unit {0} × (List ℕ × (List ℕ × (List ℕ × Unit {0}))))))).
+        use1 W (some (λ (ns : RunLasts).
         ‵ (lasts batch.ended (κ₃, (κ₄, (κ₅, (κ₆, tt)))) (runs-passed opening) ns)
-        ⊛ raw (fact 𝓤 (Ran opening done (ns .1 .1 .1 .1 .0) (ns .1 .1 .1 .1 .1 .0) (ns .1 .1 .1 .1 .1 .1 .0))))) (id⊢ 𝓤 _) $
+        ⊛ raw (fact 𝓤 (Ran opening done ns)))) (id⊢ 𝓤 _) $
         pick ! (λ ns.
         split ! $ move ! (1 ∷ []) $
-        heard ! (Ran opening done (ns .1 .1 .1 .1 .0) (ns .1 .1 .1 .1 .1 .0) (ns .1 .1 .1 .1 .1 .1 .0)) (λ ran.
+        heard ! (Ran opening done ns) (λ ran.
         fsplit ! $ drop ! $ fsplit ! $ drop ! $ fsplit ! $ drop ! $ fsplit ! $ drop ! $
         fsplit ! $ fsplit ! $ move ! (1 ∷ []) $
         feqL ! (λ same₄.
@@ -606,33 +661,40 @@ module _ {M : Type 1} (𝓤 : URA M) (H : Heap 𝓤) (A : Atoms 𝓤) (W : Given
         move ! (1 ∷ []) $ drop ! $
         move ! (3 ∷ []) $ split ! $ move ! (1 ∷ []) $
         peeks ! K.the-row (Is K.the-row) (shows 𝓤 H A K.the-row) done (u₁ ∷ []) (λ done-is.
-        land ! (from ! (stop !)) (init ! 48 refl (LL.lawful K.the-type K′.the-laws 𝓤 H A W .typed done _ done-is .0)) $
+        land ! (from ! (stop !)) (init ! 48 refl
+        (LL.lawful K.the-type K′.the-laws 𝓤 H A W .typed done _ done-is .0)) $
         rewrite ! 48 (λ (w : Val). ‵ (fat fullShare K′.mir l₁₀ 0 w))
         (ap only (LL.tells K.the-type K′.the-laws done (u₁ ∷ []) done-is)) refl $ drop ! $
         split ! $ move ! (1 ∷ []) $ split ! $ move ! (1 ∷ []) $ split ! $ move ! (1 ∷ []) $
         split ! $ move ! (1 ∷ []) $ drop ! $
         -- the answer's numbers: sites, coordinator and out are given
-        assigns ! (addr ! (from ! (fld ! refl (hop ! (look-in ! 66 (sub ! 0 refl (whole !))) (stop !)))))
+        assigns !
+        (addr ! (from ! (fld ! refl (hop ! (look-in ! 66 (sub ! 0 refl (whole !))) (stop !)))))
         (from ! (stop !)) (init ! 26 refl (tt, tt)) $
         assigns ! (agg ! (and-then ! (load ! (from ! (stop !)) (look ! 26 refl))
-        (and-then ! (load ! (from ! (fld ! refl (stop !))) (look-in ! 66 (sub ! 1 refl (whole !)))) (no-more !))))
+        (and-then ! (load ! (from ! (fld ! refl (stop !))) (look-in ! 66 (sub ! 1 refl (whole !))))
+        (no-more !))))
         (from ! (stop !)) (init ! 24 refl (tt, (tt, (record { fits = room .g₁ .0 }, tt)))) $
-        assigns ! (addr ! (from ! (fld ! refl (hop ! (look-in ! 64 (sub ! 0 refl (whole !))) (stop !)))))
+        assigns !
+        (addr ! (from ! (fld ! refl (hop ! (look-in ! 64 (sub ! 0 refl (whole !))) (stop !)))))
         (from ! (stop !)) (init ! 22 refl (tt, tt)) $
         assigns ! (agg ! (and-then ! (load ! (from ! (stop !)) (look ! 22 refl))
-        (and-then ! (load ! (from ! (fld ! refl (stop !))) (look-in ! 64 (sub ! 1 refl (whole !)))) (no-more !))))
+        (and-then ! (load ! (from ! (fld ! refl (stop !))) (look-in ! 64 (sub ! 1 refl (whole !))))
+        (no-more !))))
         (from ! (stop !)) (init ! 20 refl (tt, (tt, (record { fits = room .g₂ .0 }, tt)))) $
-        assigns ! (addr ! (from ! (fld ! refl (hop ! (look-in ! 54 (sub ! 0 refl (whole !))) (stop !)))))
+        assigns !
+        (addr ! (from ! (fld ! refl (hop ! (look-in ! 54 (sub ! 0 refl (whole !))) (stop !)))))
         (from ! (stop !)) (init ! 18 refl (tt, tt)) $
         assigns ! (agg ! (and-then ! (load ! (from ! (stop !)) (look ! 18 refl))
-        (and-then ! (load ! (from ! (fld ! refl (stop !))) (look-in ! 54 (sub ! 1 refl (whole !)))) (no-more !))))
+        (and-then ! (load ! (from ! (fld ! refl (stop !))) (look-in ! 54 (sub ! 1 refl (whole !))))
+        (no-more !))))
         (from ! (stop !)) (init ! 16 refl (tt, (tt, (record { fits = room .g₇ .0 }, tt)))) $
         move ! (11 ∷ 9 ∷ 15 ∷ 10 ∷ 8 ∷ 14 ∷ []) $ group ! 6 $
-        use1 W (raw (Closes′ 𝓤 H A mem run .pre (closes-to opening done (ws .1 .0) (ws .1 .1 .0))))
-        (closes-goes opening done (ws .1 .0) (ws .1 .1 .0) (opening-good opening u opening-is)
+        use1 W (raw (Closes′ 𝓤 H A mem run .pre (closes-to opening done ws)))
+        (closes-goes opening done ws (opening-good opening u opening-is)
         (done-good done u₁ done-is) (closes-ask opened)) $
         calls-at ! (fmOf 𝓤 H (W .laws) 𝓣) (Closes′ 𝓤 H A mem run) closes-known
-        (closes-to opening done (ws .1 .0) (ws .1 .1 .0))
+        (closes-to opening done ws)
         (and-then ! (load ! (from ! (stop !)) (look ! 47 refl))
         (and-then ! (load ! (from ! (stop !)) (look ! 45 refl))
         (and-then ! (load ! (from ! (stop !)) (look ! 19 refl))
@@ -641,17 +703,18 @@ module _ {M : Type 1} (𝓤 : URA M) (H : Heap 𝓤) (A : Atoms 𝓤) (W : Given
         (no-more !))))))
         (λ u₂.
         use1 W (later (some (λ (r : ℕ).
-        ((‵ (flft κ₁ q₁) ⊛ (‵ (flft κ₂ q₂) ⊛ (‵ (flft κ₇ q₇) ⊛ ‵ ftrue))) ⊛ ‵ (u32 .own r (u₂ ∷ [])))
+        ((‵ (flft κ₁ q₁) ⊛ (‵ (flft κ₂ q₂) ⊛ (‵ (flft κ₇ q₇) ⊛ ‵ ftrue)))
+        ⊛ ‵ (u32 .own r (u₂ ∷ [])))
         ⊛ raw (ensured 𝓤 H A closer.ended (closer.clauses 𝓤 H A mem run) (κ₁, (κ₂, (κ₇, tt)))
-        (closes-passed opening done (ws .1 .0) (ws .1 .1 .0)) tt r)))) (id⊢ 𝓤 _) $
+        (closes-passed opening done ws) tt r)))) (id⊢ 𝓤 _) $
         await ! tt $ pick ! (λ r.
         split ! $ move ! (1 ∷ []) $
-        use1 W (some (λ (os : Unit {0} × (Unit {0} × (List ℕ × (List ℕ × (List ℕ × Unit {0}))))).
-        ‵ (lasts closer.ended (κ₁, (κ₂, (κ₇, tt))) (closes-passed opening done (ws .1 .0) (ws .1 .1 .0)) os)
-        ⊛ raw (fact 𝓤 (Closed opening done (ws .1 .0) (ws .1 .1 .0) r (os .1 .1 .0) (os .1 .1 .1 .0) (os .1 .1 .1 .1 .0))))) (id⊢ 𝓤 _) $
+        use1 W (some (λ (os : CloseLasts).
+        ‵ (lasts closer.ended (κ₁, (κ₂, (κ₇, tt))) (closes-passed opening done ws) os)
+        ⊛ raw (fact 𝓤 (Closed opening done ws r os)))) (id⊢ 𝓤 _) $
         pick ! (λ os.
         split ! $ move ! (1 ∷ []) $
-        heard ! (Closed opening done (ws .1 .0) (ws .1 .1 .0) r (os .1 .1 .0) (os .1 .1 .1 .0) (os .1 .1 .1 .1 .0)) (λ closed.
+        heard ! (Closed opening done ws r os) (λ closed.
         fsplit ! $ drop ! $ fsplit ! $ drop ! $ fsplit ! $ fsplit ! $ move ! (1 ∷ []) $
         feqL ! (λ last₁.
         move ! (1 ∷ []) $ fsplit ! $ fsplit ! $ move ! (1 ∷ []) $
@@ -688,9 +751,9 @@ module _ {M : Type 1} (𝓤 : URA M) (H : Heap 𝓤) (A : Atoms 𝓤) (W : Given
         move ! (23 ∷ 24 ∷ []) $ free1 ! $ move ! (21 ∷ 22 ∷ []) $ free1 ! $
         move ! (19 ∷ 20 ∷ []) $ free1 ! $ move ! (17 ∷ 18 ∷ []) $ free1 ! $ free0 ! $
         move ! (15 ∷ 2 ∷ 1 ∷ 10 ∷ 9 ∷ 8 ∷ 7 ∷ 0 ∷ 16 ∷ 6 ∷ 5 ∷ 14 ∷ 13 ∷ 12 ∷ 11 ∷ 4 ∷ 3 ∷ []) $
-        by ! (exits opening done r u₂ (ws .1 .0) (ws .1 .1 .0) (os .1 .1 .0) (os .1 .1 .1 .0)
-        (ns .1 .1 .1 .1 .0) (ns .1 .1 .1 .1 .1 .0) (ns .1 .1 .1 .1 .1 .1 .0) (os .1 .1 .1 .1 .0)
-        opened ran closed (last₁ ∙ same₁) (last₂ ∙ same₂) same₄ same₅ same₆ last₇))))))))))))))))))))))))))))))))))))))))))))))))))))))
+        by ! (exits opening done r u₂ ws ns os opened ran closed
+        (last₁ ∙ same₁) (last₂ ∙ same₂) same₄ same₅ same₆ last₇)
+        )))))))))))))))))))))))))))))))))))))))))))))))))))))
 
 module _ {M : Type 1} (𝓤 : URA M) (H : Heap 𝓤) (A : Atoms 𝓤) (W : Given 𝓤 H A)
     (mem : Memory → SProp 𝓤) (run : Routine → Fun 𝓤) (𝓣 : Tables 𝓤 H)
@@ -702,7 +765,19 @@ module _ {M : Type 1} (𝓤 : URA M) (H : Heap 𝓤) (A : Atoms 𝓤) (W : Given
   walks =
       walked 𝓤 H A fun.ended stayed (fun.clauses 𝓤 H A mem run)
       (WpFn 𝓤 H (𝓣 .C) (𝓣 .Λ) code.function)
-      (λ κs. (slice-vals, (slice-vals, (slice-vals, (slice-vals, (slice-vals, (slice-vals, (slice-vals, (slice-vals, tt)))))))))
+      (λ κs. (
+        slice-vals,
+        (
+          slice-vals,
+          (
+            slice-vals,
+            (
+              slice-vals,
+              (slice-vals, (slice-vals, (slice-vals, (slice-vals, tt)))),
+            ),
+          ),
+        ),
+      ))
       (λ κs. (
         shr-slice-tells (named 0) (κs .0) u32,
         (
@@ -730,12 +805,15 @@ module _ {M : Type 1} (𝓤 : URA M) (H : Heap 𝓤) (A : Atoms 𝓤) (W : Given
       ))
       (λ κs qs bounds a g are. via 𝓤 _ (fst∗ 𝓤 _ (emp 𝓤))
       (walk 𝓤 H A W mem run
-      (κs .0) (κs .1 .0) (κs .1 .1 .0) (κs .1 .1 .1 .0)
-      (κs .1 .1 .1 .1 .0) (κs .1 .1 .1 .1 .1 .0) (κs .1 .1 .1 .1 .1 .1 .0) (κs .1 .1 .1 .1 .1 .1 .1 .0)
-      (qs .0) (qs .1 .0) (qs .1 .1 .0) (qs .1 .1 .1 .0)
-      (qs .1 .1 .1 .1 .0) (qs .1 .1 .1 .1 .1 .0) (qs .1 .1 .1 .1 .1 .1 .0) (qs .1 .1 .1 .1 .1 .1 .1 .0)
-      (a .0) (a .1 .0) (a .1 .1 .0) (a .1 .1 .1 .0)
-      (a .1 .1 .1 .1 .0) (a .1 .1 .1 .1 .1 .0) (a .1 .1 .1 .1 .1 .1 .0) (a .1 .1 .1 .1 .1 .1 .1 .0)
+      (κs .0) (κs .1 .0) (κs .1 .1 .0)
+      (κs .1 .1 .1 .0) (κs .1 .1 .1 .1 .0) (κs .1 .1 .1 .1 .1 .0)
+      (κs .1 .1 .1 .1 .1 .1 .0) (κs .1 .1 .1 .1 .1 .1 .1 .0)
+      (qs .0) (qs .1 .0) (qs .1 .1 .0)
+      (qs .1 .1 .1 .0) (qs .1 .1 .1 .1 .0) (qs .1 .1 .1 .1 .1 .0)
+      (qs .1 .1 .1 .1 .1 .1 .0) (qs .1 .1 .1 .1 .1 .1 .1 .0)
+      (a .0) (a .1 .0) (a .1 .1 .0)
+      (a .1 .1 .1 .0) (a .1 .1 .1 .1 .0) (a .1 .1 .1 .1 .1 .0)
+      (a .1 .1 .1 .1 .1 .1 .0) (a .1 .1 .1 .1 .1 .1 .1 .0)
       𝓣 opens-known runs-known closes-known
       (record {
         g₀ = are .0 .0 .1;

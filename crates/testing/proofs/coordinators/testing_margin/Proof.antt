@@ -12,7 +12,8 @@ margin-lent-requires c κs = search needs
 returns : tie.Need-returns
 returns c =
     let read = c .before .margin-lent in
-    let same = toZ-ofZ w64 (read .result .margin) (record { sfits = c .struct-told .given .1 .0 .1 }) in
+    let same =
+    toZ-ofZ w64 (read .result .margin) (record { sfits = c .struct-told .given .1 .0 .1 }) in
     record {
       handed = λ fit. same ∙ read .ensures .margin-is .handed fit;
       kept = λ unfit. same ∙ read .ensures .margin-is .kept unfit;

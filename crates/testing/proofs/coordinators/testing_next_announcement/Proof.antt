@@ -1,6 +1,6 @@
 -- What is lent fits, and the announcement is handed out or refused; or nothing is changed.
-use mathlib.Core.Path.{refl}
-use Rattle.testing.proofs.Lending.{coordinator-made, coordinator-unfit, exported-handed, exported-kept}
+use mathlib.Core.Path.{refl, sym, _∙_}
+use Rattle.testing.proofs.Lending.{coordinator-room, exported-handed, exported-kept}
 use borrow.Author.Needs.{needs}
 use Rattle.testing.proofs.coordinators.testing_next_announcement.Statement.{statement}
 use Rattle.testing.proofs.coordinators.testing_next_announcement.Tie as tie
@@ -15,7 +15,7 @@ write-received-requires : tie.Need-write-received-requires
 write-received-requires c κs =
     let at-if1 = c .before .before .before in
     let room =
-    coordinator-made (at-if1 .before .open-coordinator .ensures) (at-if1 .if1 .taken) .room in
+    coordinator-room (at-if1 .before .open-coordinator .ensures) (at-if1 .if1 .taken) in
     (room .numbers-long, room .lends .places-enough)
 
 same-length : tie.Need-same-length
@@ -29,9 +29,10 @@ returns c =
     let at-write = c .before .before .before .before in
     let at-call = at-write .before .before .before in
     let at-if1 = at-call .before in
-    let made = coordinator-made (at-if1 .before .open-coordinator .ensures) (at-if1 .if1 .taken) in
-    let says = rw (made .is) at (at-call .next-announcement .ensures) in
-    exported-handed _ _ _ (made .fit)
+    let opens = at-if1 .before .open-coordinator .ensures in
+    let fit = at-if1 .if1 .taken in
+    let says = rw (opens .made fit) at (at-call .next-announcement .ensures) in
+    exported-handed _ _ _ (sym (opens .fits-is) ∙ fit)
     record {
       refusal = says .refusal;
       received = at-call .next-announcement .result;
@@ -44,7 +45,7 @@ same-length-3 c = search needs
 
 returns-2 : tie.Need-returns-2
 returns-2 c =
-    exported-kept _ _ _ (coordinator-unfit (c .before .open-coordinator .ensures) (c .if1 .left))
+    exported-kept _ _ _ (sym (c .before .open-coordinator .ensures .fits-is) ∙ c .if1 .left)
     (record { refused = refl; unchanged = refl })
 
 pub testing-next-announcement-spec : {M : Type 1} → statement M

@@ -1,8 +1,7 @@
 -- The records where what is lent fits; else zeros.
 use mathlib.Core.Path.{sym, _∙_}
-use mathlib.Core.Bool.{true, false}
-use Rattle.testing.specs.Openings.{coordinatorLent, coordinatorMade, noCoordinator}
-use Rattle.testing.proofs.Lending.{coordinator-is, chosen, passed-over}
+use mathlib.Core.Bool.{true, false, false≢true}
+use Rattle.testing.proofs.Lending.{coordinator-is}
 use borrow.Author.Needs.{needs}
 use Rattle.testing.proofs.openings.open_coordinator.Statement.{statement}
 use Rattle.testing.proofs.openings.open_coordinator.Tie as tie
@@ -29,17 +28,14 @@ coordinator-from-requires c κs =
 returns : tie.Need-returns
 returns c =
     let at-if1 = c .before .before in
-    let a = at-if1 .before .before .before .before .args in
     record {
-      opened-is =
-          chosen (coordinatorLent (a .settings .now) (a .numbers .now) (a .places) (a .least))
-          (coordinatorMade (a .settings .now) (a .numbers .now)) noCoordinator
-          (sym (at-if1 .before .coordinator-lent .ensures) ∙ at-if1 .if1 .taken)
-          (λ j. record {
-            fits = true;
-            settings = c .before .settings-from .ensures j;
-            coordinator = c .coordinator-from .ensures j;
-          });
+      fits-is = sym (at-if1 .if1 .taken) ∙ at-if1 .before .coordinator-lent .ensures;
+      made = λ _ j. record {
+        fits = true;
+        settings = c .before .settings-from .ensures j;
+        coordinator = c .coordinator-from .ensures j;
+      };
+      left = λ unfit. absurd (false≢true (sym unfit));
     }
 
 zero-settings-requires : tie.Need-zero-settings-requires
@@ -51,17 +47,14 @@ zero-coordinator-requires c κs = search needs
 returns-2 : tie.Need-returns-2
 returns-2 c =
     let at-if1 = c .before .before in
-    let a = at-if1 .before .before .before .before .args in
     record {
-      opened-is =
-          passed-over (coordinatorLent (a .settings .now) (a .numbers .now) (a .places) (a .least))
-          (coordinatorMade (a .settings .now) (a .numbers .now)) noCoordinator
-          (sym (at-if1 .before .coordinator-lent .ensures) ∙ at-if1 .if1 .left)
-          (λ j. record {
-            fits = false;
-            settings = c .before .zero-settings .ensures j;
-            coordinator = c .zero-coordinator .ensures j;
-          });
+      fits-is = sym (at-if1 .if1 .left) ∙ at-if1 .before .coordinator-lent .ensures;
+      made = λ fit. absurd (false≢true fit);
+      left = λ _ j. record {
+        fits = false;
+        settings = c .before .zero-settings .ensures j;
+        coordinator = c .zero-coordinator .ensures j;
+      };
     }
 
 pub open-coordinator-spec : {M : Type 1} → statement M

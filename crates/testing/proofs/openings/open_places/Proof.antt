@@ -1,8 +1,7 @@
 -- The records where what is lent fits; else zeros.
 use mathlib.Core.Path.{sym, _∙_}
-use mathlib.Core.Bool.{true, false}
-use Rattle.testing.specs.Openings.{placesLent, placesMade, noPlaces}
-use Rattle.testing.proofs.Lending.{places-are, chosen, passed-over}
+use mathlib.Core.Bool.{true, false, false≢true}
+use Rattle.testing.proofs.Lending.{places-are}
 use borrow.Author.Needs.{needs}
 use Rattle.testing.proofs.openings.open_places.Statement.{statement}
 use Rattle.testing.proofs.openings.open_places.Tie as tie
@@ -21,13 +20,13 @@ settings-from-requires c κs =
 returns : tie.Need-returns
 returns c =
     let at-if1 = c .before in
-    let a = at-if1 .before .before .before .args in
     record {
-      opened-is =
-          chosen (placesLent (a .settings .now) (a .places) (a .least))
-          (placesMade (a .settings .now)) noPlaces
-          (sym (at-if1 .before .places-lent .ensures) ∙ at-if1 .if1 .taken)
-          (λ j. record { fits = true; settings = c .settings-from .ensures j });
+      fits-is = sym (at-if1 .if1 .taken) ∙ at-if1 .before .places-lent .ensures;
+      made = λ _ j. record {
+        fits = true;
+        settings = c .settings-from .ensures j;
+      };
+      left = λ unfit. absurd (false≢true (sym unfit));
     }
 
 zero-settings-requires : tie.Need-zero-settings-requires
@@ -36,13 +35,13 @@ zero-settings-requires c κs = search needs
 returns-2 : tie.Need-returns-2
 returns-2 c =
     let at-if1 = c .before in
-    let a = at-if1 .before .before .before .args in
     record {
-      opened-is =
-          passed-over (placesLent (a .settings .now) (a .places) (a .least))
-          (placesMade (a .settings .now)) noPlaces
-          (sym (at-if1 .before .places-lent .ensures) ∙ at-if1 .if1 .left)
-          (λ j. record { fits = false; settings = c .zero-settings .ensures j });
+      fits-is = sym (at-if1 .if1 .left) ∙ at-if1 .before .places-lent .ensures;
+      made = λ fit. absurd (false≢true fit);
+      left = λ _ j. record {
+        fits = false;
+        settings = c .zero-settings .ensures j;
+      };
     }
 
 pub open-places-spec : {M : Type 1} → statement M

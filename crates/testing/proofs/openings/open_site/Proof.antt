@@ -1,8 +1,7 @@
 -- The records where what is lent fits; else zeros.
 use mathlib.Core.Path.{sym, _∙_}
-use mathlib.Core.Bool.{true, false}
-use Rattle.testing.specs.Openings.{siteLent, siteMade, noSite}
-use Rattle.testing.proofs.Lending.{site-is, chosen, passed-over}
+use mathlib.Core.Bool.{true, false, false≢true}
+use Rattle.testing.proofs.Lending.{site-is}
 use borrow.Author.Needs.{needs}
 use Rattle.testing.proofs.openings.open_site.Statement.{statement}
 use Rattle.testing.proofs.openings.open_site.Tie as tie
@@ -29,17 +28,14 @@ site-from-requires c κs =
 returns : tie.Need-returns
 returns c =
     let at-if1 = c .before .before in
-    let a = at-if1 .before .before .before .before .args in
     record {
-      opened-is =
-          chosen (siteLent (a .settings .now) (a .site .now) (a .places) (a .least))
-          (siteMade (a .settings .now) (a .site .now)) noSite
-          (sym (at-if1 .before .site-lent .ensures) ∙ at-if1 .if1 .taken)
-          (λ j. record {
-            fits = true;
-            settings = c .before .settings-from .ensures j;
-            site = c .site-from .ensures j;
-          });
+      fits-is = sym (at-if1 .if1 .taken) ∙ at-if1 .before .site-lent .ensures;
+      made = λ _ j. record {
+        fits = true;
+        settings = c .before .settings-from .ensures j;
+        site = c .site-from .ensures j;
+      };
+      left = λ unfit. absurd (false≢true (sym unfit));
     }
 
 zero-settings-requires : tie.Need-zero-settings-requires
@@ -51,17 +47,14 @@ zero-site-requires c κs = search needs
 returns-2 : tie.Need-returns-2
 returns-2 c =
     let at-if1 = c .before .before in
-    let a = at-if1 .before .before .before .before .args in
     record {
-      opened-is =
-          passed-over (siteLent (a .settings .now) (a .site .now) (a .places) (a .least))
-          (siteMade (a .settings .now) (a .site .now)) noSite
-          (sym (at-if1 .before .site-lent .ensures) ∙ at-if1 .if1 .left)
-          (λ j. record {
-            fits = false;
-            settings = c .before .zero-settings .ensures j;
-            site = c .zero-site .ensures j;
-          });
+      fits-is = sym (at-if1 .if1 .left) ∙ at-if1 .before .site-lent .ensures;
+      made = λ fit. absurd (false≢true fit);
+      left = λ _ j. record {
+        fits = false;
+        settings = c .before .zero-settings .ensures j;
+        site = c .zero-site .ensures j;
+      };
     }
 
 pub open-site-spec : {M : Type 1} → statement M

@@ -1,6 +1,6 @@
 -- What is lent fits, and the arrival is taken or refused; or nothing is changed.
-use mathlib.Core.Path.{refl}
-use Rattle.testing.proofs.Lending.{site-made, site-unfit, exported-handed, exported-kept}
+use mathlib.Core.Path.{refl, sym, _∙_}
+use Rattle.testing.proofs.Lending.{site-room, exported-handed, exported-kept}
 use borrow.Author.Needs.{needs}
 use Rattle.testing.proofs.sites.testing_observe.Statement.{statement}
 use Rattle.testing.proofs.sites.testing_observe.Tie as tie
@@ -14,12 +14,12 @@ observe-requires c κs = search needs
 write-site-requires : tie.Need-write-site-requires
 write-site-requires c κs =
     let at-if1 = c .before .before .before .before .before in
-    site-made (at-if1 .before .open-site .ensures) (at-if1 .if1 .taken) .room .site-long
+    site-room (at-if1 .before .open-site .ensures) (at-if1 .if1 .taken) .site-long
 
 write-messages-requires : tie.Need-write-messages-requires
 write-messages-requires c κs =
     let at-if1 = c .before .before .before .before .before .before .before .before .before in
-    site-made (at-if1 .before .open-site .ensures) (at-if1 .if1 .taken) .room .lends .places-enough
+    site-room (at-if1 .before .open-site .ensures) (at-if1 .if1 .taken) .lends .places-enough
 
 same-length : tie.Need-same-length
 same-length c = search needs
@@ -36,9 +36,10 @@ returns c =
     let at-write-site = at-write-messages .before .before .before .before in
     let at-observe = at-write-site .before .before .before .before in
     let at-if1 = at-observe .before .before in
-    let made = site-made (at-if1 .before .open-site .ensures) (at-if1 .if1 .taken) in
-    let says = rw (made .is) at (at-observe .observe .ensures) in
-    exported-handed _ _ _ (made .fit)
+    let opens = at-if1 .before .open-site .ensures in
+    let fit = at-if1 .if1 .taken in
+    let says = rw (opens .made fit) at (at-observe .observe .ensures) in
+    exported-handed _ _ _ (sym (opens .fits-is) ∙ fit)
     record {
       refusal = says .refusal;
       observed = at-observe .observe .result;
@@ -52,7 +53,7 @@ same-length-4 c = search needs
 
 returns-2 : tie.Need-returns-2
 returns-2 c =
-    exported-kept _ _ _ (site-unfit (c .before .open-site .ensures) (c .if1 .left))
+    exported-kept _ _ _ (sym (c .before .open-site .ensures .fits-is) ∙ c .if1 .left)
     (record { refused = refl; unchanged = refl })
 
 pub testing-observe-spec : {M : Type 1} → statement M

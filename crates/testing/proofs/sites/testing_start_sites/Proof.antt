@@ -1,6 +1,6 @@
 -- The settings and the places fit, and all sites are started; or nothing is changed.
-use mathlib.Core.Path.{refl}
-use Rattle.testing.proofs.Lending.{places-made, places-unfit, exported-handed, exported-kept}
+use mathlib.Core.Path.{refl, sym, _∙_}
+use Rattle.testing.proofs.Lending.{places-room, exported-handed, exported-kept}
 use borrow.Author.Needs.{needs}
 use Rattle.testing.proofs.sites.testing_start_sites.Statement.{statement}
 use Rattle.testing.proofs.sites.testing_start_sites.Tie as tie
@@ -14,7 +14,7 @@ start-sites-requires c κs = search needs
 write-sites-requires : tie.Need-write-sites-requires
 write-sites-requires c κs =
     let at-if1 = c .before .before .before .before .before .before in
-    places-made (at-if1 .before .open-places .ensures) (at-if1 .if1 .taken) .room .places-enough
+    places-room (at-if1 .before .open-places .ensures) (at-if1 .if1 .taken) .places-enough
 
 same-length : tie.Need-same-length
 same-length c = search needs
@@ -27,9 +27,10 @@ returns c =
     let at-write = c .before .before in
     let at-start = at-write .before .before .before .before .before in
     let at-if1 = at-start .before .before in
-    let made = places-made (at-if1 .before .open-places .ensures) (at-if1 .if1 .taken) in
-    let says = rw (made .is) at (at-start .start-sites .ensures) in
-    exported-handed _ _ _ (made .fit)
+    let opens = at-if1 .before .open-places .ensures in
+    let fit = at-if1 .if1 .taken in
+    let says = rw (opens .made fit) at (at-start .start-sites .ensures) in
+    exported-handed _ _ _ (sym (opens .fits-is) ∙ fit)
     record {
       refusal = says .refusal;
       started = at-start .start-sites .result;
@@ -39,7 +40,7 @@ returns c =
 
 returns-2 : tie.Need-returns-2
 returns-2 c =
-    exported-kept _ _ _ (places-unfit (c .before .open-places .ensures) (c .if1 .left))
+    exported-kept _ _ _ (sym (c .before .open-places .ensures .fits-is) ∙ c .if1 .left)
     (record { refused = refl; unchanged = refl })
 
 pub testing-start-sites-spec : {M : Type 1} → statement M

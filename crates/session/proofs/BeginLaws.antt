@@ -2,14 +2,14 @@
 --
 --   Served, served                    what the tests of a start leave: all within the limits
 --   begin-refused, begin-started      the two answers
-use mathlib.Core.Path.{_≡_, refl, sym, ap, _∙_}
-use mathlib.Core.Bool.{true, false, _||_}
+use mathlib.Core.Path.{_≡_, sym, ap, _∙_}
+use mathlib.Core.Bool.{_||_}
 use mathlib.Core.List.{List}
-use Prim.Native.Nat.{ℕ, _+_, _-_, _*_, _≤_}
+use Prim.Native.Nat.{ℕ, _-_, _≤_}
 use native.Mathlib.Nat.{mul-le-mul}
 use native.Mathlib.Omega.{arith}
 use lib.Dec.{ltb}
-use lib.ListN.{length, drop, length-drop}
+use lib.ListN.{length, length-drop}
 use borrow.Author.Tests.{eq-eqb, ne-eqb, le-ltb, ltb-false}
 use Rattle.laws.proofs.Tests.{neither-of-or}
 use Rattle.model.specs.declared.Settings.{Settings}
@@ -31,7 +31,7 @@ use Rattle.coordinator.specs.Calls as CoordinatorCalls
 use Rattle.session.specs.declared.Session.{Session}
 use Rattle.session.specs.declared.Turn.{Turn}
 use Rattle.session.specs.Outcome.{Lent, lent, withOut, outcome, Refuses, refusedOf}
-use Rattle.session.specs.Begin.{beyondLimits, shorterThanLimits, startRefusalOf, beginRefusalOf, freshSession, firstSession, startedOf, beginWith, beginOf}
+use Rattle.session.specs.Begin.{beyondLimits, shorterThanLimits, startRefusalOf, beginRefusalOf, freshSession, firstSession, startedOf, beginOf}
 
 -- ---- Settings and memory within the program's limits
 

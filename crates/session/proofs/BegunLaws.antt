@@ -5,17 +5,16 @@
 --   begin-right     the beginning, refused or not
 use mathlib.Core.Path.{_≡_, refl, sym, ap, _∙_, subst}
 use mathlib.Core.Bool.{Bool, true, false, false≢true}
-use mathlib.Core.List.{List, [], _∷_, _++_}
-use Prim.Native.Nat.{ℕ, _+_, _-_, _≤_}
+use mathlib.Core.List.{List, []}
+use Prim.Native.Nat.{ℕ, _-_, _≤_}
 use native.Mathlib.Omega.{arith}
-use lib.ListN.{length, take, drop, length-append}
+use lib.ListN.{length, drop, length-append}
 use lib.Seq.{drop-at}
 use borrow.Author.Tests.{eqb-true, eq-eqb, le-ltb}
 use Rattle.model.specs.declared.Settings.{Settings}
-use Rattle.model.specs.declared.CoordinatorRecord.{CoordinatorRecord}
 use Rattle.model.specs.Choice.{isZero}
 use Rattle.model.specs.Refusals.{accepted}
-use Rattle.model.specs.Coordinator.{isAnnouncing, freshCoordinator}
+use Rattle.model.specs.Coordinator.{freshCoordinator}
 use Rattle.model.specs.CoordinatorMemory.{coordinatorRecord, coordinatorMemory}
 use Rattle.model.specs.NetworkMemory.{freshSites}
 use Rattle.model.specs.Lines.{Fields, malformed, fields, lineFeed, readFields}
@@ -30,11 +29,10 @@ use Rattle.history.specs.State.{State}
 use Rattle.history.specs.Histories.{startState}
 use Rattle.history.proofs.Invariant.{StateOk, Resting, rest-of-standing}
 use Rattle.history.proofs.StartedState.{start-ok}
-use Rattle.session.specs.declared.Session.{Session}
 use Rattle.session.specs.declared.Turn.{Turn}
 use Rattle.session.specs.Outcome.{Lent, Outcome, refusedOf}
-use Rattle.session.specs.Begin.{startRefusalOf, beginRefusalOf, freshSession, firstSession, startedOf, beginOf, BeginSays}
-use Rattle.session.specs.Course.{Represents, beginRefusal, Begun, BeginRight}
+use Rattle.session.specs.Begin.{beginRefusalOf, freshSession, firstSession, startedOf, beginOf, BeginSays}
+use Rattle.session.specs.Course.{Represents, beginRefusal, BeginRight}
 use Rattle.session.proofs.BeginLaws.{Served, served, sites-start, coordinator-start}
 use Rattle.session.proofs.RefusalLaws.{begin-small, refused-line}
 

@@ -2,22 +2,21 @@
 --
 --   Goes, Stands      where a course stands: it goes on, or it has ended
 --   stands-of         where the course of any calls stands
-use mathlib.Core.Path.{_≡_, refl, sym, ap, _∙_, subst}
-use mathlib.Core.Bool.{Bool, true, false, _&&_, false≢true}
+use mathlib.Core.Path.{_≡_, refl, sym, ap, _∙_}
+use mathlib.Core.Bool.{Bool, true, false, false≢true}
 use mathlib.Core.List.{List, [], _∷_, _++_}
 use Prim.Native.Nat.{ℕ, suc, _+_, _*_, _≤_, _<_}
 use native.Mathlib.Omega.{arith}
 use lib.Dec.{leb}
 use lib.ListN.{length, take, drop}
-use borrow.Author.Tests.{eqb-true, lt-ltb}
+use borrow.Author.Tests.{lt-ltb}
 use Rattle.model.specs.declared.Settings.{Settings}
 use Rattle.model.specs.declared.Arrival.{Arrival}
 use Rattle.model.specs.Choice.{isZero}
-use Rattle.model.specs.Refusals.{accepted, malformedLine}
 use Rattle.model.specs.Network.{afterArrival}
-use Rattle.model.specs.Lines.{Fields, malformed, fields, readFields, settingsOf, Worklist, next, readFrom}
+use Rattle.model.specs.Lines.{Fields, malformed, fields, readFields, settingsOf, Worklist, readFrom}
 use Rattle.model.specs.Runs.{Run, runOf, withArrival, refusalIn}
-use Rattle.model.specs.Transcript.{messageLines, refusedLine, resultLines, programRefusal, transcriptFrom, transcriptWith, transcript}
+use Rattle.model.specs.Transcript.{messageLines, refusedLine, transcriptFrom, transcriptWith, transcript}
 use Rattle.model.proofs.RunLaws.{runFrom-append}
 use Rattle.transcript.proofs.LineBounds.{message-lines-append}
 use Rattle.reader.specs.declared.Step.{Step}

@@ -2,14 +2,12 @@
 --
 --   finish-refused, finish-listed      the two answers
 use mathlib.Core.Path.{_≡_, refl, sym, ap, _∙_}
-use mathlib.Core.Bool.{true, false}
 use mathlib.Core.List.{List, [], _∷_, _++_}
 use Prim.Native.Nat.{ℕ}
 use lib.ListN.{length, take}
 use lib.Seq.{take-at}
 use borrow.Author.Tests.{eq-eqb, ne-eqb}
 use Rattle.model.specs.declared.Settings.{Settings}
-use Rattle.model.specs.declared.Quantile.{Quantile}
 use Rattle.model.specs.Refusals.{accepted}
 use Rattle.model.specs.SiteMemory.{overwrite}
 use Rattle.model.specs.Coordinator.{Coordinator}
@@ -24,7 +22,7 @@ use Rattle.reading.specs.Contracts.{listRefusal, Lists, ReadsQuantile}
 use Rattle.session.specs.declared.Session.{Session}
 use Rattle.session.specs.declared.Turn.{Turn}
 use Rattle.session.specs.Output.{Written, writtenTo, atStart, lineAfter, linesAfter}
-use Rattle.session.specs.Outcome.{Lent, lent, outcome, ended, Refuses, refusedOf}
+use Rattle.session.specs.Outcome.{lent, outcome, ended, Refuses, refusedOf}
 use Rattle.session.specs.Advance.{resultLinesOf, Finishes}
 use Rattle.session.proofs.OutputLaws.{line-written}
 

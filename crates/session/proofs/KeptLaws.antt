@@ -2,7 +2,7 @@
 -- session, the session's records, both memories and the log.
 --
 --   begin-keeps-of, line-keeps-of     the two calls
-use mathlib.Core.Path.{_≡_, refl, sym, _∙_, subst}
+use mathlib.Core.Path.{_≡_, refl, sym, subst}
 use mathlib.Core.Bool.{Bool, true, false, false≢true}
 use mathlib.Core.List.{List, [], _∷_}
 use Prim.Native.Nat.{ℕ}

@@ -1,7 +1,6 @@
 -- Laws of a session, and that its calls together write the program's transcript.
 pub mod OutputLaws
 pub mod MessageLaws
-pub mod CallLaws
 pub mod BeginLaws
 pub mod FinishLaws
 pub mod TakeLaws

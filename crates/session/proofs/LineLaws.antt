@@ -1,7 +1,7 @@
 -- A line of the worklist, by what it is: the call `advance` does what its definition says.
 --
 --   line-draw, line-malformed, line-end     the three answers
-use mathlib.Core.Path.{_≡_, refl, sym, _∙_, subst}
+use mathlib.Core.Path.{_≡_, sym, _∙_, subst}
 use mathlib.Core.Bool.{true, false, false≢true}
 use mathlib.Core.List.{List, []}
 use Prim.Native.Nat.{ℕ}
@@ -10,7 +10,7 @@ use Rattle.model.specs.Refusals.{accepted}
 use Rattle.reader.specs.declared.Step.{Step}
 use Rattle.session.specs.declared.Session.{Session}
 use Rattle.session.specs.declared.Turn.{Turn}
-use Rattle.session.specs.Outcome.{Lent, lent, withOut, withList, outcome, Refuses}
+use Rattle.session.specs.Outcome.{Lent, lent, withOut, withList, Refuses}
 use Rattle.session.specs.Advance.{DrawSays, Finishes, LineSays}
 
 -- `read` is the step that was read, and `step` the one that the definition gives.

@@ -3,18 +3,18 @@
 --   Writing                      a log's messages, written but for the last ones
 --   writing-begins, -on, -ends   the steps of the loop
 use mathlib.Core.Path.{_≡_, refl, sym, ap, _∙_}
-use mathlib.Core.List.{List, [], _∷_, _++_}
+use mathlib.Core.List.{List, [], _∷_}
 use Prim.Native.Nat.{ℕ, suc, _+_, _-_, _*_, _≤_, _<_}
 use native.Mathlib.Nat.{add-zero}
 use native.Mathlib.Omega.{arith}
-use lib.ListN.{length, getD, take, drop, length-append}
+use lib.ListN.{length, getD, drop, length-append}
 use lib.Seq.{getD-drop, drop-drop}
 use Rattle.model.specs.declared.Message.{Message}
 use Rattle.model.specs.Messages.{message}
 use Rattle.model.specs.Transcript.{messageLine, messageLines}
 use Rattle.transcript.specs.Contracts.{RecordWritten}
 use Rattle.tracker.specs.Batch.{messagesIn}
-use Rattle.session.specs.Output.{Written, writtenTo, atStart, lineAfter, linesAfter, linesOf, MessagesWritten}
+use Rattle.session.specs.Output.{Written, writtenTo, atStart, linesAfter, linesOf, MessagesWritten}
 use Rattle.session.proofs.OutputLaws.{line-written}
 
 -- The messages of the log that are left.

@@ -3,21 +3,25 @@
 --   line-written                 the call that writes a line leaves the output after that line
 --   line-fits, fits-all, Fitted  lines that fit all stand there, one after the other
 --   lines-kept                   past the last line the output is as it was
-use mathlib.Core.Path.{_≡_, refl, sym, ap, _∙_, subst}
+--   refused-of                   the line of a refusal, and then the session has ended
+use mathlib.Core.Path.{_≡_, refl, sym, ap, _∙_}
 use mathlib.Core.Bool.{Bool, true, false}
 use mathlib.Core.List.{List, [], _∷_, _++_, append-assoc, append-nil}
-use Prim.Native.Nat.{ℕ, suc, _+_, _-_, _*_, _≤_, _<_}
+use Prim.Native.Nat.{ℕ, _+_, _-_, _≤_}
 use native.Mathlib.Nat.{add-zero}
 use native.Mathlib.Omega.{arith}
 use lib.ListN.{length, take, drop, length-append}
 use lib.Seq.{take-at, drop-at, drop-drop, length-take-le}
 use borrow.Author.Tests.{le-leb, leb-true}
 use Rattle.model.specs.declared.Message.{Message}
-use Rattle.model.specs.Transcript.{messageLine, messageLines}
+use Rattle.model.specs.Transcript.{messageLine, messageLines, refusedLine}
 use Rattle.worklist.specs.Contracts.{writtenAt}
 use Rattle.worklist.proofs.WritingLaws.{length-written}
 use Rattle.transcript.specs.Contracts.{fit, LineWritten}
-use Rattle.session.specs.Output.{Written, writtenTo, lineAfter, linesAfter, linesOf}
+use Rattle.session.specs.declared.Session.{Session}
+use Rattle.session.specs.declared.Turn.{Turn}
+use Rattle.session.specs.Output.{Written, writtenTo, atStart, lineAfter, linesAfter, linesOf}
+use Rattle.session.specs.Outcome.{Lent, withOut, outcome, ended, refusedOf}
 
 -- ---- A line
 
@@ -167,3 +171,14 @@ lines-kept (line ∷ lines) before inside =
           others .rest-same
           ∙ later-same _ _ _ _ (others .further) (first .rest-same);
     }
+
+-- ---- A refusal
+
+pub refused-of : (session : Session) (refusal place : ℕ) (before after : List ℕ) (turn : Turn)
+    → turn ≡ ended session place
+    → writtenTo place after ≡ lineAfter (atStart before) (refusedLine refusal)
+    → (given : Lent)
+    → outcome turn (withOut given after) ≡ refusedOf session refusal (withOut given before)
+refused-of session refusal place before after turn is line given =
+    let turn-is = is ∙ ap (λ (written : Written). ended session (written .place)) line in
+    (λ i. outcome (turn-is i) (withOut given (line i .out)))

@@ -3,10 +3,10 @@
 --   the laws -small                      the numbers that end a session
 --   malformed-refusal                    a line that is no draw and refused is malformed
 --   refused-line                         the line stands in the output
-use mathlib.Core.Path.{_≡_, refl, sym, ap, _∙_, subst}
+use mathlib.Core.Path.{_≡_, refl, sym}
 use mathlib.Core.Bool.{Bool, true, false, not, false≢true}
 use mathlib.Core.List.{List}
-use Prim.Native.Nat.{ℕ, zero, suc, _+_, _*_, _≤_}
+use Prim.Native.Nat.{ℕ, zero, suc, _*_, _≤_}
 use native.Mathlib.Omega.{arith}
 use lib.Dec.{leb, ltb}
 use lib.ListN.{length, take, drop}
@@ -25,7 +25,7 @@ use Rattle.model.specs.Transcript.{refusedLine, beyondProgram}
 use Rattle.transcript.proofs.LineBounds.{line-claims}
 use Rattle.reader.specs.Contracts.{lineRefusal, settingsIn, bytesAfter}
 use Rattle.reader.specs.Walk.{stepOf, stepAt}
-use Rattle.session.specs.Output.{Written, atStart, lineAfter}
+use Rattle.session.specs.Output.{atStart, lineAfter}
 use Rattle.session.specs.Course.{beginRefusal}
 use Rattle.session.proofs.OutputLaws.{line-fits}
 

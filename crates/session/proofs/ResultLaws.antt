@@ -14,13 +14,12 @@ use lib.ListN.{length, getD, take, length-append}
 use borrow.Author.Tests.{eq-eqb, le-ltb}
 use Rattle.model.specs.declared.Settings.{Settings}
 use Rattle.model.specs.declared.Arrival.{Arrival}
-use Rattle.model.specs.declared.Quantile.the-variants.{Value}
 use Rattle.model.specs.Choice.{isZero}
 use Rattle.model.specs.Refusals.{accepted}
 use Rattle.model.specs.Coordinator.{Coordinator, enough}
 use Rattle.model.specs.Network.{Network}
 use Rattle.model.specs.Reading.{isListed, listedFrom, heavyHitters, leastValueFrom, quantileOf}
-use Rattle.model.specs.Runs.{Run, runOf}
+use Rattle.model.specs.Runs.{Run}
 use Rattle.model.specs.Transcript.{endLine, classWord, messagesWord, quantileWord, resultLines}
 use Rattle.coordinator_steps.proofs.StepLaws.{valueCount-is}
 use Rattle.transcript.specs.Contracts.{countedLine, listedLine}

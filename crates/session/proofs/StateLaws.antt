@@ -2,7 +2,7 @@
 -- holds of it.
 --
 --   state, state-rest, state-ok, state-at-rest   the state, and that it is one of a history
-use mathlib.Core.Path.{_≡_, refl, ap, _∙_}
+use mathlib.Core.Path.{refl, ap, _∙_}
 use mathlib.Core.List.{List, []}
 use Prim.Native.Nat.{ℕ}
 use native.Mathlib.Omega.{arith}

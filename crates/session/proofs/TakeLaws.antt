@@ -4,34 +4,34 @@
 --   log-holds                    the log has the messages that were written
 use mathlib.Core.Path.{_≡_, refl, sym, ap, _∙_}
 use mathlib.Core.Bool.{Bool, true, false}
-use mathlib.Core.List.{List, [], _∷_, _++_}
-use Prim.Native.Nat.{ℕ, zero, suc, _+_, _-_, _*_, _≤_}
+use mathlib.Core.List.{List, [], _∷_}
+use Prim.Native.Nat.{ℕ, _-_, _*_, _≤_}
 use native.Mathlib.Omega.{arith}
 use lib.ListN.{length, drop, length-append}
-use borrow.Author.Tests.{eqb-true, eq-eqb, ne-eqb}
+use borrow.Author.Tests.{eq-eqb, ne-eqb}
 use Rattle.model.specs.declared.Settings.{Settings}
 use Rattle.model.specs.declared.Arrival.{Arrival}
 use Rattle.model.specs.declared.Message.{Message}
 use Rattle.model.specs.Choice.{isZero}
 use Rattle.model.specs.Refusals.{accepted}
 use Rattle.model.specs.SiteMemory.{overwrite}
-use Rattle.model.specs.CoordinatorMemory.{coordinatorRecord, coordinatorMemory}
-use Rattle.model.specs.NetworkMemory.{sitesMemory, networkIn}
+use Rattle.model.specs.CoordinatorMemory.{coordinatorMemory}
+use Rattle.model.specs.NetworkMemory.{networkIn}
 use Rattle.model.specs.Network.{Network}
 use Rattle.model.specs.Runs.{Batch, batchRefusal, batchFrom, batchOf}
 use Rattle.model.specs.Transcript.{messageLines}
 use Rattle.reader.specs.declared.Step.{Step}
 use Rattle.tracker.specs.declared.BatchAnswer.{BatchAnswer}
-use Rattle.tracker.specs.Batch.{BatchCall, BatchLent, BatchSays, startRefusal, batchIn, unlessRefused, sitesAfter, logRoom, messageNumbers, messagesIn}
+use Rattle.tracker.specs.Batch.{BatchCall, BatchLent, BatchSays, startRefusal, batchIn, unlessRefused, logRoom, messageNumbers, messagesIn}
 use Rattle.history.specs.State.{State}
 use Rattle.history.specs.Histories.{startState, afterBatch}
 use Rattle.history.proofs.EmptyBatch.{nothing-done, batch-same}
 use Rattle.history.proofs.HandedOut.{messagesIn-written}
 use Rattle.session.specs.declared.Session.{Session}
 use Rattle.session.specs.declared.Turn.{Turn}
-use Rattle.session.specs.Output.{Written, atStart, linesAfter, linesOf, MessagesWritten}
-use Rattle.session.specs.Outcome.{Lent, lent, withList, outcome, Refuses, refusedOf}
-use Rattle.session.specs.Advance.{drawCall, drawRefusal, drawOf, FewBytes, DrawSays}
+use Rattle.session.specs.Output.{atStart, linesAfter, linesOf, MessagesWritten}
+use Rattle.session.specs.Outcome.{Lent, lent, outcome, Refuses, refusedOf}
+use Rattle.session.specs.Advance.{drawCall, drawRefusal, DrawSays}
 
 pub length-numbers : (messages : List Message)
     → length (messageNumbers messages) ≡ 4 * length messages

@@ -27,7 +27,7 @@ use Rattle.reading.specs.Contracts.{listRefusal}
 use Rattle.tracker.specs.Batch.{BatchCall, startRefusal, batchIn, unlessRefused, sitesAfter, messageNumbers}
 use Rattle.session.specs.declared.Session.{Session}
 use Rattle.session.specs.declared.Turn.{Turn}
-use Rattle.session.specs.Output.{Written, atStart, linesAfter, linesOf}
+use Rattle.session.specs.Output.{atStart, linesAfter, linesOf}
 use Rattle.session.specs.Outcome.{Lent, lent, withList, Outcome, outcome, SameLengths, ended, refusedOf}
 
 -- ---- A line's draw

@@ -14,7 +14,7 @@ use lib.ListN.{length}
 use Rattle.model.specs.Transcript.{refusedLine}
 use Rattle.session.specs.declared.Session.{Session}
 use Rattle.session.specs.declared.Turn.{Turn}
-use Rattle.session.specs.Output.{Written, atStart, lineAfter}
+use Rattle.session.specs.Output.{atStart, lineAfter}
 
 -- ---- What a call is lent, and what comes of it
 

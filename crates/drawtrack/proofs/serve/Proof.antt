@@ -7,11 +7,6 @@ use Rattle.drawtrack.specs.Serving.{Serving}
 use Rattle.drawtrack.proofs.ServingLaws.{serving-begins, serving-on, serving-ended}
 use Rattle.drawtrack.proofs.serve.Statement.{statement}
 use Rattle.drawtrack.proofs.serve.Tie as tie
-use Rattle.drawtrack.proofs.serve.Reads as reads
-use Rattle.drawtrack.proofs.serve.Lts as lts
-use Rattle.drawtrack.proofs.write_out.Reads as write-out-reads
-use Rattle.session.proofs.advance.Reads as advance-reads
-use Rattle.session.proofs.begin.Reads as begin-reads
 
 abbrev Inv-loop : tie.InvT-loop
 Inv-loop input site-memory₀ coordinator-memory₀ log₀ list₀ out₀ session₀ turns₀ site-memory coordinator-memory log list out session turns =

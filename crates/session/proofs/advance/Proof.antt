@@ -5,12 +5,6 @@ use Rattle.session.proofs.LineLaws.{line-draw, line-malformed, line-end
 use borrow.Author.Needs.{needs}
 use Rattle.session.proofs.advance.Statement.{statement}
 use Rattle.session.proofs.advance.Tie as tie
-use Rattle.session.proofs.advance.Reads as reads
-use Rattle.session.proofs.advance.Lts as lts
-use Rattle.reader.proofs.read_at.Reads as read-at-reads
-use Rattle.session.proofs.finish.Reads as finish-reads
-use Rattle.session.proofs.refuse.Reads as refuse-reads
-use Rattle.session.proofs.take_draw.Reads as take-draw-reads
 
 read-at-requires : tie.Need-read-at-requires
 read-at-requires c κs = search needs

@@ -6,14 +6,6 @@ use Rattle.session.proofs.BeginLaws.{begin-refused, begin-started}
 use borrow.Author.Needs.{needs}
 use Rattle.session.proofs.begin.Statement.{statement}
 use Rattle.session.proofs.begin.Tie as tie
-use Rattle.session.proofs.begin.Reads as reads
-use Rattle.session.proofs.begin.Lts as lts
-use Rattle.coordinator.proofs.start_coordinator.Reads as start-coordinator-reads
-use Rattle.reader.proofs.read_settings.Reads as read-settings-reads
-use Rattle.session.proofs.fresh_session.Reads as fresh-session-reads
-use Rattle.session.proofs.refuse.Reads as refuse-reads
-use Rattle.session.proofs.start_refusal.Reads as start-refusal-reads
-use Rattle.site.proofs.start_sites.Reads as start-sites-reads
 
 read-settings-requires : tie.Need-read-settings-requires
 read-settings-requires c κs = search needs

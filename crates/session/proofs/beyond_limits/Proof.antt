@@ -2,8 +2,6 @@
 use borrow.Author.Tests.{lt-ltb, le-ltb}
 use Rattle.session.proofs.beyond_limits.Statement.{statement}
 use Rattle.session.proofs.beyond_limits.Tie as tie
-use Rattle.session.proofs.beyond_limits.Reads as reads
-use Rattle.session.proofs.beyond_limits.Lts as lts
 
 returns : tie.Need-returns
 returns c =

@@ -3,15 +3,6 @@ use Rattle.session.proofs.FinishLaws.{finish-refused, finish-listed}
 use borrow.Author.Needs.{needs}
 use Rattle.session.proofs.finish.Statement.{statement}
 use Rattle.session.proofs.finish.Tie as tie
-use Rattle.session.proofs.finish.Reads as reads
-use Rattle.session.proofs.finish.Lts as lts
-use Rattle.reading.proofs.list_heavy_hitters.Reads as list-heavy-hitters-reads
-use Rattle.reading.proofs.read_quantile.Reads as read-quantile-reads
-use Rattle.session.proofs.refuse.Reads as refuse-reads
-use Rattle.session.proofs.stop.Reads as stop-reads
-use Rattle.transcript.proofs.write_class.Reads as write-class-reads
-use Rattle.transcript.proofs.write_count.Reads as write-count-reads
-use Rattle.transcript.proofs.write_listed.Reads as write-listed-reads
 
 list-heavy-hitters-requires : tie.Need-list-heavy-hitters-requires
 list-heavy-hitters-requires c κs = search needs

@@ -1,14 +1,9 @@
 -- The line of the refusal, and then the session has ended.
 use Rattle.model.specs.Transcript.{refusedLine}
-use Rattle.session.proofs.OutputLaws.{line-written}
-use Rattle.session.proofs.CallLaws.{refused-of}
+use Rattle.session.proofs.OutputLaws.{line-written, refused-of}
 use borrow.Author.Needs.{needs}
 use Rattle.session.proofs.refuse.Statement.{statement}
 use Rattle.session.proofs.refuse.Tie as tie
-use Rattle.session.proofs.refuse.Reads as reads
-use Rattle.session.proofs.refuse.Lts as lts
-use Rattle.session.proofs.stop.Reads as stop-reads
-use Rattle.transcript.proofs.write_refused.Reads as write-refused-reads
 
 write-refused-requires : tie.Need-write-refused-requires
 write-refused-requires c κs = search needs

@@ -2,8 +2,6 @@
 use borrow.Author.Tests.{lt-ltb, le-ltb}
 use Rattle.session.proofs.shorter_than_limits.Statement.{statement}
 use Rattle.session.proofs.shorter_than_limits.Tie as tie
-use Rattle.session.proofs.shorter_than_limits.Reads as reads
-use Rattle.session.proofs.shorter_than_limits.Lts as lts
 
 returns : tie.Need-returns
 returns c = rw (lt-ltb (c .before .args .site-numbers) 5696 (c .if1 .taken))

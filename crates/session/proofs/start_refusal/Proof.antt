@@ -4,11 +4,6 @@ use Rattle.model.proofs.RefusalLaws.{refused-same}
 use borrow.Author.Needs.{needs}
 use Rattle.session.proofs.start_refusal.Statement.{statement}
 use Rattle.session.proofs.start_refusal.Tie as tie
-use Rattle.session.proofs.start_refusal.Reads as reads
-use Rattle.session.proofs.start_refusal.Lts as lts
-use Rattle.session.proofs.beyond_limits.Reads as beyond-limits-reads
-use Rattle.session.proofs.shorter_than_limits.Reads as shorter-than-limits-reads
-use Rattle.settings.proofs.test_settings.Reads as test-settings-reads
 
 returns : tie.Need-returns
 returns c = refused-same _ _ _ refl (c .if1 .taken)

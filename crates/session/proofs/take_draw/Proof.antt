@@ -5,11 +5,6 @@ use Rattle.session.proofs.TakeLaws.{draw-refused, log-holds, draw-taken
 use borrow.Author.Needs.{needs}
 use Rattle.session.proofs.take_draw.Statement.{statement}
 use Rattle.session.proofs.take_draw.Tie as tie
-use Rattle.session.proofs.take_draw.Reads as reads
-use Rattle.session.proofs.take_draw.Lts as lts
-use Rattle.session.proofs.put_messages.Reads as put-messages-reads
-use Rattle.session.proofs.refuse.Reads as refuse-reads
-use Rattle.tracker.proofs.run_one.Reads as run-one-reads
 
 run-one-requires : tie.Need-run-one-requires
 run-one-requires c κs = search needs

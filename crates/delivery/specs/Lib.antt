@@ -4,3 +4,4 @@ pub mod Sending
 pub mod Bounded
 pub mod Holding
 pub mod Handing
+pub mod Arriving

@@ -117,8 +117,8 @@ module _ {settings : Settings} {memory : List ℕ} {progress : Progress} (asks :
           accepts)
           (record {
             held-is = ap (λ (held : Held).
-            afterCoordinatorCall held (answer .coordinator) (held .coordinatorMemory))
-            (stands .held-is);
+                afterCoordinatorCall held (answer .coordinator) (held .coordinatorMemory))
+                (stands .held-is);
             waiting-are =
                 ap (λ (ms : List Message). ms ++ receivedOut answer) (stands .waiting-are)
                 ∙ sym (queued-joined (answer .count) (progress .waiting) (answer .out) few-asked)
@@ -198,7 +198,7 @@ module _ {settings : Settings} {before after : List ℕ} {progress : Progress}
           accepts)
           (record {
             held-is = ap (λ (held : Held). afterCoordinatorCall held (answer .coordinator) after)
-            (stands .held-is);
+                (stands .held-is);
             waiting-are =
                 sym (queued-joined (answer .count) (withoutHead (progress .waiting)) (answer .out)
                 few-later)

@@ -5,7 +5,7 @@
 --   list-accepted, list-too-short   the list's refusal, by the test of its places
 --   sides-ask, listed-is            the list rule of an item, by the number in memory
 --   values-ask                      the value counts, as the code cuts them out of the memory
---   Searching, searching-start, searching-found, searching-on, searching-end
+--   Searching, searching-start, searching-fits, searching-found, searching-on, searching-end
 --   quantile-none, quantile-counted, quantile-kept     the cases of `quantileOf`
 use mathlib.Core.Path.{_≡_, refl, ap, sym, _∙_}
 use mathlib.Core.Bool.{Bool, true, false}
@@ -27,6 +27,7 @@ use Rattle.model.specs.CoordinatorMemory.{coordinatorIn, coordinatorMemoryRefus
 use Rattle.model.specs.Reading.{isListed, leastValue, leastValueFrom, quantileOf}
 use Rattle.model.proofs.RefusalLaws.{both-accepted, passed}
 use Rattle.model.proofs.SettingsLaws.{settled}
+use Rattle.coordinator_steps.proofs.StepLaws.{valueCount-is}
 use Rattle.coordinator_tests.proofs.Chains.{last-row}
 use Rattle.coordinator_tests.proofs.ConsistencyLaws.{histogram-part}
 use Rattle.coordinator_tests.proofs.ReadyLaws.{tested, within-of-consistent}
@@ -133,6 +134,15 @@ pub record Searching (rank total : ℕ) (counts : List ℕ) (below value : ℕ) 
 module _ (rank total : ℕ) (counts : List ℕ) where
   pub searching-start : Searching rank total counts 0 0
   searching-start = record { place = omega arith; rest-decides = refl; small = omega arith }
+
+  -- The sum with the next count is at most 1024 times the limit.
+  pub searching-fits : (below value : ℕ)
+      → ValuesAsk rank total counts
+      → Searching rank total counts below value
+      → value < length counts
+      → below + getD counts value 0 ≤ 1024 * coordinatorLimit
+  searching-fits below value asks so-far inside =
+      omega (arith, asks .few, asks .counts-within value, so-far .small, valueCount-is)
 
   drop-on : (value : ℕ)
       → value < length counts

@@ -1,6 +1,6 @@
 -- The call `begin` does what its definition says.
 --
---   Served, served                    what the tests of a start leave: settings and memory within limits
+--   Served, served                    what the tests of a start leave: all within the limits
 --   begin-refused, begin-started      the two answers
 use mathlib.Core.Path.{_≡_, refl, sym, ap, _∙_}
 use mathlib.Core.Bool.{true, false, _||_}
@@ -30,7 +30,8 @@ use Rattle.coordinator.specs.declared.StartedCoordinator.{StartedCoordinator}
 use Rattle.coordinator.specs.Calls as CoordinatorCalls
 use Rattle.session.specs.declared.Session.{Session}
 use Rattle.session.specs.declared.Turn.{Turn}
-use Rattle.session.specs.Calls.{Lent, lent, withOut, outcome, Refuses, refusedOf, beyondLimits, shorterThanLimits, startRefusalOf, beginRefusalOf, freshSession, firstSession, startedOf, beginWith, beginOf}
+use Rattle.session.specs.Outcome.{Lent, lent, withOut, outcome, Refuses, refusedOf}
+use Rattle.session.specs.Begin.{beyondLimits, shorterThanLimits, startRefusalOf, beginRefusalOf, freshSession, firstSession, startedOf, beginWith, beginOf}
 
 -- ---- Settings and memory within the program's limits
 

@@ -32,7 +32,8 @@ use Rattle.history.proofs.Invariant.{StateOk, Resting, rest-of-standing}
 use Rattle.history.proofs.StartedState.{start-ok}
 use Rattle.session.specs.declared.Session.{Session}
 use Rattle.session.specs.declared.Turn.{Turn}
-use Rattle.session.specs.Calls.{Lent, Outcome, refusedOf, startRefusalOf, beginRefusalOf, freshSession, firstSession, startedOf, beginOf, BeginSays}
+use Rattle.session.specs.Outcome.{Lent, Outcome, refusedOf}
+use Rattle.session.specs.Begin.{startRefusalOf, beginRefusalOf, freshSession, firstSession, startedOf, beginOf, BeginSays}
 use Rattle.session.specs.Course.{Represents, beginRefusal, Begun, BeginRight}
 use Rattle.session.proofs.BeginLaws.{Served, served, sites-start, coordinator-start}
 use Rattle.session.proofs.RefusalLaws.{begin-small, refused-line}

@@ -9,7 +9,7 @@ use Rattle.model.specs.Transcript.{refusedLine}
 use Rattle.session.specs.declared.Session.{Session}
 use Rattle.session.specs.declared.Turn.{Turn}
 use Rattle.session.specs.Output.{Written, writtenTo, atStart, lineAfter}
-use Rattle.session.specs.Calls.{Lent, withOut, outcome, ended, refusedOf}
+use Rattle.session.specs.Outcome.{Lent, withOut, outcome, ended, refusedOf}
 
 pub refused-of : (session : Session) (refusal place : ℕ) (before after : List ℕ) (turn : Turn)
     → turn ≡ ended session place

@@ -25,10 +25,10 @@ use Rattle.reader.specs.Walk.{lastLine, stepOf, stepAt, thenRead}
 use Rattle.reader.proofs.WalkLaws.{walk-claims}
 use Rattle.session.specs.declared.Session.{Session}
 use Rattle.session.specs.declared.Turn.{Turn}
-use Rattle.session.specs.Calls.{Lent}
+use Rattle.session.specs.Outcome.{Lent}
 use Rattle.session.specs.Course.{Represents, linePiece, accepts, beginRefusal, beginPiece, BeginRight, LineRight, Follows, Course, begun, advanced}
 use Rattle.session.proofs.BegunLaws.{begin-right}
-use Rattle.session.proofs.RefusalLaws.{step-small}
+use Rattle.session.proofs.RefusalLaws.{malformed-refusal, step-small}
 use Rattle.session.proofs.LineRightLaws.{line-right}
 
 -- ---- Where a course stands
@@ -44,7 +44,8 @@ pub record Goes (input : List ℕ) (n : ℕ) (session : Session)
   pub stands : Represents session siteMemory coordinatorMemory arrivals
   pub bytes-are : bytes ≡ messageLines (runOf (session .settings) arrivals .messages)
   pub rest-is : transcript input
-      ≡ transcriptFrom (session .settings) (runOf (session .settings) arrivals) (ahead input session)
+      ≡ transcriptFrom (session .settings) (runOf (session .settings) arrivals)
+      (ahead input session)
   pub far : 6 * n ≤ session .at
   pub few : 6 * n ≤ length input
   pub line-few : session .line ≤ n
@@ -104,23 +105,6 @@ module _ (input : List ℕ) (left : Lent) (answer : Turn)
 
 -- ---- A line
 
--- A line that is no draw and refused is malformed.
-malformed-refusal : (input : List ℕ) (at line : ℕ)
-    → isZero (stepAt input at line .refusal) ≡ false
-    → stepAt input at line .refusal ≡ malformedLine
-malformed-refusal input at line = by-end (leb (length input) at) refl
-  where
-    by-fields : (found : Fields) → isZero (stepOf input at line found .refusal) ≡ false
-        → stepOf input at line found .refusal ≡ malformedLine
-    by-fields malformed some = refl
-    by-fields (fields numbers rest) some = absurd (false≢true (sym some))
-
-    by-end : (over : Bool) → leb (length input) at ≡ over
-        → isZero (stepAt input at line .refusal) ≡ false
-        → stepAt input at line .refusal ≡ malformedLine
-    by-end true over = rw over (λ some. absurd (false≢true (sym some)))
-    by-end false more = rw more (by-fields (readFields 3 (drop at input)))
-
 module _ (input : List ℕ) (n : ℕ) (session : Session)
     (siteMemory coordinatorMemory bytes : List ℕ)
     (there : Goes input n session siteMemory coordinatorMemory bytes)
@@ -159,7 +143,8 @@ module _ (input : List ℕ) (n : ℕ) (session : Session)
 
   -- ---- It has ended
 
-  ends-refused : step .found ≡ true → isZero (refusalIn settings (run .network) (step .arrival)) ≡ false
+  ends-refused : step .found ≡ true
+      → isZero (refusalIn settings (run .network) (step .arrival)) ≡ false
       → now-written ≡ transcript input
   ends-refused found refused =
       bytes-then ∙ rw (found, refused) (sym (rest-then ∙ rw (found, refused, transcriptFrom)))
@@ -181,7 +166,8 @@ module _ (input : List ℕ) (n : ℕ) (session : Session)
   goes-on : step .found ≡ true
       → isZero (refusalIn settings (run .network) (step .arrival)) ≡ true
       → Follows session step left (there .arrivals) (answer .session)
-      → Goes input (suc n) (answer .session) (left .siteMemory) (left .coordinatorMemory) now-written
+      → Goes input (suc n) (answer .session) (left .siteMemory) (left .coordinatorMemory)
+      now-written
   goes-on found fine follows =
       let arrivals-then = there .arrivals ++ (step .arrival ∷ []) in
       let sent = afterArrival settings (run .network) (step .arrival) .messages in

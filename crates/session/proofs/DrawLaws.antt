@@ -4,116 +4,35 @@
 --   sent-are, few-sent      the messages of a draw that is taken
 --   stands-then             the session stands after one arrival more
 use mathlib.Core.Path.{_≡_, refl, sym, ap, _∙_, subst}
-use mathlib.Core.Bool.{Bool, true, false}
+use mathlib.Core.Bool.{true}
 use mathlib.Core.List.{List, [], _∷_, _++_}
-use Prim.Native.Nat.{ℕ, zero, suc, _+_, _-_, _*_, _/_, _≤_}
+use Prim.Native.Nat.{ℕ, _+_, _*_, _≤_}
 use native.Mathlib.Omega.{arith}
-use lib.Dec.{ltb}
-use lib.ListN.{length, take, drop, length-append}
-use borrow.Author.Tests.{eqb-true, eq-eqb, le-ltb}
+use lib.ListN.{length, take, length-append}
+use borrow.Author.Tests.{eq-eqb}
 use Rattle.model.specs.declared.Settings.{Settings}
 use Rattle.model.specs.declared.Arrival.{Arrival}
-use Rattle.model.specs.declared.Message.{Message}
-use Rattle.model.specs.Choice.{isZero}
-use Rattle.model.specs.Refusals.{when, _orElse_, accepted, logTooShort}
+use Rattle.model.specs.Refusals.{accepted}
 use Rattle.model.specs.Limits.{mostMessages}
 use Rattle.model.specs.Settings.{settingsRefusal}
-use Rattle.model.specs.SiteMemory.{overwrite}
-use Rattle.model.specs.CoordinatorMemory.{coordinatorRecord, coordinatorMemory}
-use Rattle.model.specs.NetworkMemory.{sitesMemory}
 use Rattle.model.specs.Network.{Network, afterArrival}
-use Rattle.model.specs.Runs.{Run, runOf, refusalIn, Batch, batchRefusal, batchFrom, batchOf}
+use Rattle.model.specs.Runs.{Run, runOf, refusalIn}
 use Rattle.model.proofs.DeliveryTheorem.{delivery-claims}
 use Rattle.reader.specs.declared.Step.{Step}
 use Rattle.tracker.specs.declared.BatchAnswer.{BatchAnswer}
-use Rattle.tracker.specs.Batch.{BatchCall, BatchLent, BatchSays, startRefusal, batchIn, unlessRefused, sitesAfter, logRoom, messageNumbers, messagesIn}
+use Rattle.tracker.specs.Batch.{BatchCall, BatchLent, BatchSays, batchIn, unlessRefused, logRoom, messagesIn}
 use Rattle.history.specs.State.{State, networkOf}
 use Rattle.history.specs.Histories.{afterBatch}
-use Rattle.history.proofs.Answers.{or-accepted}
 use Rattle.history.proofs.Accepted.{refused-by-rules}
 use Rattle.history.proofs.Invariant.{StateOk, Resting}
 use Rattle.history.proofs.BatchedState.{batch-ok, batch-resting}
 use Rattle.session.specs.declared.Session.{Session}
-use Rattle.session.specs.Calls.{Lent, lent, Outcome, outcome, drawCall, drawRefusal, takenOf}
+use Rattle.session.specs.Outcome.{Lent, lent, Outcome, outcome}
+use Rattle.session.specs.Advance.{drawCall, drawRefusal, takenOf}
 use Rattle.session.specs.Course.{Represents, Room}
-use Rattle.session.proofs.StateLaws.{runAfter, state, state-rest, state-ok, state-at-rest}
+use Rattle.session.proofs.StateLaws.{runAfter, state, state-ok, state-at-rest}
 use Rattle.session.proofs.TakeLaws.{done}
-
--- ---- A batch of one
-
-module _ (settings : Settings) (room : ℕ) (network : Network) (arrival : Arrival)
-    (enough : mostMessages (settings .sites) ≤ room) where
-  abbrev refusal : ℕ
-  refusal = refusalIn settings network arrival
-
-  abbrev one : Batch
-  one = batchOf settings room network (arrival ∷ [])
-
-  -- The log has room, so 14 is never met.
-  test-is : batchRefusal settings network (room - 0) arrival ≡ refusal
-  test-is =
-      rw (le-ltb (room - 0) (mostMessages (settings .sites)) (omega arith)) (or-accepted refusal)
-
-  one-refusal : one .refusal ≡ refusal
-  one-refusal = by-test (isZero refusal) refl
-    where
-      by-test : (none : Bool) → isZero refusal ≡ none → one .refusal ≡ refusal
-      by-test true none = rw (test-is, none, batchFrom) (sym (eqb-true refusal 0 none))
-      by-test false some = rw (test-is, some, batchFrom) test-is
-
-  record One : Type 0 where
-    messages-are : one .messages ≡ afterArrival settings network arrival .messages
-    accepted-is : one .accepted ≡ 1
-
-  one-taken : isZero refusal ≡ true → One
-  one-taken none = record {
-    messages-are = rw (test-is, none, batchFrom);
-    accepted-is = rw (test-is, none, batchFrom);
-  }
-
-length-messagesIn : (count : ℕ) (log : List ℕ) → length (messagesIn count log) ≡ count
-length-messagesIn zero log = refl
-length-messagesIn (suc count) log = ap suc (length-messagesIn count (drop 4 log))
-
--- ---- The batch call's answer, by its contract
-
-abbrev answerOf : BatchCall → BatchAnswer
-answerOf call = record {
-  refusal = drawRefusal call;
-  accepted = unlessRefused call (batchIn call .accepted) 0;
-  written = unlessRefused call (length (batchIn call .messages)) 0;
-  sites = unlessRefused call (sitesAfter call) (call .sites);
-  coordinator =
-      unlessRefused call (coordinatorRecord (batchIn call .network .coordinator))
-      (call .coordinator);
-}
-
-abbrev leftOf : BatchCall → BatchLent
-leftOf call = record {
-  siteMemory =
-      unlessRefused call
-      (sitesMemory (call .settings) (batchIn call .network .sites) (call .siteMemory))
-      (call .siteMemory);
-  coordinatorMemory =
-      unlessRefused call
-      (coordinatorMemory (batchIn call .network .coordinator) (call .coordinatorMemory))
-      (call .coordinatorMemory);
-  log =
-      unlessRefused call (overwrite (messageNumbers (batchIn call .messages)) (call .log))
-      (call .log);
-}
-
-says-of : (call : BatchCall) → BatchSays call (leftOf call) (answerOf call)
-says-of call = record {
-  refusal = refl;
-  accepted = refl;
-  written = refl;
-  sites = refl;
-  coordinator = refl;
-  site-memory = refl;
-  coordinator-memory = refl;
-  log = refl;
-}
+use Rattle.session.proofs.BatchLaws.{one-refusal, One, one-taken, length-messagesIn, answerOf, leftOf, says-of}
 
 -- ---- The draw of a line
 

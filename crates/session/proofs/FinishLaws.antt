@@ -24,7 +24,8 @@ use Rattle.reading.specs.Contracts.{listRefusal, Lists, ReadsQuantile}
 use Rattle.session.specs.declared.Session.{Session}
 use Rattle.session.specs.declared.Turn.{Turn}
 use Rattle.session.specs.Output.{Written, writtenTo, atStart, lineAfter, linesAfter}
-use Rattle.session.specs.Calls.{Lent, lent, outcome, ended, Refuses, refusedOf, resultLinesOf, Finishes}
+use Rattle.session.specs.Outcome.{Lent, lent, outcome, ended, Refuses, refusedOf}
+use Rattle.session.specs.Advance.{resultLinesOf, Finishes}
 use Rattle.session.proofs.OutputLaws.{line-written}
 
 module _ (session : Session) (memory listBefore listAfter : List ℕ) (listed : Listed)

@@ -16,7 +16,9 @@ use Rattle.tracker.specs.Batch.{batchIn}
 use Rattle.reading.specs.Contracts.{listRefusal}
 use Rattle.session.specs.declared.Session.{Session}
 use Rattle.session.specs.Output.{atStart, linesAfter, linesOf}
-use Rattle.session.specs.Calls.{Lent, Outcome, refusedOf, beginRefusalOf, firstSession, startedOf, beginOf, drawCall, drawRefusal, takenOf, drawOf, sessionCoordinator, resultLinesOf, listedOf, resultsOf, lineOf}
+use Rattle.session.specs.Outcome.{Lent, Outcome, refusedOf}
+use Rattle.session.specs.Begin.{beginRefusalOf, firstSession, startedOf, beginOf}
+use Rattle.session.specs.Advance.{drawCall, drawRefusal, takenOf, drawOf, sessionCoordinator, resultLinesOf, listedOf, resultsOf, lineOf}
 use Rattle.session.specs.Claims.{LastKept, Keeps}
 use Rattle.session.proofs.OutputLaws.{lines-kept}
 

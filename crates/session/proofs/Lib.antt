@@ -8,6 +8,7 @@ pub mod TakeLaws
 pub mod LineLaws
 pub mod StateLaws
 pub mod RefusalLaws
+pub mod BatchLaws
 pub mod DrawLaws
 pub mod ResultLaws
 pub mod LineRightLaws

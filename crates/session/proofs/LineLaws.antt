@@ -10,44 +10,46 @@ use Rattle.model.specs.Refusals.{accepted}
 use Rattle.reader.specs.declared.Step.{Step}
 use Rattle.session.specs.declared.Session.{Session}
 use Rattle.session.specs.declared.Turn.{Turn}
-use Rattle.session.specs.Calls.{Lent, lent, withOut, withList, outcome, Refuses, DrawSays, Finishes, LineSays}
+use Rattle.session.specs.Outcome.{Lent, lent, withOut, withList, outcome, Refuses}
+use Rattle.session.specs.Advance.{DrawSays, Finishes, LineSays}
 
 -- `read` is the step that was read, and `step` the one that the definition gives.
-module _ (session : Session) (read step : Step) (is : read ≡ step) (given : Lent) (turn : Turn) where
-  same-says : (left : Lent) → LineSays session read given left turn
-      → LineSays session step given left turn
-  same-says left = subst (λ (found : Step). LineSays session found given left turn) is
+module _ (session : Session) (read step : Step) (is : read ≡ step) (given : Lent) (turn : Turn)
+  where
+    same-says : (left : Lent) → LineSays session read given left turn
+        → LineSays session step given left turn
+    same-says left = subst (λ (found : Step). LineSays session found given left turn) is
 
-  pub line-draw : (siteAfter coordinatorAfter logAfter after : List ℕ)
-      → read .found ≡ true
-      → DrawSays session read (withList given [])
-      (lent siteAfter coordinatorAfter logAfter [] after) turn
-      → LineSays session step given
-      (lent siteAfter coordinatorAfter logAfter (given .list) after) turn
-  line-draw siteAfter coordinatorAfter logAfter after found draw = same-says _ (record {
-    is = draw .is (given .list) ∙ sym (rw found);
-    few-bytes = λ _. draw .few-bytes;
-  })
+    pub line-draw : (siteAfter coordinatorAfter logAfter after : List ℕ)
+        → read .found ≡ true
+        → DrawSays session read (withList given [])
+        (lent siteAfter coordinatorAfter logAfter [] after) turn
+        → LineSays session step given
+        (lent siteAfter coordinatorAfter logAfter (given .list) after) turn
+    line-draw siteAfter coordinatorAfter logAfter after found draw = same-says _ (record {
+      is = draw .is (given .list) ∙ sym (rw found);
+      few-bytes = λ _. draw .few-bytes;
+    })
 
-  pub line-malformed : (after : List ℕ)
-      → read .found ≡ false
-      → (read .refusal ≡ accepted → ⊥)
-      → Refuses session (read .refusal) (given .out) after turn
-      → LineSays session step given (withOut given after) turn
-  line-malformed after none refused refuses = same-says _ (record {
-    is = refuses .is given ∙ sym (rw (none, ne-eqb (read .refusal) 0 refused));
-    few-bytes = λ found. absurd (false≢true (sym none ∙ found));
-  })
+    pub line-malformed : (after : List ℕ)
+        → read .found ≡ false
+        → (read .refusal ≡ accepted → ⊥)
+        → Refuses session (read .refusal) (given .out) after turn
+        → LineSays session step given (withOut given after) turn
+    line-malformed after none refused refuses = same-says _ (record {
+      is = refuses .is given ∙ sym (rw (none, ne-eqb (read .refusal) 0 refused));
+      few-bytes = λ found. absurd (false≢true (sym none ∙ found));
+    })
 
-  pub line-end : (listAfter after : List ℕ)
-      → read .found ≡ false
-      → read .refusal ≡ accepted
-      → Finishes session (given .coordinatorMemory) (given .list) (given .out) listAfter after turn
-      → LineSays session step given
-      (lent (given .siteMemory) (given .coordinatorMemory) (given .log) listAfter after) turn
-  line-end listAfter after none fine ends = same-says _ (record {
-    is =
-        ends .is (given .siteMemory) (given .log)
-        ∙ sym (rw (none, eq-eqb (read .refusal) 0 fine));
-    few-bytes = λ found. absurd (false≢true (sym none ∙ found));
-  })
+    pub line-end : (listAfter after : List ℕ)
+        → read .found ≡ false
+        → read .refusal ≡ accepted
+        → Finishes session (given .coordinatorMemory) (given .list) (given .out) listAfter after turn
+        → LineSays session step given
+        (lent (given .siteMemory) (given .coordinatorMemory) (given .log) listAfter after) turn
+    line-end listAfter after none fine ends = same-says _ (record {
+      is =
+          ends .is (given .siteMemory) (given .log)
+          ∙ sym (rw (none, eq-eqb (read .refusal) 0 fine));
+      few-bytes = λ found. absurd (false≢true (sym none ∙ found));
+    })

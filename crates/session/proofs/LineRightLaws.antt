@@ -21,7 +21,8 @@ use Rattle.tracker.specs.Batch.{BatchCall, batchIn}
 use Rattle.session.specs.declared.Session.{Session}
 use Rattle.session.specs.declared.Turn.{Turn}
 use Rattle.session.specs.Output.{atStart, linesOf}
-use Rattle.session.specs.Calls.{Lent, Outcome, FewBytes, drawCall, drawRefusal, takenOf, drawOf, refusedOf, resultsOf, lineOf, LineSays}
+use Rattle.session.specs.Outcome.{Lent, Outcome, refusedOf}
+use Rattle.session.specs.Advance.{FewBytes, drawCall, drawRefusal, takenOf, drawOf, resultsOf, lineOf, LineSays}
 use Rattle.session.specs.Course.{Represents, Room, LineRight}
 use Rattle.session.proofs.OutputLaws.{joined-messages, fits-all}
 use Rattle.session.proofs.RefusalLaws.{draw-small, refused-line}
@@ -54,7 +55,11 @@ module _ {session : Session} {given : Lent} {arrivals : List Arrival}
     draw-refused-right some = record {
       bytes =
           refused-line (drawRefusal call) (given .out)
-          (omega (arith, rule-is stands room step, draw-small settings (run .network) (step .arrival)))
+          (omega (
+            arith,
+            rule-is stands room step,
+            draw-small settings (run .network) (step .arrival),
+          ))
           (room .out-long)
           ∙ rw (found, some) (ap refusedLine (rule-is stands room step));
       going = rw (found, some);

@@ -1,8 +1,7 @@
 -- Laws of lines written one after the other into the output.
 --
---   line-written                 what the call that writes a line leaves is the output after the line
---   lines-append                 lines after lines
---   fits-all, Fitted             lines that fit all stand there, one after the other
+--   line-written                 the call that writes a line leaves the output after that line
+--   line-fits, fits-all, Fitted  lines that fit all stand there, one after the other
 --   lines-kept                   past the last line the output is as it was
 use mathlib.Core.Path.{_≡_, refl, sym, ap, _∙_, subst}
 use mathlib.Core.Bool.{Bool, true, false}

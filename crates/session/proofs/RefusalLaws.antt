@@ -1,17 +1,20 @@
 -- The line of a refusal is short: document 01's numbers have at most two digits.
 --
---   RefusalSmall and the laws -small     the numbers that end a session
+--   the laws -small                      the numbers that end a session
+--   malformed-refusal                    a line that is no draw and refused is malformed
 --   refused-line                         the line stands in the output
 use mathlib.Core.Path.{_≡_, refl, sym, ap, _∙_, subst}
-use mathlib.Core.Bool.{Bool, true, false, not}
+use mathlib.Core.Bool.{Bool, true, false, not, false≢true}
 use mathlib.Core.List.{List}
 use Prim.Native.Nat.{ℕ, zero, suc, _+_, _*_, _≤_}
 use native.Mathlib.Omega.{arith}
 use lib.Dec.{leb, ltb}
 use lib.ListN.{length, take, drop}
+use borrow.Author.Tests.{eqb-true}
 use Rattle.model.specs.declared.Settings.{Settings}
 use Rattle.model.specs.declared.Arrival.{Arrival}
-use Rattle.model.specs.Refusals.{when, _orElse_}
+use Rattle.model.specs.Choice.{isZero}
+use Rattle.model.specs.Refusals.{when, _orElse_, malformedLine}
 use Rattle.model.specs.Limits.{topValue, siteLimit}
 use Rattle.model.specs.Settings.{inRange, settingsRefusal}
 use Rattle.model.specs.Site.{addressRefusal}
@@ -67,16 +70,30 @@ begin-small input found =
     line-small malformed = omega arith
     line-small (fields numbers rest) = omega arith
 
-pub step-small : (input : List ℕ) (at line : ℕ) → stepAt input at line .refusal ≤ 99
-step-small input at line = by-end (leb (length input) at) refl
+-- A line that is no draw and refused is malformed.
+pub malformed-refusal : (input : List ℕ) (at line : ℕ)
+    → isZero (stepAt input at line .refusal) ≡ false
+    → stepAt input at line .refusal ≡ malformedLine
+malformed-refusal input at line = by-end (leb (length input) at) refl
   where
-    by-fields : (found : Fields) → stepOf input at line found .refusal ≤ 99
-    by-fields malformed = omega arith
-    by-fields (fields numbers rest) = omega arith
+    by-fields : (found : Fields) → isZero (stepOf input at line found .refusal) ≡ false
+        → stepOf input at line found .refusal ≡ malformedLine
+    by-fields malformed some = refl
+    by-fields (fields numbers rest) some = absurd (false≢true (sym some))
 
-    by-end : (over : Bool) → leb (length input) at ≡ over → stepAt input at line .refusal ≤ 99
-    by-end true over = rw over (omega arith)
+    by-end : (over : Bool) → leb (length input) at ≡ over
+        → isZero (stepAt input at line .refusal) ≡ false
+        → stepAt input at line .refusal ≡ malformedLine
+    by-end true over = rw over (λ some. absurd (false≢true (sym some)))
     by-end false more = rw more (by-fields (readFields 3 (drop at input)))
+
+pub step-small : (input : List ℕ) (at line : ℕ) → stepAt input at line .refusal ≤ 99
+step-small input at line = by-refusal (isZero (stepAt input at line .refusal)) refl
+  where
+    by-refusal : (none : Bool) → isZero (stepAt input at line .refusal) ≡ none
+        → stepAt input at line .refusal ≤ 99
+    by-refusal true none = omega (arith, eqb-true (stepAt input at line .refusal) 0 none)
+    by-refusal false some = omega (arith, malformed-refusal input at line some)
 
 pub refused-line : (refusal : ℕ) (out : List ℕ)
     → refusal ≤ 99

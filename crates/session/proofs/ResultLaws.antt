@@ -30,7 +30,8 @@ use Rattle.history.proofs.RunSound.{sound-run, messages-within}
 use Rattle.history.proofs.Accepted.{memory-accepted}
 use Rattle.session.specs.declared.Session.{Session}
 use Rattle.session.specs.Output.{atStart, linesAfter}
-use Rattle.session.specs.Calls.{Lent, sessionCoordinator, resultLinesOf, listedOf, resultsOf}
+use Rattle.session.specs.Outcome.{Lent}
+use Rattle.session.specs.Advance.{sessionCoordinator, resultLinesOf, listedOf, resultsOf}
 use Rattle.session.specs.Course.{Represents, Room}
 use Rattle.session.proofs.OutputLaws.{joined, Fitted, fits-all}
 use Rattle.session.proofs.StateLaws.{runAfter, state-ok}
@@ -63,13 +64,16 @@ module _ (settings : Settings) (c : Coordinator) where
       by-test true is-so zero inside′ later = rw is-so (omega arith)
       by-test true is-so (suc j) inside′ later =
           rw is-so (omega (arith, later j (omega (arith, rw is-so at inside′))))
-      by-test false is-not j inside′ later = rw is-not (omega (arith, later j (rw is-not at inside′)))
+      by-test false is-not j inside′ later =
+          rw is-not (omega (arith, later j (rw is-not at inside′)))
 
 -- ---- How long the line of the class is
 
 least-few : (rank total value below : ℕ) (counts : List ℕ)
     → value + length counts ≤ 1024
-    → length (endLine (classWord ++ quantileWord (leastValueFrom rank total value below counts))) ≤ 17
+    → length (endLine (classWord
+    ++ quantileWord (leastValueFrom rank total value below counts)))
+    ≤ 17
 least-few rank total value below [] few = omega (arith, line-claims .class-none)
 least-few rank total value below (count ∷ counts) few =
     by-test (enough rank total (below + count)) refl
@@ -82,7 +86,8 @@ least-few rank total value below (count ∷ counts) few =
         → length (endLine (classWord
         ++ quantileWord (leastValueFrom rank total value below (count ∷ counts))))
         ≤ 17
-    by-test true is-so later = rw (is-so, leastValueFrom) (line-claims .class-value value (omega arith))
+    by-test true is-so later =
+        rw (is-so, leastValueFrom) (line-claims .class-value value (omega arith))
     by-test false is-not later = rw (is-not, leastValueFrom) later
 
 pub class-few : (settings : Settings) (c : Coordinator)

@@ -1,5 +1,5 @@
--- A session that stands for a run is a state of a history, at rest: what the histories' laws say holds
--- of it.
+-- A session that stands for a run is a state of a history, at rest: what the histories' laws say
+-- holds of it.
 --
 --   state, state-rest, state-ok, state-at-rest   the state, and that it is one of a history
 use mathlib.Core.Path.{_≡_, refl, ap, _∙_}

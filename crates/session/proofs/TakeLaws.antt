@@ -30,7 +30,8 @@ use Rattle.history.proofs.HandedOut.{messagesIn-written}
 use Rattle.session.specs.declared.Session.{Session}
 use Rattle.session.specs.declared.Turn.{Turn}
 use Rattle.session.specs.Output.{Written, atStart, linesAfter, linesOf, MessagesWritten}
-use Rattle.session.specs.Calls.{Lent, lent, withList, outcome, Refuses, refusedOf, drawCall, drawRefusal, drawOf, FewBytes, DrawSays}
+use Rattle.session.specs.Outcome.{Lent, lent, withList, outcome, Refuses, refusedOf}
+use Rattle.session.specs.Advance.{drawCall, drawRefusal, drawOf, FewBytes, DrawSays}
 
 pub length-numbers : (messages : List Message)
     → length (messageNumbers messages) ≡ 4 * length messages
@@ -71,7 +72,8 @@ module _ (session : Session) (step : Step) (given : Lent) (lentAfter : BatchLent
         by-start : (fine : Bool) → isZero (startRefusal call) ≡ fine → answer .accepted ≡ 0
         by-start true fine =
             says .accepted
-            ∙ rw fine (none-accepted (session .settings) (logRoom (given .log)) network (step .arrival)
+            ∙ rw fine
+            (none-accepted (session .settings) (logRoom (given .log)) network (step .arrival)
             (λ none. refused (says .refusal ∙ rw fine none)))
         by-start false some = says .accepted ∙ rw some
 

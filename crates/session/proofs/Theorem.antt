@@ -6,7 +6,7 @@ use lib.ListN.{length, take, length-take}
 use Rattle.model.specs.Lines.{readFields}
 use Rattle.model.proofs.TranscriptLaws.{transcript-claims}
 use Rattle.reader.specs.Walk.{lastLine, stepAt}
-use Rattle.session.specs.Calls.{firstSession}
+use Rattle.session.specs.Begin.{firstSession}
 use Rattle.session.specs.Claims.{SessionClaims}
 use Rattle.session.proofs.KeptLaws.{Kept, begin-keeps-of, line-keeps-of}
 use Rattle.session.proofs.RefusalLaws.{step-small}
@@ -30,7 +30,8 @@ session-claims = record {
   writes-transcript = λ input n session siteMemory coordinatorMemory bytes short course over.
       stands-of input n session siteMemory coordinatorMemory bytes short course .ended over;
   reads-enough = λ most whole n session siteMemory coordinatorMemory bytes enough short course over.
-      let few : length (take most whole) ≤ lastLine = omega (arith, length-take most whole, short) in
+      let few : length (take most whole) ≤ lastLine =
+      omega (arith, length-take most whole, short) in
       stands-of (take most whole) n session siteMemory coordinatorMemory bytes few course
       .ended over
       ∙ transcript-claims .input-enough most whole enough;

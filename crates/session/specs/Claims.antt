@@ -1,5 +1,5 @@
--- What holds of the calls of a session, one by one and all together. The theorem `session-claims` of
--- proofs/Theorem.antt proves it.
+-- What holds of the calls of a session, one by one and all together. The theorem `session-claims`
+-- of proofs/Theorem.antt proves it.
 use mathlib.Core.Path.{_≡_}
 use mathlib.Core.Bool.{true, false}
 use mathlib.Core.List.{List}
@@ -11,7 +11,9 @@ use Rattle.model.specs.Transcript.{transcript}
 use Rattle.reader.specs.Walk.{lastLine, stepAt}
 use Rattle.session.specs.declared.Session.{Session}
 use Rattle.session.specs.declared.Turn.{Turn}
-use Rattle.session.specs.Calls.{Lent, stopped, firstSession, BeginSays, AdvanceSays}
+use Rattle.session.specs.Outcome.{Lent, stopped}
+use Rattle.session.specs.Begin.{firstSession, BeginSays}
+use Rattle.session.specs.Advance.{AdvanceSays}
 use Rattle.session.specs.Course.{Represents, Room, BeginRight, LineRight, Course}
 
 -- The last call of a session, refused or not: the session stands where it stood, with its records,

@@ -1,11 +1,13 @@
 -- What a session stands for, and all its calls one after the other.
 --
---   Represents session siteMemory coordinatorMemory arrivals   the session stands after these arrivals
+--   Represents session siteMemory coordinatorMemory arrivals
+--                                    the session stands after these arrivals
 --   Room given                       log, list and output are long enough for the program's limits
 --   linePiece settings run step      the bytes that a line of the worklist brings
 --   beginPiece input found           the bytes before the first line: none, or a refusal
---   Course input n session siteMemory coordinatorMemory bytes   after `begin` and n calls of `advance`,
---                        with the session and the memory as they left them and the bytes written so far
+--   Course input n session siteMemory coordinatorMemory bytes
+--                                    after `begin` and n calls of `advance`, with the session and
+--                                    the memory as they left them and the bytes written so far
 use mathlib.Core.Path.{_≡_}
 use mathlib.Core.Bool.{Bool, true, _&&_}
 use mathlib.Core.List.{List, [], _∷_, _++_}
@@ -27,12 +29,14 @@ use Rattle.reader.specs.declared.Step.{Step}
 use Rattle.reader.specs.Contracts.{lineRefusal, settingsIn, bytesAfter}
 use Rattle.session.specs.declared.Session.{Session}
 use Rattle.session.specs.declared.Turn.{Turn}
-use Rattle.session.specs.Calls.{Lent, BeginSays, AdvanceSays}
+use Rattle.session.specs.Outcome.{Lent}
+use Rattle.session.specs.Begin.{BeginSays}
+use Rattle.session.specs.Advance.{AdvanceSays}
 
 -- ---- What a session stands for
 
--- The session stands after these arrivals, all of them accepted: records and memory hold the network
--- of the model's run over them, and its messages are counted.
+-- The session stands after these arrivals, all of them accepted: records and memory hold the
+-- network of the model's run over them, and its messages are counted.
 pub record Represents (session : Session) (siteMemory coordinatorMemory : List ℕ)
     (arrivals : List Arrival) : Type 0 where
   pub settings-accepted : settingsRefusal (session .settings) ≡ accepted

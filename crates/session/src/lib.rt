@@ -1,12 +1,15 @@
-// A session of the program `drawtrack`: all of it but reading and writing descriptors. `begin` reads
-// the settings line and starts the network; each `advance` then takes one line of the worklist and
-// writes what it brings: the messages of its draw, the line of a refusal, or at the end the results.
+// A session of the program `drawtrack`: all of it but reading and writing descriptors. `begin`
+// reads the settings line and starts the network; each `advance` then takes one line of the
+// worklist and writes what it brings: the messages of its draw, the line of a refusal, or at the
+// end the results.
 
 ghost use mathlib.Core.Path.{_≡_};
 ghost use mathlib.Core.List.{[]};
 ghost use Prim.Native.Nat.{_*_, _≤_};
 ghost use lib.ListN.{length};
-ghost use Rattle.session.specs.Calls.{lent, ended, Refuses, beyondLimits, shorterThanLimits, startRefusalOf, freshSession, BeginSays, DrawSays, Finishes, AdvanceSays};
+ghost use Rattle.session.specs.Outcome.{lent, ended, Refuses};
+ghost use Rattle.session.specs.Begin.{beyondLimits, shorterThanLimits, startRefusalOf, freshSession, BeginSays};
+ghost use Rattle.session.specs.Advance.{DrawSays, Finishes, AdvanceSays};
 ghost use Rattle.session.specs.Output.{MessagesWritten};
 use model::ACCEPTED;
 use model::CoordinatorRecord;
@@ -18,8 +21,8 @@ use model::Sites;
 use reader::SettingsRead;
 use reader::Step;
 
-// Where a session stands: whether it goes on, the settings, the records of the network, the place in
-// the input and the number of the line there.
+// Where a session stands: whether it goes on, the settings, the records of the network, the place
+// in the input and the number of the line there.
 pub struct Session {
     pub going: bool,
     pub settings: Settings,
@@ -35,8 +38,8 @@ pub struct Turn {
     pub written: usize,
 }
 
-// The program's limits: "Its memory serves k up to 4, c up to 100, u up to 1000 and a worklist up to
-// 8192 bytes".
+// The program's limits: "Its memory serves k up to 4, c up to 100, u up to 1000 and a worklist up
+// to 8192 bytes".
 pub const SESSION_SITES: u32 = 4;
 
 pub const SESSION_CAPACITY: u32 = 100;
@@ -111,8 +114,8 @@ fn shorter_than_limits(site_numbers: usize, coordinator_numbers: usize) -> bool
     coordinator_numbers < SESSION_COORDINATOR_NUMBERS
 }
 
-// Why a session does not start, or 0: 13 for the settings line; 1, 2, 3; 4 beyond the program's limits,
-// or with less memory than they ask for.
+// Why a session does not start, or 0: 13 for the settings line; 1, 2, 3; 4 beyond the program's
+// limits, or with less memory than they ask for.
 fn start_refusal(
     read: SettingsRead,
     bytes: usize,
@@ -168,8 +171,8 @@ fn fresh_session(settings: Settings, at: usize) -> Session
     }
 }
 
-// Reads the settings line and starts the network fresh, or writes why not. The start calls clear the
-// memory; the records that they answer are the fresh session's.
+// Reads the settings line and starts the network fresh, or writes why not. The start calls clear
+// the memory; the records that they answer are the fresh session's.
 pub fn begin(
     input: &[u8],
     site_memory: &mut [u32],
@@ -242,7 +245,8 @@ fn take_draw(
     }
 }
 
-// Writes the results and ends: the list, the class and the count of messages, or why there is no list.
+// Writes the results and ends: the list, the class and the count of messages, or why there is no
+// list.
 fn finish(session: Session, memory: &[u64], list: &mut [u32], out: &mut [u8]) -> Turn
     ensures { λ r. ⌜ Finishes session (now (memory .entry)) (now (list .entry)) (now (out .entry)) (now (list .exit)) (now (out .exit)) r ⌝ }
 {

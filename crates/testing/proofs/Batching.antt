@@ -20,8 +20,9 @@ use Rattle.tracker.specs.declared.BatchAnswer.{BatchAnswer}
 use Rattle.tracker.specs.Batch.{BatchSays}
 use Rattle.testing.specs.declared.batches.Opening.{Opening}
 use Rattle.testing.specs.Numbers.{settingsFrom, sitesFrom, coordinatorFrom}
-use Rattle.testing.specs.Calls.{Lent, lent, Kept, coordinatorLent}
-use Rattle.testing.specs.Batch.{batchFits, openingOf, noOpening, openingFrom, Opens, ClosesAsk, Closes, BatchLends, allLent, callOf, leftBy, BatchExported}
+use Rattle.testing.specs.Openings.{Lent, change, coordinatorLent}
+use Rattle.testing.specs.Calls.{Kept}
+use Rattle.testing.specs.Batch.{batchFits, openingOf, noOpening, openingFrom, Opens, ClosesAsk, Closes, BatchLends, allLent, callOf, leftBy, BatchExports}
 use Rattle.testing.proofs.Lending.{CoordinatorLent, coordinator-is}
 
 pub record BatchFits (settings sites coordinator : List ℕ) (places : ℕ) : Type 0 where
@@ -105,12 +106,12 @@ kept-all arrivals lends done answer says closes =
 -- What the three calls say makes what the boundary promises.
 pub batch-exported : (settings : List ℕ) (arrivals : List Arrival) (lends : BatchLends)
     (sites coordinator : List ℕ) (opening : Opening) (done : BatchAnswer) (answer : ℕ)
-    → Opens settings (lent (lends .sites .before) sites)
-    (lent (lends .coordinator .before) coordinator) (length (lends .out .before)) opening
+    → Opens settings (change (lends .sites .before) sites)
+    (change (lends .coordinator .before) coordinator) (length (lends .out .before)) opening
     → BatchSays (callOf opening arrivals lends) (leftBy lends) done
-    → Closes (opening .fits) done (lent sites (lends .sites .after))
-    (lent coordinator (lends .coordinator .after)) (lends .out) answer
-    → BatchExported settings arrivals lends answer
+    → Closes (opening .fits) done (change sites (lends .sites .after))
+    (change coordinator (lends .coordinator .after)) (lends .out) answer
+    → BatchExports settings arrivals lends answer
 batch-exported settings arrivals lends sites coordinator opening done answer opens says closes =
     record {
       handed = λ fit.
@@ -138,8 +139,8 @@ batch-exported settings arrivals lends sites coordinator opening done answer ope
         → Closes (o .fits) done (lends .sites) (lends .coordinator) (lends .out) answer
     closed o is =
         subst (λ (c : List ℕ). Closes (o .fits) done (lends .sites)
-        (lent c (lends .coordinator .after)) (lends .out) answer) (opens .coordinator-stays)
-        (subst (λ (s : List ℕ). Closes (o .fits) done (lent s (lends .sites .after))
-        (lent coordinator (lends .coordinator .after)) (lends .out) answer) (opens .sites-stay)
-        (subst (λ (p : Opening). Closes (p .fits) done (lent sites (lends .sites .after))
-        (lent coordinator (lends .coordinator .after)) (lends .out) answer) is closes))
+        (change c (lends .coordinator .after)) (lends .out) answer) (opens .coordinator-stays)
+        (subst (λ (s : List ℕ). Closes (o .fits) done (change s (lends .sites .after))
+        (change coordinator (lends .coordinator .after)) (lends .out) answer) (opens .sites-stay)
+        (subst (λ (p : Opening). Closes (p .fits) done (change sites (lends .sites .after))
+        (change coordinator (lends .coordinator .after)) (lends .out) answer) is closes))

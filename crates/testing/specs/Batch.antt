@@ -10,20 +10,17 @@ use mathlib.Core.Bool.{Bool, true, false, _&&_}
 use mathlib.Core.List.{List, [], _∷_}
 use Prim.Native.Nat.{ℕ, _≤_}
 use lib.Dec.{leb}
-use lib.ListN.{length, replicate}
+use lib.ListN.{length}
+use denote.Ref.{RefT, now}
+use denote.Triple.Both.{Both}
 use Rattle.model.specs.declared.Arrival.{Arrival}
-use Rattle.model.specs.declared.Sites.{Sites}
-use Rattle.model.specs.declared.CoordinatorRecord.{CoordinatorRecord}
-use Rattle.model.specs.declared.Phase.the-variants.{Idle}
 use Rattle.model.specs.Choice.{if_then_else_}
-use Rattle.model.specs.Limits.{mostSites}
-use Rattle.model.specs.Settings.{settingsWith}
-use Rattle.model.specs.SiteMemory.{overwrite}
 use Rattle.tracker.specs.declared.BatchAnswer.{BatchAnswer}
 use Rattle.tracker.specs.Batch.{BatchCall, BatchLent, BatchSays}
 use Rattle.testing.specs.declared.batches.Opening.{Opening}
-use Rattle.testing.specs.Numbers.{settingsFrom, zeroSite, sitesFrom, sitesNumbers, coordinatorFrom, coordinatorNumbers}
-use Rattle.testing.specs.Calls.{Lent, Kept, Exported, coordinatorLent}
+use Rattle.testing.specs.Numbers.{settingsFrom, zeroSettings, sitesFrom, zeroSites, sitesNumbers, coordinatorFrom, zeroCoordinator, coordinatorNumbers}
+use Rattle.testing.specs.Openings.{Slice, given, Lent, lent, coordinatorLent, Writes}
+use Rattle.testing.specs.Calls.{Kept, Exported}
 
 -- ---- What is lent
 
@@ -31,6 +28,10 @@ use Rattle.testing.specs.Calls.{Lent, Kept, Exported, coordinatorLent}
 abbrev pub batchFits : List ℕ → List ℕ → List ℕ → ℕ → Bool
 batchFits settings sites coordinator places =
     coordinatorLent settings coordinator places 2 && leb 129 (length sites)
+
+-- A lent run of arrivals.
+abbrev pub Arrivals : Type 0
+Arrivals = Both (RefT (List Arrival)) (RefT (List Arrival))
 
 -- ---- Before the tracker's call
 
@@ -43,24 +44,11 @@ openingOf settings sites coordinator = record {
   coordinator = coordinatorFrom coordinator;
 }
 
-abbrev pub zeroSites : Sites
-zeroSites = record { records = replicate mostSites zeroSite; messages = 0 }
-
-abbrev pub zeroCoordinator : CoordinatorRecord
-zeroCoordinator = record {
-  total = 0;
-  base = 0;
-  threshold = 0;
-  signals = 0;
-  quantile = 0;
-  phase = Idle;
-}
-
 -- Settings that the tracker's call refuses, so that it changes nothing.
 abbrev pub noOpening : Opening
 noOpening = record {
   fits = false;
-  settings = settingsWith 0 0 0 0 0 0;
+  settings = zeroSettings;
   sites = zeroSites;
   coordinator = zeroCoordinator;
 }
@@ -94,10 +82,9 @@ countsNumbers done = done .accepted ∷ (done .written ∷ [])
 pub record HandsNumbers (done : BatchAnswer) (sites coordinator out : Lent) (answer : ℕ)
     : Type 0 where
   pub refusal : answer ≡ done .refusal
-  pub sites-are : sites .after ≡ overwrite (sitesNumbers (done .sites)) (sites .before)
-  pub coordinator-is : coordinator .after
-      ≡ overwrite (coordinatorNumbers (done .coordinator)) (coordinator .before)
-  pub out-is : out .after ≡ overwrite (countsNumbers done) (out .before)
+  pub sites-are : Writes (sitesNumbers (done .sites)) sites
+  pub coordinator-is : Writes (coordinatorNumbers (done .coordinator)) coordinator
+  pub out-is : Writes (countsNumbers done) out
 
 abbrev pub Closes : Bool → BatchAnswer → Lent → Lent → Lent → ℕ → Type 0
 Closes fits done sites coordinator out answer =
@@ -149,11 +136,25 @@ pub record HandsBatch (opening : Opening) (arrivals : List Arrival) (lends : Bat
   pub says : BatchSays (callOf opening arrivals lends) (leftBy lends) done
   pub hands : HandsNumbers done (lends .sites) (lends .coordinator) (lends .out) answer
 
-abbrev pub BatchExported : List ℕ → List Arrival → BatchLends → ℕ → Type 0
-BatchExported settings arrivals lends answer =
+abbrev pub BatchExports : List ℕ → List Arrival → BatchLends → ℕ → Type 0
+BatchExports settings arrivals lends answer =
     let sites = lends .sites .before in
     let coordinator = lends .coordinator .before in
     Exported
     (batchFits settings sites coordinator (length (lends .out .before)))
     (HandsBatch (openingOf settings sites coordinator) arrivals lends answer)
     (Kept (allLent lends) answer)
+
+-- The same of the slices that the call is lent.
+abbrev pub BatchExported : Slice → Slice → Slice → Arrivals → Slice → Slice → Slice → Slice
+    → ℕ → Type 0
+BatchExported settings sites coordinator arrivals words tables log out answer =
+    BatchExports (given settings) (now (arrivals .entry))
+    (record {
+      sites = lent sites;
+      coordinator = lent coordinator;
+      siteMemory = lent words;
+      coordinatorMemory = lent tables;
+      log = lent log;
+      out = lent out;
+    }) answer

@@ -9,7 +9,7 @@ use mathlib.Core.Bool.{Bool, _&&_}
 use mathlib.Core.List.{List, [], _∷_, _++_}
 use Prim.Native.Nat.{ℕ, zero, suc, max, _+_, _*_}
 use lib.Dec.{leb, eqb}
-use lib.ListN.{length, getD}
+use lib.ListN.{length, getD, replicate}
 use Rattle.model.specs.declared.Settings.{Settings}
 use Rattle.model.specs.declared.Message.{Message}
 use Rattle.model.specs.declared.SiteRecord.{SiteRecord}
@@ -37,6 +37,10 @@ settingsFrom numbers =
     (getD numbers 3 0)
     (getD numbers 4 0)
     (getD numbers 5 0)
+
+-- Settings that every call refuses.
+abbrev pub zeroSettings : Settings
+zeroSettings = settingsWith 0 0 0 0 0 0
 
 -- Kind, site, a, b.
 abbrev pub messageNumbers : Message → List ℕ
@@ -84,6 +88,9 @@ sitesFrom numbers = record {
 abbrev pub zeroSite : SiteRecord
 zeroSite = record { arrivals = 0; pending = 0; threshold = 0; used = 0 }
 
+abbrev pub zeroSites : Sites
+zeroSites = record { records = replicate mostSites zeroSite; messages = 0 }
+
 -- The first n records, four numbers each.
 abbrev pub recordsNumbers : ℕ → List SiteRecord → List ℕ
 recordsNumbers zero records = []
@@ -123,6 +130,17 @@ coordinatorFrom numbers = record {
       (getD numbers 7 0)
       (getD numbers 8 0)
       (getD numbers 9 0);
+}
+
+-- All numbers 0.
+abbrev pub zeroCoordinator : CoordinatorRecord
+zeroCoordinator = record {
+  total = 0;
+  base = 0;
+  threshold = 0;
+  signals = 0;
+  quantile = 0;
+  phase = Idle;
 }
 
 -- The greatest of the numbers that the record holds in four bytes.

@@ -1,21 +1,22 @@
 // The batch call, over a lent run of arrivals. Before it the records are made from the numbers, and
 // after it they are written back; what does not fit becomes settings that the tracker refuses.
 ghost use mathlib.Core.Path.{_≡_};
-ghost use Rattle.testing.specs.Calls.{lent};
+ghost use Rattle.testing.specs.Openings.{given, lent};
 ghost use Rattle.testing.specs.Batch.{batchFits, noOpening, Opens, ClosesAsk, Closes, BatchExported};
-use crate::lends::UNFIT;
-use crate::lends::coordinator_lent;
 use crate::numbers::SITES_NUMBERS;
 use crate::numbers::coordinator_from;
 use crate::numbers::settings_from;
 use crate::numbers::sites_from;
 use crate::numbers::write_coordinator;
 use crate::numbers::write_sites;
+use crate::numbers::zero_coordinator;
+use crate::numbers::zero_settings;
+use crate::numbers::zero_sites;
+use crate::openings::UNFIT;
+use crate::openings::coordinator_lent;
 use model::Arrival;
 use model::CoordinatorRecord;
-use model::Phase;
 use model::Settings;
-use model::SiteRecord;
 use model::Sites;
 use tracker::BatchAnswer;
 
@@ -29,7 +30,7 @@ pub struct Opening {
 
 // Whether what is lent fits.
 fn batch_fits(settings: &[u32], sites: &[u64], coordinator: &[u64], places: usize) -> bool
-    ensures { λ r. ⌜ r ≡ batchFits (now (settings .entry)) (now (sites .entry)) (now (coordinator .entry)) places ⌝ }
+    ensures { λ r. ⌜ r ≡ batchFits (given settings) (given sites) (given coordinator) places ⌝ }
 {
     if coordinator_lent(settings, coordinator, places, 2) {
         return SITES_NUMBERS <= sites.len();
@@ -41,40 +42,17 @@ fn batch_fits(settings: &[u32], sites: &[u64], coordinator: &[u64], places: usiz
 fn no_opening() -> Opening
     ensures { λ r. ⌜ r ≡ noOpening ⌝ }
 {
-    let zero = SiteRecord {
-        arrivals: 0,
-        pending: 0,
-        threshold: 0,
-        used: 0,
-    };
     Opening {
         fits: false,
-        settings: Settings {
-            sites: 0,
-            epsilon: 0,
-            phi: 0,
-            rank: 0,
-            capacity: 0,
-            universe: 0,
-        },
-        sites: Sites {
-            records: [zero; 32],
-            messages: 0,
-        },
-        coordinator: CoordinatorRecord {
-            total: 0,
-            base: 0,
-            threshold: 0,
-            signals: 0,
-            quantile: 0,
-            phase: Phase::Idle,
-        },
+        settings: zero_settings(),
+        sites: zero_sites(),
+        coordinator: zero_coordinator(),
     }
 }
 
 // The records of the numbers, which are only read.
 fn open_lent(settings: &[u32], sites: &mut [u64], coordinator: &mut [u64], places: usize) -> Opening
-    ensures { λ r. ⌜ Opens (now (settings .entry)) (lent (now (sites .entry)) (now (sites .exit))) (lent (now (coordinator .entry)) (now (coordinator .exit))) places r ⌝ }
+    ensures { λ r. ⌜ Opens (given settings) (lent sites) (lent coordinator) places r ⌝ }
 {
     if batch_fits(settings, sites, coordinator, places) {
         let records = sites_from(sites);
@@ -98,7 +76,7 @@ fn close_lent(
     out: &mut [u64],
 ) -> u32
     requires { ⌜ ClosesAsk (opening .fits) (now sites) (now coordinator) (now out) ⌝ }
-    ensures { λ r. ⌜ Closes (opening .fits) done (lent (now (sites .entry)) (now (sites .exit))) (lent (now (coordinator .entry)) (now (coordinator .exit))) (lent (now (out .entry)) (now (out .exit))) r ⌝ }
+    ensures { λ r. ⌜ Closes (opening .fits) done (lent sites) (lent coordinator) (lent out) r ⌝ }
 {
     if opening.fits {
         let records = done.sites;
@@ -112,20 +90,21 @@ fn close_lent(
     UNFIT
 }
 
-// `tracker::run_batch`: the records go back to `sites` and `coordinator`, the arrivals accepted and the
-// messages written to `out`.
+// `tracker::run_batch`, with the sites' memory `words` and the coordinator's memory `tables`: the
+// records go back to `sites` and `coordinator`, the counts of arrivals accepted and of messages
+// written to `out`.
 #[no_mangle]
 pub extern "C" fn testing_run_batch(
     settings: &[u32],
     sites: &mut [u64],
     coordinator: &mut [u64],
     arrivals: &[Arrival],
-    site_memory: &mut [u32],
-    coordinator_memory: &mut [u64],
+    words: &mut [u32],
+    tables: &mut [u64],
     log: &mut [u64],
     out: &mut [u64],
 ) -> u32
-    ensures { λ r. ⌜ BatchExported (now (settings .entry)) (now (arrivals .entry)) (record { sites = lent (now (sites .entry)) (now (sites .exit)); coordinator = lent (now (coordinator .entry)) (now (coordinator .exit)); siteMemory = lent (now («site_memory» .entry)) (now («site_memory» .exit)); coordinatorMemory = lent (now («coordinator_memory» .entry)) (now («coordinator_memory» .exit)); log = lent (now (log .entry)) (now (log .exit)); out = lent (now (out .entry)) (now (out .exit)) }) r ⌝ }
+    ensures { λ r. ⌜ BatchExported settings sites coordinator arrivals words tables log out r ⌝ }
 {
     let opening = open_lent(settings, sites, coordinator, out.len());
     let done = tracker::run_batch(
@@ -133,8 +112,8 @@ pub extern "C" fn testing_run_batch(
         opening.sites,
         opening.coordinator,
         arrivals,
-        site_memory,
-        coordinator_memory,
+        words,
+        tables,
         log,
     );
     close_lent(opening, done, sites, coordinator, out)

@@ -2,6 +2,6 @@
 // languages. No product crate names it.
 pub mod batches;
 pub mod coordinators;
-pub mod lends;
 pub mod numbers;
+pub mod openings;
 pub mod sites;

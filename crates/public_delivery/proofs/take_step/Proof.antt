@@ -43,14 +43,15 @@ returns-2 c = c .before .before .hand-to-coordinator .ensures (now (c .before .b
 hand-to-site-requires : tie.Need-hand-to-site-requires
 hand-to-site-requires c κs =
     let start = c .before .before .before .before .before .before .before .before in
-    let asks = start .pre .1 in
-    (start .pre .0,
-    record {
-      not-refused = asks .not-refused;
-      some = c .before .before .before .if1 .left;
-      few = asks .few;
-      way-is = sym (c .before .to-coordinator .ensures) ∙ c .if2 .left;
-    })
+    let asks = start .pre .1 in (
+      start .pre .0,
+      record {
+        not-refused = asks .not-refused;
+        some = c .before .before .before .if1 .left;
+        few = asks .few;
+        way-is = sym (c .before .to-coordinator .ensures) ∙ c .if2 .left;
+      },
+    )
 
 returns-3 : tie.Need-returns-3
 returns-3 c = c .hand-to-site .ensures (now (c .before .before .before .before .before .before .before .before .before .args .coordinator-memory))

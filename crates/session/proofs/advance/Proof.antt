@@ -1,6 +1,6 @@
 -- The three answers of a line.
 use mathlib.Core.Path.{refl}
-use Rattle.session.specs.Calls.{lent}
+use Rattle.session.specs.Outcome.{lent}
 use Rattle.session.proofs.LineLaws.{line-draw, line-malformed, line-end}
 use borrow.Author.Needs.{needs}
 use Rattle.session.proofs.advance.Statement.{statement}
@@ -32,14 +32,15 @@ same-length-4 c = search needs
 
 returns : tie.Need-returns
 returns c =
-    let read = c .before .before .before .before .before .before .before .before .before .before .before .before .before .before in
+    let taken = c .before .before .before .before .before .before .before .before in
+    let found = taken .before .before .before .before .before in
+    let read = found .before in
     let start = read .before .before .before .before .before .before .before .args in
+    let given = lent (start .site-memory .now) (start .coordinator-memory .now) (start .log .now)
+    (start .list .now) (start .out .now) in
     record {
-      line = line-draw (start .session) (read .read-at .result) _ (read .read-at .ensures)
-          (lent (start .site-memory .now) (start .coordinator-memory .now) (start .log .now)
-          (start .list .now) (start .out .now))
-          _ _ _ _ _ (c .before .before .before .before .before .before .before .before .before .before .before .before .before .if1 .taken)
-          (c .before .before .before .before .before .before .before .before .take-draw .ensures);
+      line = line-draw (start .session) (read .read-at .result) _ (read .read-at .ensures) given
+          _ _ _ _ _ (found .if1 .taken) (taken .take-draw .ensures);
       lengths = record {
         site-memory = search needs;
         coordinator-memory = search needs;
@@ -57,14 +58,15 @@ same-length-5 c = search needs
 
 returns-2 : tie.Need-returns-2
 returns-2 c =
-    let read = c .before .before .before .before .before .before .before in
+    let refused = c .before .before in
+    let tested = refused .before .before .before .before in
+    let read = tested .before in
     let start = read .before .before .before .before .before .before .before .args in
+    let given = lent (start .site-memory .now) (start .coordinator-memory .now) (start .log .now)
+    (start .list .now) (start .out .now) in
     record {
       line = line-malformed (start .session) (read .read-at .result) _ (read .read-at .ensures)
-          (lent (start .site-memory .now) (start .coordinator-memory .now) (start .log .now)
-          (start .list .now) (start .out .now))
-          _ _ (c .before .before .before .before .before .before .if1 .left) (c .before .before .before .before .if2 .taken)
-          (c .before .before .refuse .ensures);
+          given _ _ (tested .if1 .left) (refused .before .before .if2 .taken) (refused .refuse .ensures);
       lengths = record {
         site-memory = refl;
         coordinator-memory = refl;
@@ -88,14 +90,16 @@ same-length-8 c = search needs
 
 returns-3 : tie.Need-returns-3
 returns-3 c =
-    let read = c .before .before .before .before .before .before .before .before .before .before .before in
+    let finished = c .before .before .before .before in
+    let tested = finished .before .before .before .before .before .before in
+    let read = tested .before in
     let start = read .before .before .before .before .before .before .before .args in
+    let given = lent (start .site-memory .now) (start .coordinator-memory .now) (start .log .now)
+    (start .list .now) (start .out .now) in
     record {
-      line = line-end (start .session) (read .read-at .result) _ (read .read-at .ensures)
-          (lent (start .site-memory .now) (start .coordinator-memory .now) (start .log .now)
-          (start .list .now) (start .out .now))
-          _ _ _ (c .before .before .before .before .before .before .before .before .before .before .if1 .left) (c .before .before .before .before .before .before .before .before .if2 .left)
-          (c .before .before .before .before .finish .ensures);
+      line = line-end (start .session) (read .read-at .result) _ (read .read-at .ensures) given
+          _ _ _ (tested .if1 .left) (finished .before .before .before .before .if2 .left)
+          (finished .finish .ensures);
       lengths = record {
         site-memory = refl;
         coordinator-memory = refl;

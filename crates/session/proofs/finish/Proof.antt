@@ -27,9 +27,10 @@ same-length-2 c = search needs
 
 returns : tie.Need-returns
 returns c =
-    let listed = c .before .before .before .before .before .before .before .before in
-    finish-refused _ _ _ _ (listed .list-heavy-hitters .result) (listed .list-heavy-hitters .ensures) _ _ _
-    (c .before .before .refuse .ensures) (c .before .before .before .before .if1 .taken)
+    let refused = c .before .before in
+    let listed = refused .before .before .before .before .before .before .list-heavy-hitters in
+    finish-refused _ _ _ _ (listed .result) (listed .ensures) _ _ _ (refused .refuse .ensures)
+    (refused .before .before .if1 .taken)
 
 read-quantile-requires : tie.Need-read-quantile-requires
 read-quantile-requires c κs = search needs
@@ -50,19 +51,25 @@ stop-requires : tie.Need-stop-requires
 stop-requires c κs = search needs
 
 same-length-3 : tie.Need-same-length-3
-same-length-3 c = let listed = c .before .before .before .before .before .before .before .before .before .before .before .before .before .before .before .before .before .before in search needs
+same-length-3 c =
+    let known = c .before .before .before .before .before .before .before .before .before
+    .before .before .before .before .before .before .before .before .before in
+    search needs
 
 same-length-4 : tie.Need-same-length-4
 same-length-4 c = search needs
 
 returns-2 : tie.Need-returns-2
 returns-2 c =
-    let listed = c .before .before .before .before .before .before .before .before .before .before .before .before .before .before .before .before .before .before .before .before in
-    let read = c .before .before .before .before .before .before .before .before .before .before .before .before .before .before .before in
-    finish-listed _ _ _ _ (listed .list-heavy-hitters .result) (listed .list-heavy-hitters .ensures) _ _ _
-    (read .before .if1 .left) (read .read-quantile .result) (read .read-quantile .ensures) _ _ _ _ _
-    (c .before .before .before .before .before .before .before .before .before .before .before .write-listed .ensures) (c .before .before .before .before .before .before .before .write-class .ensures)
-    (c .before .before .before .write-count .ensures) (c .stop .ensures)
+    let counted = c .before .before .before in
+    let classed = counted .before .before .before .before in
+    let written = classed .before .before .before .before in
+    let read = written .before .before .before .before in
+    let listed = read .before .before .before .before .before .list-heavy-hitters in
+    finish-listed _ _ _ _ (listed .result) (listed .ensures) _ _ _ (read .before .if1 .left)
+    (read .read-quantile .result) (read .read-quantile .ensures) _ _ _ _ _
+    (written .write-listed .ensures) (classed .write-class .ensures)
+    (counted .write-count .ensures) (c .stop .ensures)
 
 pub finish-spec : {M : Type 1} → statement M
 finish-spec =

@@ -1,6 +1,6 @@
 -- A draw that is refused, and one that is taken.
 use mathlib.Core.List.{[]}
-use Rattle.session.specs.Calls.{lent}
+use Rattle.session.specs.Outcome.{lent}
 use Rattle.session.proofs.TakeLaws.{draw-refused, log-holds, draw-taken}
 use borrow.Author.Needs.{needs}
 use Rattle.session.proofs.take_draw.Statement.{statement}
@@ -31,20 +31,25 @@ same-length-4 c = search needs
 
 returns : tie.Need-returns
 returns c =
-    let run = c .before .before .before .before .before .before .before .before .before .before .before .before in
-    let start = run .before .before .before .before .before .before .before .before .before .before .before .before .args in
-    draw-refused (start .session) (start .step)
-    (lent (start .site-memory .now) (start .coordinator-memory .now) (start .log .now) [] (start .out .now)) _
-    (run .run-one .result) (run .run-one .ensures) (c .before .before .before .before .if1 .taken) [] _ _
-    (c .before .before .refuse .ensures)
+    let refused = c .before .before in
+    let tested = refused .before .before in
+    let run = tested .before .before .before .before .before .before .before .before in
+    let arrival = run .before .before .before .before in
+    let start = arrival .before .before .before .before .before .before .before .before .args in
+    let given = lent (start .site-memory .now) (start .coordinator-memory .now) (start .log .now) []
+    (start .out .now) in
+    draw-refused (start .session) (start .step) given _ (run .run-one .result)
+    (run .run-one .ensures) (tested .if1 .taken) [] _ _ (refused .refuse .ensures)
 
 put-messages-requires : tie.Need-put-messages-requires
 put-messages-requires c κs =
     let run = c .before .before .before .before .before .before .before .before .before .before in
-    let start = run .before .before .before .before .before .before .before .before .before .before .before .before .args in
-    log-holds (start .session) (start .step)
-    (lent (start .site-memory .now) (start .coordinator-memory .now) (start .log .now) [] (start .out .now)) _
-    (run .run-one .result) (run .run-one .ensures) (c .before .before .if1 .left)
+    let arrival = run .before .before .before .before in
+    let start = arrival .before .before .before .before .before .before .before .before .args in
+    let given = lent (start .site-memory .now) (start .coordinator-memory .now) (start .log .now) []
+    (start .out .now) in
+    log-holds (start .session) (start .step) given _ (run .run-one .result) (run .run-one .ensures)
+    (c .before .before .if1 .left)
 
 same-length-5 : tie.Need-same-length-5
 same-length-5 c = search needs
@@ -60,12 +65,15 @@ same-length-8 c = search needs
 
 returns-2 : tie.Need-returns-2
 returns-2 c =
-    let run = c .before .before .before .before .before .before .before .before .before .before .before .before .before .before .before in
-    let start = run .before .before .before .before .before .before .before .before .before .before .before .before .args in
-    draw-taken (start .session) (start .step)
-    (lent (start .site-memory .now) (start .coordinator-memory .now) (start .log .now) [] (start .out .now)) _
-    (run .run-one .result) (run .run-one .ensures) (c .before .before .before .before .before .before .before .if1 .left) [] _ _
-    (c .before .before .before .before .put-messages .ensures)
+    let put = c .before .before .before .before in
+    let tested = put .before .before .before in
+    let run = tested .before .before .before .before .before .before .before .before in
+    let arrival = run .before .before .before .before in
+    let start = arrival .before .before .before .before .before .before .before .before .args in
+    let given = lent (start .site-memory .now) (start .coordinator-memory .now) (start .log .now) []
+    (start .out .now) in
+    draw-taken (start .session) (start .step) given _ (run .run-one .result)
+    (run .run-one .ensures) (tested .if1 .left) [] _ _ (put .put-messages .ensures)
 
 pub take-draw-spec : {M : Type 1} → statement M
 take-draw-spec =

@@ -50,7 +50,7 @@ use Rattle.model.specs.declared.CoordinatorRecord.{CoordinatorRecord}
 use Rattle.tracker.specs.declared.BatchAnswer.{BatchAnswer}
 use Rattle.tracker.specs.Batch.{BatchSays}
 use Rattle.testing.specs.declared.batches.Opening.{Opening}
-use Rattle.testing.specs.Calls.{lent}
+use Rattle.testing.specs.Openings.{change}
 use Rattle.testing.specs.Batch.{Opens, ClosesAsk, Closes, BatchLends, callOf, leftBy}
 use Rattle.testing.proofs.Batching.{closes-ask, batch-exported}
 use Rattle.model.proofs.Settings as S
@@ -64,7 +64,8 @@ use Rattle.tracker.proofs.BatchAnswer as K
 use Rattle.tracker.proofs.BatchAnswer.Laws as K′
 use Rattle.testing.proofs.batches.Opening as O
 use Rattle.testing.proofs.batches.Opening.Laws as O′
-use Rattle.tracker.proofs.Again.{LentAgain, lends-again, comes-back}
+use Rattle.tracker.proofs.Lending.{Lending}
+use Rattle.tracker.proofs.Again.{LentAgain, lends, returned}
 use Rattle.testing.proofs.batches.open_lent as opener
 use Rattle.testing.proofs.batches.open_lent.Symbol as open-def
 use Rattle.testing.proofs.batches.open_lent.Symbol.{name as #open-lent}
@@ -221,22 +222,40 @@ module _ {M : Type 1} (𝓤 : URA M) (H : Heap 𝓤) (A : Atoms 𝓤) (W : Given
   abbrev Again₁ : ℕ → GName → Fml
   Again₁ ν δ = MutSlice (named 1) (ν ∷ []) u64 .own (at x₁ δ (x₁ .now)) (v₁ ∷ [])
 
+  abbrev lent₁ : Lending ℕ
+  lent₁ = record {
+    life = κ₁;
+    share = q₁;
+    block = x₁ .ptr .0;
+    offset = x₁ .ptr .1;
+    name = x₁ .name;
+    list = x₁ .now;
+  }
+
   abbrev Kept₁ : ℕ → GName → Fml
-  Kept₁ ν δ =
-      LentAgain u64 κ₁ (ν ∷ []) q₁ (x₁ .name) (x₁ .ptr .0) (x₁ .ptr .1) (v₁ ∷ []) δ (x₁ .now)
+  Kept₁ ν δ = LentAgain u64 lent₁ ν δ (x₁ .now)
 
   abbrev Again₂ : ℕ → GName → Fml
   Again₂ ν δ = MutSlice (named 2) (ν ∷ []) u64 .own (at x₂ δ (x₂ .now)) (v₂ ∷ [])
 
+  abbrev lent₂ : Lending ℕ
+  lent₂ = record {
+    life = κ₂;
+    share = q₂;
+    block = x₂ .ptr .0;
+    offset = x₂ .ptr .1;
+    name = x₂ .name;
+    list = x₂ .now;
+  }
+
   abbrev Kept₂ : ℕ → GName → Fml
-  Kept₂ ν δ =
-      LentAgain u64 κ₂ (ν ∷ []) q₂ (x₂ .name) (x₂ .ptr .0) (x₂ .ptr .1) (v₂ ∷ []) δ (x₂ .now)
+  Kept₂ ν δ = LentAgain u64 lent₂ ν δ (x₂ .now)
 
   -- ---- What the three calls are given, and what they say
 
   -- The opening.
   abbrev Opened : Opening → List ℕ → List ℕ → Type 0
-  Opened r ss cs = Opens (x₀ .now) (lent (x₁ .now) ss) (lent (x₂ .now) cs) (length (x₇ .now)) r
+  Opened r ss cs = Opens (x₀ .now) (change (x₁ .now) ss) (change (x₂ .now) cs) (length (x₇ .now)) r
 
   abbrev opens-passed : GName → GName
       → RefT (List ℕ) × (RefT (List ℕ) × (RefT (List ℕ) × (ℕ × Unit {0})))
@@ -341,7 +360,7 @@ module _ {M : Type 1} (𝓤 : URA M) (H : Heap 𝓤) (A : Atoms 𝓤) (W : Given
   module _ (opening : Opening) (done : BatchAnswer) (ss cs : List ℕ) where
     abbrev Closed : ℕ → List ℕ → List ℕ → List ℕ → Type 0
     Closed r ss′ cs′ os =
-        Closes (opening .fits) done (lent ss ss′) (lent cs cs′) (lent (x₇ .now) os) r
+        Closes (opening .fits) done (change ss ss′) (change cs cs′) (change (x₇ .now) os) r
 
     abbrev closes-passed : Opening × (BatchAnswer
         × (RefT (List ℕ) × (RefT (List ℕ) × (RefT (List ℕ) × Unit {0}))))
@@ -419,12 +438,12 @@ module _ {M : Type 1} (𝓤 : URA M) (H : Heap 𝓤) (A : Atoms 𝓤) (W : Given
     where
       lends : BatchLends
       lends = record {
-        sites = lent (x₁ .now) ss′;
-        coordinator = lent (x₂ .now) cs′;
-        siteMemory = lent (x₄ .now) ms;
-        coordinatorMemory = lent (x₅ .now) ds;
-        log = lent (x₆ .now) ns;
-        out = lent (x₇ .now) os;
+        sites = change (x₁ .now) ss′;
+        coordinator = change (x₂ .now) cs′;
+        siteMemory = change (x₄ .now) ms;
+        coordinatorMemory = change (x₅ .now) ds;
+        log = change (x₆ .now) ns;
+        out = change (x₇ .now) os;
       }
 
   -- ---- The walk
@@ -486,18 +505,11 @@ module _ {M : Type 1} (𝓤 : URA M) (H : Heap 𝓤) (A : Atoms 𝓤) (W : Given
         (and-then ! (load ! (from ! (fld ! refl (stop !))) (look-in ! 64 (sub ! 1 refl (whole !)))) (no-more !))))
         (from ! (stop !)) (init ! 42 refl (tt, (tt, (record { fits = room .g₂ .0 }, tt)))) $
         assigns ! (of-opd ! (load ! (from ! (fld ! refl (stop !))) (look-in ! 54 (sub ! 1 refl (whole !))))) (from ! (stop !)) (init ! 40 refl (tt, record { fits = room .g₇ .0 })) $
-        lft-new ! tt (λ ν₁.
-        move ! (7 ∷ 15 ∷ []) $
-        use2 W (later (some (λ (δ : GName). ‵ (Again₁ ν₁ δ) ⊛ ‵ (Kept₁ ν₁ δ))))
-        (lends-again u64 κ₁ (ν₁ ∷ []) q₁ (x₁ .name) (x₁ .ptr .0) (x₁ .ptr .1) (v₁ ∷ []) 𝓤 H A W (named 1) (named 1) (x₁ .now)) $
-        await ! tt $ pick ! (λ δ₁.
-        split ! $
-        lft-new ! tt (λ ν₂.
-        move ! (9 ∷ 16 ∷ []) $
-        use2 W (later (some (λ (δ : GName). ‵ (Again₂ ν₂ δ) ⊛ ‵ (Kept₂ ν₂ δ))))
-        (lends-again u64 κ₂ (ν₂ ∷ []) q₂ (x₂ .name) (x₂ .ptr .0) (x₂ .ptr .1) (v₂ ∷ []) 𝓤 H A W (named 2) (named 2) (x₂ .now)) $
-        await ! tt $ pick ! (λ δ₂.
-        split ! $
+        -- sites and coordinator are lent again
+        move ! (6 ∷ 14 ∷ []) $
+        lends u64 lent₁ (named 1) (named 1) (x₁ .now) ! tt (λ ν₁ δ₁.
+        move ! (8 ∷ 15 ∷ []) $
+        lends u64 lent₂ (named 2) (named 2) (x₂ .now) ! tt (λ ν₂ δ₂.
         move ! (11 ∷ []) $
         use1 W (Own₀ ⊛ Own₀) (shr-slice-copy 𝓤 H A W (named 0) κ₀ u32 .twice x₀ (v₀ ∷ [])) $
         split ! $
@@ -533,14 +545,11 @@ module _ {M : Type 1} (𝓤 : URA M) (H : Heap 𝓤) (A : Atoms 𝓤) (W : Given
         land ! (from ! (stop !)) (init ! 53 refl (LL.lawful O.the-type O′.the-laws 𝓤 H A W .typed opening _ opening-is .0)) $
         rewrite ! 53 (λ (w : Val). ‵ (fat fullShare O′.mir l₉ 0 w))
         (ap only (LL.tells O.the-type O′.the-laws opening (u ∷ []) opening-is)) refl $ drop ! $
-        split ! $ move ! (1 ∷ []) $ split ! $ lft-end ! tt $ move ! (0 ∷ 7 ∷ 4 ∷ []) $
-        use3 W (later (Own₁ (ws .1 .0) ⊛ ‵ (flft κ₁ q₁)))
-        (comes-back u64 κ₁ (ν₁ ∷ []) q₁ (x₁ .name) (x₁ .ptr .0) (x₁ .ptr .1) (v₁ ∷ []) 𝓤 H A W (named 1) (named 1) (x₁ .now) δ₁ (ws .1 .0) same₁) $
-        await ! tt $ split ! $
-        move ! (2 ∷ []) $ split ! $ lft-end ! tt $ move ! (0 ∷ 7 ∷ 5 ∷ []) $
-        use3 W (later (Own₂ (ws .1 .1 .0) ⊛ ‵ (flft κ₂ q₂)))
-        (comes-back u64 κ₂ (ν₂ ∷ []) q₂ (x₂ .name) (x₂ .ptr .0) (x₂ .ptr .1) (v₂ ∷ []) 𝓤 H A W (named 2) (named 2) (x₂ .now) δ₂ (ws .1 .1 .0) same₂) $
-        await ! tt $ split ! $
+        -- the lifetimes are ended, and both come back
+        split ! $ move ! (1 ∷ []) $ split ! $ move ! (0 ∷ 7 ∷ 4 ∷ []) $
+        returned u64 lent₁ (named 1) (named 1) (x₁ .now) ! tt ν₁ δ₁ _ same₁ $
+        move ! (2 ∷ []) $ split ! $ move ! (0 ∷ 7 ∷ 5 ∷ []) $
+        returned u64 lent₂ (named 2) (named 2) (x₂ .now) ! tt ν₂ δ₂ _ same₂ $
         move ! (2 ∷ []) $ drop ! $
         -- the tracker's call: both memories and the log are given
         assigns ! (addr ! (from ! (fld ! refl (hop ! (look-in ! 60 (sub ! 0 refl (whole !))) (stop !)))))
@@ -681,7 +690,7 @@ module _ {M : Type 1} (𝓤 : URA M) (H : Heap 𝓤) (A : Atoms 𝓤) (W : Given
         move ! (15 ∷ 2 ∷ 1 ∷ 10 ∷ 9 ∷ 8 ∷ 7 ∷ 0 ∷ 16 ∷ 6 ∷ 5 ∷ 14 ∷ 13 ∷ 12 ∷ 11 ∷ 4 ∷ 3 ∷ []) $
         by ! (exits opening done r u₂ (ws .1 .0) (ws .1 .1 .0) (os .1 .1 .0) (os .1 .1 .1 .0)
         (ns .1 .1 .1 .1 .0) (ns .1 .1 .1 .1 .1 .0) (ns .1 .1 .1 .1 .1 .1 .0) (os .1 .1 .1 .1 .0)
-        opened ran closed (last₁ ∙ same₁) (last₂ ∙ same₂) same₄ same₅ same₆ last₇))))))))))))))))))))))))))))))))))))))))))))))))))))))))
+        opened ran closed (last₁ ∙ same₁) (last₂ ∙ same₂) same₄ same₅ same₆ last₇))))))))))))))))))))))))))))))))))))))))))))))))))))))
 
 module _ {M : Type 1} (𝓤 : URA M) (H : Heap 𝓤) (A : Atoms 𝓤) (W : Given 𝓤 H A)
     (mem : Memory → SProp 𝓤) (run : Routine → Fun 𝓤) (𝓣 : Tables 𝓤 H)

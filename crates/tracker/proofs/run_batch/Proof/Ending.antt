@@ -103,7 +103,7 @@ module _ {M : Type 1} (logic : Logic M) (f : Called) (ok : Typed f) where
       (s .good) $ done !
 
   module _ (l : Places) where
-    open Places l using (l₁₄)
+    open Places l using (l₁₅)
 
     leaves : (i : ℕ) (s : Point f) → BatchSays (asked f) (s .lent) (s .answer)
         → ent 𝓤 (⋆ 𝓤 H A (At logic f l i s))
@@ -113,26 +113,28 @@ module _ {M : Type 1} (logic : Logic M) (f : Called) (ok : Typed f) where
         qed W (At logic f l i s) ∵
         exec ! (𝓣 .C) (𝓣 .Λ) (locals logic f l) m.t-8
         (atRet (locals logic f l) (Post 𝓤 H A mem run f)) $
-        assigns ! (of-opd ! (load ! (from ! (stop !)) (look ! 40 refl))) (from ! (stop !))
-        (init ! 56 refl (LL.lawful K.the-type K′.the-laws 𝓤 H A W .typed (s .answer) _
+        assigns ! (of-opd ! (load ! (from ! (stop !)) (look ! 50 refl))) (from ! (stop !))
+        (init ! 66 refl (LL.lawful K.the-type K′.the-laws 𝓤 H A W .typed (s .answer) _
         (s .good) .0)) $
-        returns ! (look ! 56 refl) $
-        forget ! 38 refl $ forget ! 40 refl $ forget ! 42 refl $ forget ! 44 refl $
-        forget ! 46 refl $ forget ! 48 refl $ forget ! 50 refl $ forget ! 52 refl $
-        forget ! 54 refl $ forget ! 56 refl $
-        move ! (56 ∷ 57 ∷ []) $ free1 ! $ move ! (54 ∷ 55 ∷ []) $ free1 ! $
-        move ! (52 ∷ 53 ∷ []) $ free1 ! $ move ! (50 ∷ 51 ∷ []) $ free1 ! $
-        move ! (48 ∷ 49 ∷ []) $ free1 ! $ move ! (46 ∷ 47 ∷ []) $ free1 ! $
-        move ! (44 ∷ 45 ∷ []) $ free1 ! $ move ! (42 ∷ 43 ∷ []) $ free1 ! $
-        move ! (40 ∷ 41 ∷ []) $ free1 ! $ move ! (38 ∷ 39 ∷ []) $ free1 ! $
-        move ! (36 ∷ 37 ∷ []) $ free1 ! $ move ! (34 ∷ 35 ∷ []) $ free1 ! $
-        move ! (32 ∷ 33 ∷ []) $ free1 ! $ move ! (30 ∷ 31 ∷ []) $ free1 ! $
-        move ! (28 ∷ 29 ∷ []) $ free1 ! $ move ! (26 ∷ 27 ∷ []) $ free1 ! $
-        move ! (24 ∷ 25 ∷ []) $ free1 ! $ move ! (22 ∷ 23 ∷ []) $ free1 ! $
-        move ! (20 ∷ 21 ∷ []) $ free1 ! $ move ! (18 ∷ 19 ∷ []) $ free1 ! $
-        move ! (16 ∷ 17 ∷ []) $ free1 ! $ move ! (14 ∷ 15 ∷ []) $ free1 ! $
-        move ! (12 ∷ 13 ∷ []) $ free1 ! $ move ! (10 ∷ 11 ∷ []) $ free1 ! $
-        move ! (8 ∷ 9 ∷ []) $ free1 ! $ free0 ! $
+        returns ! (look ! 66 refl) $
+        forget ! 48 refl $ forget ! 50 refl $ forget ! 52 refl $ forget ! 54 refl $
+        forget ! 56 refl $ forget ! 58 refl $ forget ! 60 refl $ forget ! 62 refl $
+        forget ! 64 refl $ forget ! 66 refl $
+        move ! (66 ∷ 67 ∷ []) $ free1 ! $ move ! (64 ∷ 65 ∷ []) $ free1 ! $
+        move ! (62 ∷ 63 ∷ []) $ free1 ! $ move ! (60 ∷ 61 ∷ []) $ free1 ! $
+        move ! (58 ∷ 59 ∷ []) $ free1 ! $ move ! (56 ∷ 57 ∷ []) $ free1 ! $
+        move ! (54 ∷ 55 ∷ []) $ free1 ! $ move ! (52 ∷ 53 ∷ []) $ free1 ! $
+        move ! (50 ∷ 51 ∷ []) $ free1 ! $ move ! (48 ∷ 49 ∷ []) $ free1 ! $
+        move ! (46 ∷ 47 ∷ []) $ free1 ! $ move ! (44 ∷ 45 ∷ []) $ free1 ! $
+        move ! (42 ∷ 43 ∷ []) $ free1 ! $ move ! (40 ∷ 41 ∷ []) $ free1 ! $
+        move ! (38 ∷ 39 ∷ []) $ free1 ! $ move ! (36 ∷ 37 ∷ []) $ free1 ! $
+        move ! (34 ∷ 35 ∷ []) $ free1 ! $ move ! (32 ∷ 33 ∷ []) $ free1 ! $
+        move ! (30 ∷ 31 ∷ []) $ free1 ! $ move ! (28 ∷ 29 ∷ []) $ free1 ! $
+        move ! (26 ∷ 27 ∷ []) $ free1 ! $ move ! (24 ∷ 25 ∷ []) $ free1 ! $
+        move ! (22 ∷ 23 ∷ []) $ free1 ! $ move ! (20 ∷ 21 ∷ []) $ free1 ! $
+        move ! (18 ∷ 19 ∷ []) $ free1 ! $ move ! (16 ∷ 17 ∷ []) $ free1 ! $
+        move ! (14 ∷ 15 ∷ []) $ free1 ! $ move ! (12 ∷ 13 ∷ []) $ free1 ! $
+        move ! (10 ∷ 11 ∷ []) $ free1 ! $ move ! (8 ∷ 9 ∷ []) $ free1 ! $ free0 ! $
         by ! (exits s e)
 
     pub ends : (i : ℕ) (s : Point f) (X : SProp 𝓤) → length (f .arrivals .list) ≤ i
@@ -145,15 +147,15 @@ module _ {M : Type 1} (logic : Logic M) (f : Called) (ok : Typed f) where
         exec ! (𝓣 .C) (𝓣 .Λ) (locals logic f l) m.turn-1 (anyQ (afterTurn 𝓤 H X (Left logic f l))) $
         -- the length of the run, and the first test, which fails
         assigns ! (of-opd ! (load ! (from ! (fld ! refl (stop !)))
-        (look-in ! 48 (sub ! 1 refl (whole !))))) (from ! (stop !))
-        (init ! 26 refl (tt, record { fits = ok .arrivals-room .0 })) $
-        assigns ! (bin ! (load ! (from ! (stop !)) (look ! 38 refl))
-        (load ! (from ! (stop !)) (look ! 26 refl)) tt) (from ! (stop !))
-        (init ! 28 refl (tt, tt)) $
-        rewrite ! 28 (λ (t : Bool). ‵ (fat fullShare tyBool l₁₄ 0 (vbool t)))
+        (look-in ! 58 (sub ! 1 refl (whole !))))) (from ! (stop !))
+        (init ! 34 refl (tt, record { fits = ok .arrivals-room .0 })) $
+        assigns ! (bin ! (load ! (from ! (stop !)) (look ! 48 refl))
+        (load ! (from ! (stop !)) (look ! 34 refl)) tt) (from ! (stop !))
+        (init ! 36 refl (tt, tt)) $
+        rewrite ! 36 (λ (t : Bool). ‵ (fat fullShare tyBool l₁₅ 0 (vbool t)))
         (le-ltb i (length (f .arrivals .list)) past) refl $
-        first ! $ branches ! (load ! (from ! (stop !)) (look ! 28 refl)) (λ z. absurd z) (λ _.
-        jumps ! $ forget ! 26 refl $ forget ! 28 refl $ by ! (leaves i s e))
+        first ! $ branches ! (load ! (from ! (stop !)) (look ! 36 refl)) (λ z. absurd z) (λ _.
+        jumps ! $ forget ! 34 refl $ forget ! 36 refl $ by ! (leaves i s e))
 
     pub refuses : (i : ℕ) (s : Point f) (X : SProp 𝓤) → i < length (f .arrivals .list)
         → eqb (s .answer .refusal) 0 ≡ false
@@ -166,21 +168,21 @@ module _ {M : Type 1} (logic : Logic M) (f : Called) (ok : Typed f) where
         exec ! (𝓣 .C) (𝓣 .Λ) (locals logic f l) m.turn-1 (anyQ (afterTurn 𝓤 H X (Left logic f l))) $
         -- the length of the run, and the first test, which holds
         assigns ! (of-opd ! (load ! (from ! (fld ! refl (stop !)))
-        (look-in ! 48 (sub ! 1 refl (whole !))))) (from ! (stop !))
-        (init ! 26 refl (tt, record { fits = ok .arrivals-room .0 })) $
-        assigns ! (bin ! (load ! (from ! (stop !)) (look ! 38 refl))
-        (load ! (from ! (stop !)) (look ! 26 refl)) tt) (from ! (stop !))
-        (init ! 28 refl (tt, tt)) $
-        rewrite ! 28 (λ (t : Bool). ‵ (fat fullShare tyBool l₁₄ 0 (vbool t)))
+        (look-in ! 58 (sub ! 1 refl (whole !))))) (from ! (stop !))
+        (init ! 34 refl (tt, record { fits = ok .arrivals-room .0 })) $
+        assigns ! (bin ! (load ! (from ! (stop !)) (look ! 48 refl))
+        (load ! (from ! (stop !)) (look ! 34 refl)) tt) (from ! (stop !))
+        (init ! 36 refl (tt, tt)) $
+        rewrite ! 36 (λ (t : Bool). ‵ (fat fullShare tyBool l₁₅ 0 (vbool t)))
         (lt-ltb i (length (f .arrivals .list)) within) refl $
-        first ! $ branches ! (load ! (from ! (stop !)) (look ! 28 refl)) (λ _.
+        first ! $ branches ! (load ! (from ! (stop !)) (look ! 36 refl)) (λ _.
         -- the second test, which fails
         assigns ! (bin ! (load ! (from ! (fld ! refl (stop !)))
-        (look-in ! 40 (sub ! 0 refl (whole !)))) (lit ! tt) tt) (from ! (stop !))
-        (store ! 28 refl (tt, tt)) $
-        rewrite ! 28 (λ (t : Bool). ‵ (fat fullShare tyBool l₁₄ 0 (vbool t))) refused refl $
-        assigns ! (of-opd ! (load ! (from ! (stop !)) (look ! 28 refl))) (from ! (stop !))
-        (init ! 24 refl (tt, tt)) $
-        branches ! (load ! (from ! (stop !)) (look ! 24 refl)) (λ z. absurd z) (λ _.
-        jumps ! $ forget ! 24 refl $ forget ! 26 refl $ forget ! 28 refl $
+        (look-in ! 50 (sub ! 0 refl (whole !)))) (lit ! tt) tt) (from ! (stop !))
+        (store ! 36 refl (tt, tt)) $
+        rewrite ! 36 (λ (t : Bool). ‵ (fat fullShare tyBool l₁₅ 0 (vbool t))) refused refl $
+        assigns ! (of-opd ! (load ! (from ! (stop !)) (look ! 36 refl))) (from ! (stop !))
+        (init ! 32 refl (tt, tt)) $
+        branches ! (load ! (from ! (stop !)) (look ! 32 refl)) (λ z. absurd z) (λ _.
+        jumps ! $ forget ! 32 refl $ forget ! 34 refl $ forget ! 36 refl $
         by ! (leaves i s e))) (λ z. absurd z)

@@ -1,10 +1,11 @@
--- The locals of `run_batch` at three points: where its body begins, where the loop's test is
--- reached, and after the loop.
+-- The locals of `run_batch` at four points: where its body begins, where the loop's test is
+-- reached, where a turn was taken, and after the loop.
 --
---   Places   where each of the 25 locals lies
+--   Places   where each of the 30 locals lies
 --   locals   their types and places, as the MIR numbers them
 --   Begun    the context where the body begins: only the parameters have values
 --   At       the context at the loop's test, at an index and a point of the loop
+--   Told     the context when a turn was taken, which is not yet counted or not yet delivered
 --   Left     what is to hold where the loop is left: the rest of the body runs
 use Prim.Native.Nat.{ℕ}
 use mathlib.Core.List.{List, [], _∷_}
@@ -18,6 +19,7 @@ use prog.Wp.{Out, Env, Wp, afterSeq, afterBlock, atReturn}
 use types.Kit.{Item, ‵}
 use denote.Memory.{pointee}
 use denote.Slice.{sliceTy}
+use Rattle.tracker.specs.declared.Turn.{Turn}
 use Rattle.tracker.specs.Steps.{lentOf}
 use Rattle.model.proofs.Settings.Laws as S′
 use Rattle.model.proofs.Sites.Laws as P′
@@ -25,9 +27,10 @@ use Rattle.model.proofs.CoordinatorRecord.Laws as D′
 use Rattle.model.proofs.Arrival as T
 use Rattle.model.proofs.Arrival.Laws as T′
 use Rattle.tracker.proofs.BatchAnswer.Laws as K′
+use Rattle.tracker.proofs.Turn.Laws as N′
 use Rattle.tracker.proofs.Lending.{value}
 use Rattle.tracker.proofs.run_batch.Code.Mir as m
-use Rattle.tracker.proofs.run_batch.Proof.Parameters.{VS, VP, VD, VK, Called, Point, Owned, Post, Logic}
+use Rattle.tracker.proofs.run_batch.Proof.Parameters.{VS, VP, VD, VK, VN, Called, Point, Owned, Post, Logic}
 
 pub record Places : Type 0 where
   pub l₀ : ℕ
@@ -55,6 +58,11 @@ pub record Places : Type 0 where
   pub l₂₂ : ℕ
   pub l₂₃ : ℕ
   pub l₂₄ : ℕ
+  pub l₂₅ : ℕ
+  pub l₂₆ : ℕ
+  pub l₂₇ : ℕ
+  pub l₂₈ : ℕ
+  pub l₂₉ : ℕ
 
 -- ---- Their types
 
@@ -90,24 +98,26 @@ module _ {M : Type 1} (logic : Logic M) (f : Called) (l : Places) where
   open Logic logic using (𝓤, H, A, W, mem, run, 𝓣)
   open Places l using (l₀, l₁, l₂, l₃, l₄, l₅, l₆, l₇, l₈, l₉)
   open Places l using (l₁₀, l₁₁, l₁₂, l₁₃, l₁₄, l₁₅, l₁₆, l₁₇, l₁₈, l₁₉)
-  open Places l using (l₂₀, l₂₁, l₂₂, l₂₃, l₂₄)
+  open Places l using (l₂₀, l₂₁, l₂₂, l₂₃, l₂₄, l₂₅, l₂₆, l₂₇, l₂₈, l₂₉)
 
   abbrev pub locals : Env 𝓤 H
   locals =
       (K′.mir, l₀) ∷ (S′.mir, l₁) ∷ (P′.mir, l₂) ∷ (D′.mir, l₃) ∷ (run-type, l₄)
       ∷ (site-type, l₅) ∷ (coordinator-type, l₆) ∷ (log-type, l₇) ∷ (K′.mir, l₈)
-      ∷ (tyInt w64, l₉) ∷ (rm, l₁₀) ∷ (sliceTy rm, l₁₁) ∷ (rn, l₁₂) ∷ (sliceTy rn, l₁₃)
-      ∷ (tyBool, l₁₄) ∷ (tyInt w64, l₁₅) ∷ (tyBool, l₁₆) ∷ (tyPtr, l₁₇) ∷ (T′.mir, l₁₈)
-      ∷ (rm, l₁₉) ∷ (sliceTy rm, l₂₀) ∷ (rn, l₂₁) ∷ (sliceTy rn, l₂₂) ∷ (rn, l₂₃)
-      ∷ (sliceTy rn, l₂₄) ∷ []
+      ∷ (tyInt w64, l₉) ∷ (N′.mir, l₁₀) ∷ (rm, l₁₁) ∷ (sliceTy rm, l₁₂) ∷ (rn, l₁₃)
+      ∷ (sliceTy rn, l₁₄) ∷ (tyBool, l₁₅) ∷ (tyInt w64, l₁₆) ∷ (tyBool, l₁₇) ∷ (tyPtr, l₁₈)
+      ∷ (T′.mir, l₁₉) ∷ (tyInt w64, l₂₀) ∷ (rm, l₂₁) ∷ (sliceTy rm, l₂₂) ∷ (tyBool, l₂₃)
+      ∷ (rm, l₂₄) ∷ (sliceTy rm, l₂₅) ∷ (rn, l₂₆) ∷ (sliceTy rn, l₂₇) ∷ (rn, l₂₈)
+      ∷ (sliceTy rn, l₂₉) ∷ []
 
   -- The temporaries, the last first.
   abbrev temporaries : List (Item 𝓤) → List (Item 𝓤)
   temporaries Γ =
-      empty (sliceTy rn) l₂₄ (empty rn l₂₃ (empty (sliceTy rn) l₂₂ (empty rn l₂₁
-      (empty (sliceTy rm) l₂₀ (empty rm l₁₉ (empty T′.mir l₁₈ (empty tyPtr l₁₇
-      (empty tyBool l₁₆ (empty (tyInt w64) l₁₅ (empty tyBool l₁₄ (empty (sliceTy rn) l₁₃
-      (empty rn l₁₂ (empty (sliceTy rm) l₁₁ (empty rm l₁₀ Γ))))))))))))))
+      empty (sliceTy rn) l₂₉ (empty rn l₂₈ (empty (sliceTy rn) l₂₇ (empty rn l₂₆
+      (empty (sliceTy rm) l₂₅ (empty rm l₂₄ (empty tyBool l₂₃ (empty (sliceTy rm) l₂₂
+      (empty rm l₂₁ (empty (tyInt w64) l₂₀ (empty T′.mir l₁₉ (empty tyPtr l₁₈ (empty tyBool l₁₇
+      (empty (tyInt w64) l₁₆ (empty tyBool l₁₅ (empty (sliceTy rn) l₁₄ (empty rn l₁₃
+      (empty (sliceTy rm) l₁₂ (empty rm l₁₁ Γ))))))))))))))))))
 
   -- The parameters, the last first, and the place of the result.
   abbrev parameters : List (Item 𝓤)
@@ -121,12 +131,19 @@ module _ {M : Type 1} (logic : Logic M) (f : Called) (l : Places) where
   abbrev pub Begun : List (Item 𝓤)
   Begun =
       Owned f (lentOf (f .siteMemory .list) (f .coordinatorMemory .list) (f .log .list))
-      (temporaries (empty (tyInt w64) l₉ (empty K′.mir l₈ parameters)))
+      (temporaries (empty N′.mir l₁₀ (empty (tyInt w64) l₉ (empty K′.mir l₈ parameters))))
 
   abbrev pub At : ℕ → Point f → List (Item 𝓤)
   At i s =
       Owned f (s .lent)
-      (temporaries (full (tyInt w64) l₉ (vint w64 i) (full K′.mir l₈ (VK (s .answer)) parameters)))
+      (temporaries (empty N′.mir l₁₀ (full (tyInt w64) l₉ (vint w64 i)
+      (full K′.mir l₈ (VK (s .answer)) parameters))))
+
+  abbrev pub Told : ℕ → Turn → Point f → List (Item 𝓤)
+  Told i turn s =
+      Owned f (s .lent)
+      (temporaries (full N′.mir l₁₀ (VN turn) (full (tyInt w64) l₉ (vint w64 i)
+      (full K′.mir l₈ (VK (s .answer)) parameters))))
 
   abbrev pub Left : Out → SProp 𝓤
   Left =

@@ -50,7 +50,8 @@ fn measure_stream(settings: [u32; 6], name: &str, stream: Stream, last: u64) {
         let Times { proved, reference } = times;
         let ratio = proved / reference;
         println!(
-            "| {k} | {c} | {e} | {name} | {after} | {messages} | {proved:.0} | {reference:.0} | {ratio:.2} |"
+            "| {k} | {c} | {e} | {name} | {after} | {messages} | {proved:.0} | {reference:.0} \
+             | {ratio:.2} |"
         );
         network.run(&arrivals);
     }

@@ -1,4 +1,4 @@
-//! A whole network twice: as the batch call of the proved code takes it, and as that of the separate
+//! A whole network twice: as the batch call of the proved code takes it, and as that of the other
 //! implementation does.
 
 use boundary::Batch;

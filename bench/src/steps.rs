@@ -23,29 +23,32 @@ enum Meets {
     ReplacedAnywhere,
 }
 
-/// One site with all its counters in use: the items 0 to capacity - 1, with equal counts.
+/// Sites with all their counters in use: the items 0 to capacity - 1, with equal counts.
 fn high_threshold(settings: [u32; 6]) -> Reference {
-    let mut network = Reference::start(settings, 100);
-    let capacity = settings[4] as usize;
-    let threshold = threshold_of(&network.settings, BASE);
-    network.coordinator.total = BASE;
-    network.coordinator.base = BASE;
+    let mut network = Reference::start(settings, 1000);
+    let [sites, _, _, _, capacity, _] = settings.map(|number| number as usize);
+    let base = BASE * sites as u64;
+    let threshold = threshold_of(&network.settings, base);
+    network.coordinator.total = base;
+    network.coordinator.base = base;
     network.coordinator.threshold = threshold;
-    let record = &mut network.sites.records[0];
-    record.arrivals = BASE;
-    record.threshold = threshold;
-    record.used = capacity as u64;
     let count = (BASE / capacity as u64) as u32;
-    for (item, counter) in network.site_memory[..4 * capacity].chunks_exact_mut(4).enumerate() {
-        counter.copy_from_slice(&[item as u32, count, 0, count]);
+    let parts = network.site_memory.chunks_exact_mut(4 * capacity + 1024);
+    for (record, memory) in network.sites.records.iter_mut().zip(parts) {
+        record.arrivals = BASE;
+        record.threshold = threshold;
+        record.used = capacity as u64;
+        for (item, counter) in memory[..4 * capacity].chunks_exact_mut(4).enumerate() {
+            counter.copy_from_slice(&[item as u32, count, 0, count]);
+        }
+        memory[4 * capacity] = BASE as u32;
     }
-    network.site_memory[4 * capacity] = BASE as u32;
     network
 }
 
-/// Batches of so many arrivals, each of which meets such a counter. They are taken in turns, and
-/// are so many that no replacing item is counted still when it comes again.
-fn batches(meets: Meets, capacity: u32, count: u32) -> Vec<Vec<Arrival>> {
+/// Batches of so many arrivals at each site, each of which meets such a counter. They are taken in
+/// turns, and are so many that no replacing item is counted still when it comes again.
+fn batches(meets: Meets, sites: u32, capacity: u32, count: u32) -> Vec<Vec<Arrival>> {
     let replacing = (4 * capacity).next_multiple_of(count);
     let items: Vec<u32> = match meets {
         // All counters, in no simple order.
@@ -54,12 +57,12 @@ fn batches(meets: Meets, capacity: u32, count: u32) -> Vec<Vec<Arrival>> {
         Meets::Replaced => (capacity..capacity + replacing).collect(),
         Meets::ReplacedAnywhere => shuffled((capacity..capacity + replacing).collect()),
     };
-    let arrival = |(number, &item): (usize, &u32)| {
+    let arrivals = |(number, &item): (usize, &u32)| {
         let value = (number as u32).wrapping_mul(389) % 1024;
-        Arrival { site: 0, item, value }
+        (0..sites).map(move |site| Arrival { site, item, value })
     };
-    let all: Vec<Arrival> = items.iter().enumerate().map(arrival).collect();
-    all.chunks(count as usize).map(<[Arrival]>::to_vec).collect()
+    let all: Vec<Arrival> = items.iter().enumerate().flat_map(arrivals).collect();
+    all.chunks((sites * count) as usize).map(<[Arrival]>::to_vec).collect()
 }
 
 fn shuffled(mut items: Vec<u32>) -> Vec<u32> {
@@ -95,7 +98,7 @@ impl<Network, Batch> Turns<Network, Batch> {
 impl Turns<Proved, Vec<boundary::Arrival>> {
     fn run(&mut self) {
         let place = self.turn();
-        self.network.sites[3] = self.used;
+        self.network.sites[..128].chunks_exact_mut(4).for_each(|record| record[3] = self.used);
         black_box(self.network.run(black_box(&self.batches[place])));
     }
 }
@@ -103,7 +106,7 @@ impl Turns<Proved, Vec<boundary::Arrival>> {
 impl Turns<Reference, Vec<Arrival>> {
     fn run(&mut self) {
         let place = self.turn();
-        self.network.sites.records[0].used = self.used;
+        self.network.sites.records.iter_mut().for_each(|record| record.used = self.used);
         black_box(self.network.run(black_box(&self.batches[place])));
     }
 }
@@ -130,10 +133,9 @@ fn measure_step(start: &Reference, used: u64, batches: Vec<Vec<Arrival>>) -> Tim
     }
 }
 
-/// The rows for a site with so many counters.
+/// The rows for sites with so many counters.
 pub fn measure(capacity: u32, table: &mut Table) {
     let epsilon = 6000_u32.div_ceil(capacity).max(2);
-    let start = high_threshold([1, epsilon, 1000, 500, capacity, 5 * capacity + 1000]);
     for (name, meets) in [
         ("counted", Meets::Counted),
         ("unused", Meets::Unused),
@@ -145,8 +147,11 @@ pub fn measure(capacity: u32, table: &mut Table) {
             _ if capacity > 1000 => 100,
             _ => 1000,
         };
+        // Few unused counters are lost in the noise, so there all sites have some.
+        let sites = if count < 100 { 32 } else { 1 };
+        let start = high_threshold([sites, epsilon, 1000, 500, capacity, 5 * capacity + 1000]);
         let used = u64::from(if meets == Meets::Unused { capacity - count } else { capacity });
-        let step = measure_step(&start, used, batches(meets, capacity, count));
-        table.add(format!("step, {name}, c {capacity}"), step);
+        let step = measure_step(&start, used, batches(meets, sites, capacity, count));
+        table.add(format!("step, {name}, k {sites}, c {capacity}"), step);
     }
 }

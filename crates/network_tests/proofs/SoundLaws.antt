@@ -1,17 +1,17 @@
--- A network that passes the batch call's tests is sound, its numbers are within the limits, and what
--- was given has room for it: what deliveries in it require.
+-- A network that passes the batch call's tests is sound, its numbers are within the limits, and
+-- what was given has room for it: what deliveries in it require.
 --
 --   sound-site                        a ready site is sound
 --   Passing, passing                  what an accepted start is worth
-use mathlib.Core.Path.{_≡_, refl, sym, ap, _∙_, subst⁻¹}
-use mathlib.Core.Bool.{Bool, true, false, _&&_, not, false≢true}
+use mathlib.Core.Path.{_≡_, refl, subst⁻¹}
+use mathlib.Core.Bool.{Bool, true, _&&_, not, false≢true}
 use mathlib.Core.List.{List, [], _∷_}
 use Prim.Native.Nat.{ℕ, zero, suc, _+_, _*_, _≤_, _<_}
 use native.Mathlib.Omega.{arith}
 use lib.Dec.{eqb, ltb, leb}
 use lib.ListN.{length, getD, drop}
 use borrow.Author.Tests.{leb-true, eqb-true, not-false}
-use Rattle.laws.proofs.Tests.{both-true}
+use Rattle.laws.proofs.Tests.{BothTrue, both-true}
 use Rattle.model.specs.declared.Settings.{Settings}
 use Rattle.model.specs.declared.Phase.{Phase}
 use Rattle.model.specs.declared.Phase.the-variants.{Idle, Collecting, Probing, Announcing}
@@ -113,20 +113,21 @@ module _ (settings : Settings) (sites : Sites) (coordinator : CoordinatorRecord)
   coordinator-test = coordinatorConsistent settings (network .coordinator)
 
   -- The four tests of `networkConsistent`, taken apart.
-  three-hold : (sites-test && coordinator-test && atRestTogether network) ≡ true
-  three-hold = both-true (sites-test && coordinator-test && atRestTogether network) (leb (sites .messages) messageLimit) holds .first-true
+  four : BothTrue (sites-test && coordinator-test && atRestTogether network)
+      (leb (sites .messages) messageLimit)
+  four = both-true _ _ holds
 
-  two-hold : (sites-test && coordinator-test) ≡ true
-  two-hold = both-true (sites-test && coordinator-test) (atRestTogether network) three-hold .first-true
+  three : BothTrue (sites-test && coordinator-test) (atRestTogether network)
+  three = both-true _ _ (four .first-true)
 
-  rest-holds : atRestTogether network ≡ true
-  rest-holds = both-true (sites-test && coordinator-test) (atRestTogether network) three-hold .second-true
+  two : BothTrue sites-test coordinator-test
+  two = both-true _ _ (three .first-true)
 
   sites-hold : sites-test ≡ true
-  sites-hold = both-true sites-test coordinator-test two-hold .first-true
+  sites-hold = two .first-true
 
   coordinator-holds : coordinator-test ≡ true
-  coordinator-holds = both-true sites-test coordinator-test two-hold .second-true
+  coordinator-holds = two .second-true
 
   -- The three tests of `atRestTogether`.
   abbrev same-test : Bool
@@ -136,8 +137,11 @@ module _ (settings : Settings) (sites : Sites) (coordinator : CoordinatorRecord)
   counted-test =
       eqb (network .coordinator .total + allPending (network .sites)) (allArrivals (network .sites))
 
-  idle-and-same : (isIdle (network .coordinator .phase) && same-test) ≡ true
-  idle-and-same = both-true (isIdle (network .coordinator .phase) && same-test) counted-test rest-holds .first-true
+  rest : BothTrue (isIdle (network .coordinator .phase) && same-test) counted-test
+  rest = both-true _ _ (three .second-true)
+
+  idle-and-same : BothTrue (isIdle (network .coordinator .phase)) same-test
+  idle-and-same = both-true _ _ (rest .first-true)
 
   records-enough : k ≤ length (sites .records)
   records-enough = enough-records settings k (sites .records) siteMemory sites-hold
@@ -147,7 +151,8 @@ module _ (settings : Settings) (sites : Sites) (coordinator : CoordinatorRecord)
 
   read-at : (j : ℕ) → j < k
       → siteAt network j
-      ≡ siteIn settings (getD (sites .records) j noRecord) (drop (j * siteWords settings) siteMemory)
+      ≡ siteIn settings (getD (sites .records) j noRecord)
+      (drop (j * siteWords settings) siteMemory)
   read-at j j< = getD-sitesIn noRecord k settings (sites .records) siteMemory j j< records-enough
 
   sound-at : (j : ℕ) → j < k → SoundSite settings (siteAt network j)
@@ -163,13 +168,11 @@ module _ (settings : Settings) (sites : Sites) (coordinator : CoordinatorRecord)
         (estimates-long settings coordinator coordinatorMemory (fits .coordinator-long))
         (histogram-long settings coordinator coordinatorMemory (fits .coordinator-long))
         coordinator-holds;
-    idle = idle-is (network .coordinator .phase)
-        (both-true (isIdle (network .coordinator .phase)) same-test idle-and-same .first-true);
+    idle = idle-is (network .coordinator .phase) (idle-and-same .first-true);
     same-threshold = λ j j<.
         same-at (network .coordinator .threshold) (network .sites)
-        (both-true (isIdle (network .coordinator .phase)) same-test idle-and-same .second-true)
-        j (omega (arith, all-sites));
-    all-counted = eqb-true _ _ (both-true (isIdle (network .coordinator .phase) && same-test) counted-test rest-holds .second-true);
+        (idle-and-same .second-true) j (omega (arith, all-sites));
+    all-counted = eqb-true _ _ (rest .second-true);
   }
 
   coordinator-within : CoordinatorWithin (network .coordinator)
@@ -187,7 +190,7 @@ module _ (settings : Settings) (sites : Sites) (coordinator : CoordinatorRecord)
     bounded = bounded-start settings network
         (settled settings (fits .sites-fit .settings-accepted)) network-sound
         (coordinator-within .estimates-within) (coordinator-within .values-within);
-    count-within = leb-true _ _ (both-true (sites-test && coordinator-test && atRestTogether network) (leb (sites .messages) messageLimit) holds .second-true);
+    count-within = leb-true _ _ (four .second-true);
   }
 
 pub passing : (settings : Settings) (sites : Sites) (coordinator : CoordinatorRecord)

@@ -1,5 +1,5 @@
--- An arrival at its site, as the code takes it: what the site's step requires, the site written to its
--- part of the memory, and its messages going out.
+-- An arrival at its site, as the code takes it: what the site's step requires, the site written
+-- to its part of the memory, and its messages going out.
 --
 --   site-few, start-small, starts-within    the arrival's site, and where its part starts
 --   observe-asks                            what the site's step requires
@@ -41,7 +41,7 @@ use Rattle.network_memory.proofs.SitesMemoryLaws.{sitesMemory-set}
 use Rattle.delivery.specs.declared.Underway.{Underway}
 use Rattle.delivery.specs.Log.{logRoom, putRecord}
 use Rattle.network_memory.specs.Records.{noRecord, withRecord}
-use Rattle.delivery.specs.Sending.{queueOf, sent, sentIf, sentTwo, loggedIf, loggedTwo, SendAsks, SendTwoAsks}
+use Rattle.delivery.specs.Sending.{queueOf, sent, sentIf, sentTwo, loggedIf, loggedTwo, SendAsks, SendTwoAsks, TwoSay}
 use Rattle.delivery.specs.Holding.{Given, State, state, Holds, Fits, Accepting, Going, Delivering, ArrivalAsks}
 use Rattle.delivery.proofs.StageNumbers.{site-ready}
 use Rattle.delivery.proofs.HoldingLaws.{Stored, part-long, part-starts, site-read, log-length, holds-sent, holds-site}
@@ -268,18 +268,15 @@ module _ {settings : Settings} {arrival : Arrival} {held : State}
         count-within = omega (arith, changed .counted, changed .written, fits .count-within);
       }
 
-      pub begun-holds : (result : Underway) (written : List ℕ)
-          → result ≡ sentTwo (answer .count) next (answer .first) (answer .second)
-          → written
-          ≡ loggedTwo (answer .count) (held .log) (held .underway .written) (answer .first)
-          (answer .second)
+      pub begun-holds : {result : Underway} {written : List ℕ}
+          → TwoSay (answer .count) next (answer .first) (answer .second) (held .log) result written
           → Holds settings (u .given) (u .earlier) (deliveryOf settings (u .network) arrival)
           (state result memory-after (held .coordinatorMemory) written)
-      begun-holds result written result-is written-is =
+      begun-holds said =
           subst₂ (λ (r : Underway) (l : List ℕ).
           Holds settings (u .given) (u .earlier) (deliveryOf settings (u .network) arrival)
           (state r memory-after (held .coordinatorMemory) l))
-          (sym result-is) (sym written-is)
+          (sym (said .go-out)) (sym (said .logged))
           (holds-two (after .messages) (answer .count) (answer .first) (answer .second) changed
           (messages-two settings site arrival) count-is
           (says .gathered .first

@@ -1,6 +1,7 @@
--- The bound on the coordinator's numbers is kept by every step of a delivery: a kind 1 that is handed
--- over moves its amount from what waits to an estimate, and nothing else touches them, but for a value
--- that is counted while the threshold is 1: then all value counts together are the total.
+-- The bound on the coordinator's numbers is kept by every step of a delivery: a kind 1 that is
+-- handed over moves its amount from what waits to an estimate, and nothing else touches them, but
+-- for a value that is counted while the threshold is 1: then all value counts together are the
+-- total.
 --
 --   quiet-receives, quiet-site, quiet-announced   what each step leaves as it was
 --   answers-one         a hand-over is answered by one message at most
@@ -47,7 +48,8 @@ use Rattle.delivery.proofs.StageNumbers.{at-stage, total-small}
 
 -- ---- At the coordinator
 
--- What a step of the coordinator does to estimates and value counts, and that its answer is no kind 1.
+-- What a step of the coordinator does to estimates and value counts, and that its answer is no
+-- kind 1.
 pub record Quiet (c : Coordinator) (m : Message) (after : CoordinatorStep) : Type 0 where
   pub estimate-rises : (item : ℕ)
       → getD (after .coordinator .estimates) item 0

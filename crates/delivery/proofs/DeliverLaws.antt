@@ -1,11 +1,12 @@
--- A delivery to its end: each step keeps a delivery that goes on from the same arrival, messages waiting
--- and free records of the log become fewer, and where nothing is left to do the state holds the
--- model's network and messages.
+-- A delivery to its end: each step keeps a delivery that goes on from the same arrival, messages
+-- waiting and free records of the log become fewer, and where nothing is left to do the state
+-- holds the model's network and messages.
 --
 --   After                     a state that was reached from another by steps of the same delivery
 --   after-start, after-step   kept from the first state on
 --   after-end                 where nothing is left to do
---   left-less                 two for each free number of the log and one for each message that waits
+--   left-less                 two for each free number of the log and one for each message that
+--                             waits
 use mathlib.Core.Path.{_≡_, refl, sym, ap, _∙_, subst, subst⁻¹}
 use mathlib.Core.Bool.{Bool, true, false, _||_, not, false≢true}
 use mathlib.Core.List.{List, [], _∷_, _++_}

@@ -1,5 +1,5 @@
--- A delivery that goes on: its stage, its bounds, the sizes of its network and the room that the log has
--- for its messages; and the deliveries that its two steps come to.
+-- A delivery that goes on: its stage, its bounds, the sizes of its network and the room that the
+-- log has for its messages; and the deliveries that its two steps come to.
 --
 --   going-stage, going-bounded, going-stored    what holds of it
 --   going-room                                  all messages so far fit the log

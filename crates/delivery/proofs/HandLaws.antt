@@ -1,5 +1,5 @@
--- The head of the messages that wait, about to be handed over: it is accepted, and the log has room for
--- the answer.
+-- The head of the messages that wait, about to be handed over: it is accepted, and the log has
+-- room for the answer.
 --
 --   head-accepted       by whom it is for
 --   rest-waits          the messages that wait when the head was taken

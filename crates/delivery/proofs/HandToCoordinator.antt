@@ -21,7 +21,7 @@ use Rattle.coordinator_steps.specs.Steps.{Does}
 use Rattle.coordinator_steps.specs.Ready.{CoordinatorReady, StepAsks}
 use Rattle.delivery.specs.declared.Queue.{Queue}
 use Rattle.delivery.specs.declared.Underway.{Underway}
-use Rattle.delivery.specs.Sending.{withoutHead, sentIf, loggedIf, SendAsks}
+use Rattle.delivery.specs.Sending.{withoutHead, SendAsks, AnswerSays}
 use Rattle.delivery.specs.Holding.{State, state, Holds, Fits, Delivering}
 use Rattle.delivery.proofs.StageNumbers.{coordinator-ready}
 use Rattle.delivery.proofs.BoundedSteps.{quiet-receives}
@@ -109,14 +109,13 @@ module _ {settings : Settings} {held : State} (u : Delivering settings held)
       coordinator-sends =
           answer-sends changed (after .messages) (answer .count) (answer .out) count-is room-then fits
 
-      pub coordinator-holds : (result : Underway) (written : List ℕ)
-          → result ≡ sentIf (answer .count) next (answer .out)
-          → written ≡ loggedIf (answer .count) (held .log) (held .underway .written) (answer .out)
+      pub coordinator-holds : {result : Underway} {written : List ℕ}
+          → AnswerSays (answer .count) next (answer .out) (held .log) result written
           → Holds settings (u .given) (u .earlier) (deliveryStep settings (u .now))
           (state result (held .siteMemory) memory written)
-      coordinator-holds result written result-is written-is =
+      coordinator-holds said =
           rw (hand .step-is, way)
           (answer-holds changed (after .messages) (answer .count) (answer .out) count-is room-then
           (quiet-receives settings c m .one-answer)
           (ap (λ (a : CoordinatorAnswer.Answered). a .out) (did .answer))
-          (few-rest u hand) result written result-is written-is)
+          (few-rest u hand) said)

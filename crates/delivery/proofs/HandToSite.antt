@@ -1,6 +1,7 @@
 -- A message for a site, handed over as the code does it. The site's memory is only read.
 --
---   site-known, site-few, starts-within, start-small   the site that the message names, and where its part starts
+--   site-known, site-few, starts-within, start-small   the site that the message names, and where
+--                                                      its part starts
 --   site-asks     what the site's step requires
 --   site-sends    what sending its answer requires
 --   site-holds    what the state holds when the answer went out
@@ -30,7 +31,7 @@ use Rattle.network_memory.proofs.SitesMemoryLaws.{sitesMemory-kept}
 use Rattle.delivery.specs.declared.Queue.{Queue}
 use Rattle.delivery.specs.declared.Underway.{Underway}
 use Rattle.network_memory.specs.Records.{noRecord, withRecord}
-use Rattle.delivery.specs.Sending.{withoutHead, sentIf, loggedIf, SendAsks}
+use Rattle.delivery.specs.Sending.{withoutHead, SendAsks, AnswerSays}
 use Rattle.delivery.specs.Holding.{State, state, Holds, Fits, Delivering}
 use Rattle.delivery.proofs.StageNumbers.{at-stage, site-ready}
 use Rattle.delivery.proofs.BoundedSteps.{quiet-site}
@@ -149,14 +150,13 @@ module _ {settings : Settings} {held : State} (u : Delivering settings held)
             answer-sends changed (after .messages) (answer .count) (answer .reply) count-is room-then
             fits
 
-        pub site-holds : (result : Underway) (written : List ℕ)
-            → result ≡ sentIf (answer .count) next (answer .reply)
-            → written ≡ loggedIf (answer .count) (held .log) (held .underway .written) (answer .reply)
+        pub site-holds : {result : Underway} {written : List ℕ}
+            → AnswerSays (answer .count) next (answer .reply) (held .log) result written
             → Holds settings (u .given) (u .earlier) (deliveryStep settings (u .now))
             (state result (held .siteMemory) (held .coordinatorMemory) written)
-        site-holds result written result-is written-is =
+        site-holds said =
             rw (hand .step-is, way)
             (answer-holds changed (after .messages) (answer .count) (answer .reply) count-is room-then
             (quiet-site (siteAt now j) m .one-answer)
             (says .reply ∙ ap (λ (x : Site). getD (siteReceives x m .messages) 0 noMessage) read)
-            (few-rest u hand) result written result-is written-is)
+            (few-rest u hand) said)

@@ -1,5 +1,5 @@
--- A state that holds a delivery: what is read from it, and what it holds when a message went out, the
--- coordinator was changed or a site was changed.
+-- A state that holds a delivery: what is read from it, and what it holds when a message went out,
+-- the coordinator was changed or a site was changed.
 --
 --   Stored                     sites and coordinator have the sizes that the settings say
 --   site-read                  a site, read from its record and its part of the memory

@@ -1,5 +1,5 @@
--- A delivery that came to rest: the network then is sound and bounded, has one arrival more, and its
--- messages join those of earlier arrivals.
+-- A delivery that came to rest: the network then is sound and bounded, has one arrival more, and
+-- its messages join those of earlier arrivals.
 --
 --   rests                    the model's end of a delivery is one that was reached
 --   sound-then, bounded-then, arrivals-then   what holds of the network

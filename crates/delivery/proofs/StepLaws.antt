@@ -1,10 +1,8 @@
--- One step of a delivery, as the code takes it: what the steps of the coordinator and of a site require
--- there, and what the state holds when the answer went out.
+-- One step of a delivery, as the code takes it: what the steps of the coordinator and of a site
+-- require there, and what the state holds when the answer went out.
 --
 --   none-waits, handing        the messages that wait, from their number and head
 --   Asking, ask-asks, asked-sends, asked-holds       the next kind 7 is asked for
---   coordinator-asks, coordinator-sends, coordinator-holds   a message for the coordinator
---   site-asks, site-sends, site-holds                a message for a site
 use mathlib.Core.Path.{_≡_, refl, sym, ap, _∙_, subst, subst⁻¹, subst₂}
 use mathlib.Core.Bool.{Bool, true, false, _||_, not}
 use mathlib.Core.List.{List, [], _∷_, _++_}
@@ -40,7 +38,7 @@ use Rattle.network_memory.proofs.SitesMemoryLaws.{sitesMemory-kept}
 use Rattle.delivery.specs.declared.Queue.{Queue}
 use Rattle.delivery.specs.declared.Underway.{Underway}
 use Rattle.network_memory.specs.Records.{noRecord, withRecord}
-use Rattle.delivery.specs.Sending.{queueOf, withoutHead, sentIf, loggedIf, SendAsks}
+use Rattle.delivery.specs.Sending.{queueOf, withoutHead, sentIf, loggedIf, SendAsks, AnswerSays}
 use Rattle.delivery.specs.Holding.{Given, State, state, Holds, Fits, Going, Delivering, goesOn}
 use Rattle.delivery.proofs.StageNumbers.{at-stage, site-ready, coordinator-shape, coordinator-ready}
 use Rattle.delivery.proofs.BoundedSteps.{answers-one, quiet-site, quiet-announced}
@@ -159,16 +157,15 @@ module _ {settings : Settings} {given : Given} {earlier : List Message}
   pub answer-holds : length out ≤ 1
       → m ≡ getD out 0 noMessage
       → length waiting ≤ 1
-      → (result : Underway) (written : List ℕ)
-      → result ≡ sentIf count (held .underway) m
-      → written ≡ loggedIf count (held .log) (held .underway .written) m
+      → {result : Underway} {written : List ℕ}
+      → AnswerSays count (held .underway) m (held .log) result written
       → Holds settings given earlier (delivery network (waiting ++ out) (log ++ out))
       (state result (held .siteMemory) (held .coordinatorMemory) written)
-  answer-holds one m-is few result written result-is written-is =
+  answer-holds one m-is few said =
       subst₂ (λ (r : Underway) (l : List ℕ).
       Holds settings given earlier (delivery network (waiting ++ out) (log ++ out))
       (state r (held .siteMemory) (held .coordinatorMemory) l))
-      (sym result-is) (sym written-is)
+      (sym (said .goes-out)) (sym (said .logged))
       (holds-answer out count m holds one count-is m-is few room)
 
 -- ---- The next kind 7
@@ -231,15 +228,14 @@ module _ {settings : Settings} {held : State} (u : Delivering settings held)
         answer-sends changed (after .messages) (answer .count) (answer .out) count-is room
         (ask .going .accepting .fits)
 
-    pub asked-holds : (result : Underway) (written : List ℕ)
-        → result ≡ sentIf (answer .count) next (answer .out)
-        → written ≡ loggedIf (answer .count) (held .log) (held .underway .written) (answer .out)
+    pub asked-holds : {result : Underway} {written : List ℕ}
+        → AnswerSays (answer .count) next (answer .out) (held .log) result written
         → Holds settings (u .given) (u .earlier) (deliveryStep settings (u .now))
         (state result (held .siteMemory) (held .coordinatorMemory) written)
-    asked-holds result written result-is written-is =
+    asked-holds {result} {written} said =
         subst⁻¹ (λ (d : Delivery). Holds settings (u .given) (u .earlier) d
         (state result (held .siteMemory) (held .coordinatorMemory) written)) (ask .step-is)
         (answer-holds changed (after .messages) (answer .count) (answer .out) count-is room
         (quiet-announced settings c (c .phase) .one-answer)
         (ap (λ (a : CoordinatorAnswer.Answered). a .out) answer-is)
-        (omega arith) result written result-is written-is)
+        (omega arith) said)

@@ -181,7 +181,8 @@ pub record BeginSays
       (state after siteAfter coordinatorMemory logAfter)
 
 -- An accepted arrival with full delivery, whatever network the state holds.
-pub record ArrivalSays (settings : Settings) (arrival : Arrival) (before after : State) : Type 0 where
+pub record ArrivalSays (settings : Settings) (arrival : Arrival) (before after : State)
+    : Type 0 where
   pub delivers : (u : ArrivalAsks settings arrival before)
       → Holds settings (u .given) (u .earlier)
       (rested (afterArrival settings (u .network) arrival)) after

@@ -1,8 +1,8 @@
 // The delivery that an arrival sets off in a network: each message that goes out is written to the
-// log, counted and handed over, in the order of going out, to the site or the coordinator it is for,
-// until nothing waits and the coordinator is idle. These functions are internal: they test nothing,
-// and require what the batch call has tested. Every rule stands in the steps of the site and of the
-// coordinator; the delivery only carries messages.
+// log, counted and handed over, in the order of going out, to the site or the coordinator it is
+// for, until nothing waits and the coordinator is idle. These functions are internal: they test
+// nothing, and require what the batch call has tested. Every rule stands in the steps of the site
+// and of the coordinator; the delivery only carries messages.
 
 ghost use mathlib.Core.Path.{_≡_};
 ghost use Prim.Native.Nat.{_+_, _*_, _<_, _≤_};
@@ -10,7 +10,7 @@ ghost use lib.ListN.{length, getD, set};
 ghost use Rattle.model.specs.Messages.{toCoordinator};
 ghost use Rattle.network_memory.specs.Records.{noRecord, withRecord};
 ghost use Rattle.delivery.specs.Log.{putRecord};
-ghost use Rattle.delivery.specs.Sending.{resting, joined, withoutHead, oneCounted, sent, sentIf, sentTwo, loggedIf, loggedTwo, SendAsks, SendTwoAsks};
+ghost use Rattle.delivery.specs.Sending.{resting, joined, withoutHead, SendAsks, SendSays, AnswerSays, SendTwoAsks, TwoSay};
 ghost use Rattle.delivery.specs.Holding.{state, goesOn, Delivering, StepAsks, StepSays, EndSays, ArrivalAsks, BeginAsks, BeginSays, ArrivalSays};
 use counters::Word;
 use model::Arrival;
@@ -21,16 +21,16 @@ use model::Settings;
 use model::SiteRecord;
 use model::Sites;
 
-// The messages that wait to be handed over: two at most, since every hand-over is answered by one at
-// most. An absent one is all zeros.
+// The messages that wait to be handed over: two at most, since every hand-over is answered by one
+// at most. An absent one is all zeros.
 pub struct Queue {
     pub count: u32,
     pub first: Message,
     pub second: Message,
 }
 
-// A delivery under way: the records of the network, the messages written to the log so far, and those
-// that wait.
+// A delivery under way: the records of the network, the messages written to the log so far, and
+// those that wait.
 pub struct Underway {
     pub sites: Sites,
     pub coordinator: CoordinatorRecord,
@@ -89,7 +89,8 @@ fn write_record(log: &mut [u64], place: u64, message: Message)
     log[at + 3] = message.b;
 }
 
-// The record of one site.
+// The record of one site. Internal: the batch call looks at a site that `site::address_refusal`
+// (5, 6) has let pass, in a network whose settings passed 1 to 3, so that there are at most 32.
 pub fn record_of(sites: Sites, which: usize) -> SiteRecord
     requires { ⌜ which < 32 ⌝ }
     ensures { λ r. ⌜ r ≡ getD (sites .records) which noRecord ⌝ }
@@ -128,7 +129,7 @@ pub fn at_rest(sites: Sites, coordinator: CoordinatorRecord, written: u64) -> Un
 // A message goes out: it is written to the log, counted, and waits last.
 fn send(underway: Underway, message: Message, log: &mut [u64]) -> Underway
     requires { ⌜ SendAsks underway (now log) ⌝ }
-    ensures { λ r. ⌜ (r ≡ sent underway message) × (now (log .exit) ≡ putRecord (now (log .entry)) (underway .written) message) ⌝ }
+    ensures { λ r. ⌜ SendSays underway message (now (log .entry)) r (now (log .exit)) ⌝ }
 {
     write_record(log, underway.written, message);
     let mut sites = underway.sites;
@@ -144,7 +145,7 @@ fn send(underway: Underway, message: Message, log: &mut [u64]) -> Underway
 // The answer of a step goes out, if it has one.
 fn send_answer(underway: Underway, count: u32, message: Message, log: &mut [u64]) -> Underway
     requires { ⌜ ((count ≡ 0 → ⊥) → SendAsks underway (now log)) ⌝ }
-    ensures { λ r. ⌜ (r ≡ sentIf count underway message) × (now (log .exit) ≡ loggedIf count (now (log .entry)) (underway .written) message) ⌝ }
+    ensures { λ r. ⌜ AnswerSays count underway message (now (log .entry)) r (now (log .exit)) ⌝ }
 {
     if count == 0 {
         return underway;
@@ -161,7 +162,7 @@ fn send_two(
     log: &mut [u64],
 ) -> Underway
     requires { ⌜ SendTwoAsks count underway (now log) ⌝ }
-    ensures { λ r. ⌜ (r ≡ sentTwo count underway first second) × (now (log .exit) ≡ loggedTwo count (now (log .entry)) (underway .written) first second) ⌝ }
+    ensures { λ r. ⌜ TwoSay count underway first second (now (log .entry)) r (now (log .exit)) ⌝ }
 {
     let next = send_answer(underway, count, first, log);
     if count == 2 {
@@ -204,8 +205,8 @@ fn goes_on(underway: Underway) -> bool
     }
 }
 
-// One step of a delivery: the head of the messages that wait is handed over, or, where none waits, the
-// next announcement is asked for; the answer goes out.
+// One step of a delivery: the head of the messages that wait is handed over, or, where none
+// waits, the next announcement is asked for; the answer goes out.
 fn take_step(
     settings: Settings,
     underway: Underway,
@@ -213,8 +214,13 @@ fn take_step(
     coordinator_memory: &mut [u64],
     log: &mut [u64],
 ) -> Underway
-    requires { ⌜ StepAsks settings (state underway (now «site_memory») (now «coordinator_memory») (now log)) ⌝ }
-    ensures { λ r. ⌜ StepSays settings (state underway (now («site_memory» .entry)) (now («coordinator_memory» .entry)) (now (log .entry))) (state r (now («site_memory» .entry)) (now («coordinator_memory» .exit)) (now (log .exit))) ⌝ }
+    requires { ⌜ StepAsks settings
+        (state underway (now «site_memory») (now «coordinator_memory») (now log)) ⌝ }
+    ensures { λ r. ⌜ StepSays settings
+        (state underway (now («site_memory» .entry))
+        (now («coordinator_memory» .entry)) (now (log .entry)))
+        (state r (now («site_memory» .entry))
+        (now («coordinator_memory» .exit)) (now (log .exit))) ⌝ }
 {
     let mut next = underway;
     let waiting = underway.waiting;
@@ -261,8 +267,13 @@ fn deliver(
     coordinator_memory: &mut [u64],
     log: &mut [u64],
 ) -> Underway
-    requires { ⌜ Delivering settings (state first (now «site_memory») (now «coordinator_memory») (now log)) ⌝ }
-    ensures { λ r. ⌜ EndSays settings (state first (now («site_memory» .entry)) (now («coordinator_memory» .entry)) (now (log .entry))) (state r (now («site_memory» .entry)) (now («coordinator_memory» .exit)) (now (log .exit))) ⌝ }
+    requires { ⌜ Delivering settings
+        (state first (now «site_memory») (now «coordinator_memory») (now log)) ⌝ }
+    ensures { λ r. ⌜ EndSays settings
+        (state first (now («site_memory» .entry))
+        (now («coordinator_memory» .entry)) (now (log .entry)))
+        (state r (now («site_memory» .entry))
+        (now («coordinator_memory» .exit)) (now (log .exit))) ⌝ }
 {
     let mut underway = first;
     while goes_on(underway) {
@@ -280,7 +291,9 @@ fn begin(
     log: &mut [u64],
 ) -> Underway
     requires { ⌜ BeginAsks settings arrival underway (now «site_memory») (now log) ⌝ }
-    ensures { λ r. ⌜ BeginSays settings arrival underway (now («site_memory» .entry)) (now (log .entry)) r (now («site_memory» .exit)) (now (log .exit)) ⌝ }
+    ensures { λ r. ⌜ BeginSays settings arrival
+        underway (now («site_memory» .entry)) (now (log .entry))
+        r (now («site_memory» .exit)) (now (log .exit)) ⌝ }
 {
     let sites = underway.sites;
     let which = arrival.site as usize;
@@ -295,7 +308,10 @@ fn begin(
     send_two(next, observed.count, first, second, log)
 }
 
-// An accepted arrival with full delivery. A record of the log is written and counted for each message.
+// An accepted arrival with full delivery. A record of the log is written and counted for each
+// message. Internal: what it requires is decided by the batch call's tests,
+// `network_tests::network_refusal` (1 to 4, 11) when it starts and the refusal of each arrival (5
+// to 8, 14) before it calls this.
 pub fn take_arrival(
     settings: Settings,
     underway: Underway,
@@ -304,8 +320,13 @@ pub fn take_arrival(
     coordinator_memory: &mut [u64],
     log: &mut [u64],
 ) -> Underway
-    requires { ⌜ ArrivalAsks settings arrival (state underway (now «site_memory») (now «coordinator_memory») (now log)) ⌝ }
-    ensures { λ r. ⌜ ArrivalSays settings arrival (state underway (now («site_memory» .entry)) (now («coordinator_memory» .entry)) (now (log .entry))) (state r (now («site_memory» .exit)) (now («coordinator_memory» .exit)) (now (log .exit))) ⌝ }
+    requires { ⌜ ArrivalAsks settings arrival
+        (state underway (now «site_memory») (now «coordinator_memory») (now log)) ⌝ }
+    ensures { λ r. ⌜ ArrivalSays settings arrival
+        (state underway (now («site_memory» .entry))
+        (now («coordinator_memory» .entry)) (now (log .entry)))
+        (state r (now («site_memory» .exit))
+        (now («coordinator_memory» .exit)) (now (log .exit))) ⌝ }
 {
     let begun = begin(settings, underway, arrival, site_memory, log);
     deliver(settings, begun, site_memory, coordinator_memory, log)

@@ -1,5 +1,5 @@
--- One site's part of a longer memory: reading looks at the part alone, writing changes the part alone,
--- and a site written twice is as if written the second time alone. Document 01, "Deck".
+-- One site's part of a longer memory: reading looks at the part alone, writing changes the part
+-- alone, and a site written twice is as if written the second time alone. Document 01, "Deck".
 --
 --   Storable                 a site that its part has room for
 --   overwritten-again        the front of a list overwritten twice

@@ -1,5 +1,5 @@
--- The sites read from their records and memory: one of them, all of them back from what was written,
--- and written again what was read.
+-- The sites read from their records and memory: one of them, all of them back from what was
+-- written, and written again what was read.
 --
 --   siteIn-sitesMemory             site j read from a memory that holds all sites
 --   getD-sitesIn, length-sitesIn   one of the sites that were read, and how many they are

@@ -1,5 +1,5 @@
--- A network that passes the batch call's tests is sound, its numbers are within the limits, and what
--- was given has room for it: what deliveries in it require.
+-- A network that passes the batch call's tests is sound, its numbers are within the limits, and
+-- what was given has room for it: what deliveries in it require.
 --
 --   sound-site, sound-coordinator     a ready site and a coordinator's shape, as soundness
 --   Passing, passing                  what an accepted start is worth

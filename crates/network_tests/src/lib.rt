@@ -1,5 +1,5 @@
-// Whether the records and the lent memory of a whole network are consistent: what the batch call tests
-// once, when it starts (refusals 1 to 4 and 11). Functions with a `requires` are internal.
+// Whether the records and the lent memory of a whole network are consistent: what the batch call
+// tests once, when it starts (refusals 1 to 4 and 11). Functions with a `requires` are internal.
 
 ghost use mathlib.Core.Path.{_≡_};
 ghost use mathlib.Core.List.{List};

@@ -27,21 +27,24 @@ mul-observe-step : tie.Need-mul-observe-step
 mul-observe-step c =
     let start = c .before .before .before .before .before .before in
     let u = start .pre .asks in
-    let at-start = ap (λ (z : ℕ). start .args .arrival .site * z) (c .before .site-words .ensures) in
+    let words = c .before .site-words in
+    let at-start = ap (λ (z : ℕ). start .args .arrival .site * z) (words .ensures) in
     omega (arith, start-small u, at-start)
 
 sub-observe-step : tie.Need-sub-observe-step
 sub-observe-step c =
     let start = c .before .before .before .before .before .before in
     let u = start .pre .asks in
-    let at-start = ap (λ (z : ℕ). start .args .arrival .site * z) (c .before .site-words .ensures) in
+    let words = c .before .site-words in
+    let at-start = ap (λ (z : ℕ). start .args .arrival .site * z) (words .ensures) in
     omega (arith, starts-within u, at-start)
 
 part-observe-step-start : tie.Need-part-observe-step-start
 part-observe-step-start c =
     let start = c .before .before .before .before .before .before in
     let u = start .pre .asks in
-    let at-start = ap (λ (z : ℕ). start .args .arrival .site * z) (c .before .site-words .ensures) in
+    let words = c .before .site-words in
+    let at-start = ap (λ (z : ℕ). start .args .arrival .site * z) (words .ensures) in
     omega (arith, starts-within u, at-start)
 
 part-observe-step-end : tie.Need-part-observe-step-end
@@ -49,20 +52,29 @@ part-observe-step-end c = search needs
 
 observe-step-requires : tie.Need-observe-step-requires
 observe-step-requires c κs =
-    observe-asks (c .before .before .before .before .before .before .before .pre .asks) (c .before .record-of .result) (c .before .before .site-words .result)
-    (c .before .record-of .ensures) (c .before .before .site-words .ensures)
+    let own = c .before in
+    let words = own .before in
+    let start = words .before .before .before .before .before in
+    observe-asks (start .pre .asks) (own .record-of .result) (words .site-words .result)
+    (own .record-of .ensures) (words .site-words .ensures)
 
 with-record-requires : tie.Need-with-record-requires
 with-record-requires c κs =
-    site-few (c .before .before .before .before .before .before .before .before .before .before .before .before .before .pre .asks)
+    let observed = c .before .before .before .before .before in
+    let start = observed .before .before .before .before .before .before .before .before in
+    site-few (start .pre .asks)
 
 send-two-requires : tie.Need-send-two-requires
 send-two-requires c κs =
-    let observed = c .before .before .before .before .before .before .before .observe-step in
-    let changed = c .before .with-record in
-    two-ask (c .before .before .before .before .before .before .before .before .before .before .before .before .before .before .before .pre .asks) (c .before .before .before .before .before .before .before .before .before .record-of .result) (c .before .before .before .before .before .before .before .before .before .before .site-words .result)
-    (c .before .before .before .before .before .before .before .before .before .record-of .ensures) (c .before .before .before .before .before .before .before .before .before .before .site-words .ensures)
-    (observed .result) (observed .last .1 .1 .1 .0) (changed .result) (observed .ensures) (changed .ensures)
+    let changed = c .before in
+    let observed = changed .before .before .before .before .before .before in
+    let own = observed .before .before in
+    let words = own .before in
+    let start = words .before .before .before .before .before in
+    two-ask (start .pre .asks) (own .record-of .result) (words .site-words .result)
+    (own .record-of .ensures) (words .site-words .ensures)
+    (observed .observe-step .result) _ (changed .with-record .result)
+    (observed .observe-step .ensures) (changed .with-record .ensures)
 
 same-length : tie.Need-same-length
 same-length c = search needs
@@ -72,15 +84,17 @@ same-length-2 c = search needs
 
 returns : tie.Need-returns
 returns c =
-    let observed = c .before .before .before .before .before .before .before .before .before .before .observe-step in
-    let changed = c .before .before .before .before .with-record in
-    let out = c .before .before .send-two in
+    let changed = c .before .before .before .before in
+    let observed = changed .before .before .before .before .before .before in
+    let own = observed .before .before in
+    let words = own .before in
     record {
       begins = λ memory u.
-          begun-holds u (c .before .before .before .before .before .before .before .before .before .before .before .before .record-of .result) (c .before .before .before .before .before .before .before .before .before .before .before .before .before .site-words .result)
-          (c .before .before .before .before .before .before .before .before .before .before .before .before .record-of .ensures) (c .before .before .before .before .before .before .before .before .before .before .before .before .before .site-words .ensures)
-          (observed .result) (observed .last .1 .1 .1 .0) (changed .result) (observed .ensures)
-          (changed .ensures) (out .result) (out .last .1 .1 .1 .1 .0) (out .ensures .0) (out .ensures .1);
+          begun-holds u (own .record-of .result) (words .site-words .result)
+          (own .record-of .ensures) (words .site-words .ensures)
+          (observed .observe-step .result) _ (changed .with-record .result)
+          (observed .observe-step .ensures) (changed .with-record .ensures)
+          (c .before .before .send-two .ensures);
     }
 
 pub begin-spec : {M : Type 1} → statement M

@@ -1,5 +1,5 @@
--- `delivery::deliver` meets its contract. The invariant: the state was reached by steps of the delivery
--- that the first state holds, whichever that is.
+-- `delivery::deliver` meets its contract. The invariant: the state was reached by steps of the
+-- delivery that the first state holds, whichever that is.
 use mathlib.Core.Path.{sym, _∙_}
 use native.Mathlib.Omega.{arith}
 use lib.ListN.{length}
@@ -28,32 +28,41 @@ goes-on-requires c κs = search needs
 
 take-step-requires : tie.Need-take-step-requires Inv-loop μ-loop
 take-step-requires c κs =
-    let start = c .before .before .before .before .before .before .before .before in
-    let u = start .pre in
+    let tested = c .before .before in
+    let at-loop = tested .before .before in
+    let start = at-loop .before .before .before .before in
     record {
-      delivering = delivering-after u (c .before .before .before .before .loop .inv u);
-      goes-on = (sym (c .before .before .before .goes-on .ensures) ∙ c .before .before .if1 .taken);
+      delivering = delivering-after (start .pre) (at-loop .loop .inv (start .pre));
+      goes-on = sym (tested .before .goes-on .ensures) ∙ tested .if1 .taken;
     }
 
 loop-less : tie.Need-loop-less Inv-loop μ-loop
 loop-less c =
-    let start = c .before .before .before .before .before .before .before .before .before .before .before .before .before in
-    let u = start .pre in
-    let after = c .before .before .before .before .before .before .before .before .before .loop .inv u in
-    left-less (delivering-after u after) (sym (c .before .before .before .before .before .before .before .before .goes-on .ensures) ∙ c .before .before .before .before .before .before .before .if1 .taken)
-    (c .before .before .before .before .take-step .ensures .next (delivering-after u after))
+    let stepped = c .before .before .before .before in
+    let tested = stepped .before .before .before in
+    let at-loop = tested .before .before in
+    let start = at-loop .before .before .before .before in
+    let after = at-loop .loop .inv (start .pre) in
+    left-less (delivering-after (start .pre) after)
+    (sym (tested .before .goes-on .ensures) ∙ tested .if1 .taken)
+    (stepped .take-step .ensures .next (delivering-after (start .pre) after))
 
 loop-again : tie.Need-loop-again Inv-loop μ-loop
 loop-again c =
-    λ u. after-step u (c .before .before .before .before .before .before .before .before .before .loop .inv u) (sym (c .before .before .before .before .before .before .before .before .goes-on .ensures) ∙ c .before .before .before .before .before .before .before .if1 .taken) (c .before .before .before .before .take-step .ensures)
+    let stepped = c .before .before .before .before in
+    let tested = stepped .before .before .before in
+    let at-loop = tested .before .before in
+    λ u. after-step u (at-loop .loop .inv u)
+    (sym (tested .before .goes-on .ensures) ∙ tested .if1 .taken) (stepped .take-step .ensures)
 
 same-length : tie.Need-same-length Inv-loop μ-loop
 same-length c =
     let start = c .before .before .before .before .before .before in
     let u = start .pre in
     let after = c .before .before .loop .inv u in
-    coordinator-memory-length (u .going .accepting .fits) (going-stored (after .going)) (after .holds)
-    ∙ sym (coordinator-memory-length (u .going .accepting .fits) (going-stored (u .going)) (u .holds))
+    let fits = u .going .accepting .fits in
+    coordinator-memory-length fits (going-stored (after .going)) (after .holds)
+    ∙ sym (coordinator-memory-length fits (going-stored (u .going)) (u .holds))
 
 same-length-2 : tie.Need-same-length-2 Inv-loop μ-loop
 same-length-2 c =
@@ -65,7 +74,11 @@ same-length-2 c =
 
 returns : tie.Need-returns Inv-loop μ-loop
 returns c =
-    record { ends = λ u. after-end u (c .before .before .loop .inv u) (sym (c .before .goes-on .ensures) ∙ c .if1 .left) }
+    record {
+      ends = λ u.
+          after-end u (c .before .before .loop .inv u)
+          (sym (c .before .goes-on .ensures) ∙ c .if1 .left);
+    }
 
 pub deliver-spec : {M : Type 1} → statement M
 deliver-spec =

@@ -1,4 +1,5 @@
--- `delivery::take_arrival` meets its contract: the arrival at its site, then its delivery to the end.
+-- `delivery::take_arrival` meets its contract: the arrival at its site, then its delivery to the
+-- end.
 use Rattle.delivery.proofs.BeginLaws.{delivering-begun}
 use borrow.Author.Needs.{needs}
 use Rattle.delivery.proofs.take_arrival.Statement.{statement}
@@ -9,9 +10,10 @@ begin-requires c κs = search needs
 
 deliver-requires : tie.Need-deliver-requires
 deliver-requires c κs =
-    let start = c .before .before .before .before .before .before .before .before .before .before .before .before .before in
-    let begun = c .before .before .before .before .before .before .before .begin in
-    delivering-begun (start .pre) (begun .ensures .begins (start .args .coordinator-memory .now) (start .pre))
+    let begun = c .before .before .before .before .before .before .before in
+    let start = begun .before .before .before .before .before .before in
+    delivering-begun (start .pre)
+    (begun .begin .ensures .begins (start .args .coordinator-memory .now) (start .pre))
 
 same-length : tie.Need-same-length
 same-length c = search needs
@@ -24,12 +26,14 @@ same-length-3 c = search needs
 
 returns : tie.Need-returns
 returns c =
-    let start = c .before .before .before .before .before .before .before .before .before .before .before .before .before .before .before .before .before .before in
-    let begun = c .before .before .before .before .before .before .before .before .before .before .before .before .begin in
+    let ended = c .before .before .before .before in
+    let begun = ended .before .before .before .before .before .before .before .before in
+    let start = begun .before .before .before .before .before .before in
     record {
       delivers = λ u.
-          c .before .before .before .before .deliver .ensures .ends
-          (delivering-begun u (begun .ensures .begins (start .args .coordinator-memory .now) u));
+          ended .deliver .ensures .ends
+          (delivering-begun u
+          (begun .begin .ensures .begins (start .args .coordinator-memory .now) u));
     }
 
 pub take-arrival-spec : {M : Type 1} → statement M

@@ -9,8 +9,9 @@ no-message-requires c κs = search needs
 
 returns : tie.Need-returns
 returns c =
-    let queue = c .before .before .before .before .args .queue in
-    rw (c .before .before .before .no-message .ensures, eq-eqb (queue .count) 2 (c .before .if1 .taken))
+    let made = c .before .before .before in
+    let queue = made .before .args .queue in
+    rw (made .no-message .ensures, eq-eqb (queue .count) 2 (c .before .if1 .taken))
 
 returns-2 : tie.Need-returns-2
 returns-2 c =

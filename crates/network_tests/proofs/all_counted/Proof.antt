@@ -1,7 +1,7 @@
 use Rattle.model.proofs.SettingsLaws.{settled}
 use native.Mathlib.Nat.{mul-le-mul-right}
--- `network_tests::all_counted` meets its contract. The invariant: pendings and arrivals of the sites before j
--- are added.
+-- `network_tests::all_counted` meets its contract. The invariant: pendings and arrivals of the
+-- sites before j are added.
 use Prim.Native.Nat.{ℕ, _+_, _-_, _*_, _≤_}
 use mathlib.Core.Path.{_≡_, refl, sym, ap, _∙_}
 use mathlib.Core.List.{List}

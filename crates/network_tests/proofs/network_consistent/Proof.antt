@@ -1,5 +1,5 @@
--- `network_tests::network_consistent` meets its contract: the count of messages, the sites, the coordinator,
--- and that the network is at rest.
+-- `network_tests::network_consistent` meets its contract: the count of messages, the sites, the
+-- coordinator, and that the network is at rest.
 use mathlib.Core.Path.{sym, _∙_}
 use Rattle.network_tests.proofs.NetworkLaws.{counts-fit, count-refused, rest-decides, coordinator-refused, sites-refused}
 use borrow.Author.Needs.{needs}

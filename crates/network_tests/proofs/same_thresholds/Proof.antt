@@ -1,5 +1,6 @@
 use Rattle.model.proofs.SettingsLaws.{settled}
--- `network_tests::same_thresholds` meets its contract. The invariant: the sites before j have the threshold.
+-- `network_tests::same_thresholds` meets its contract. The invariant: the sites before j have the
+-- threshold.
 use Prim.Native.Nat.{ℕ, _-_}
 use mathlib.Core.List.{List}
 use native.Mathlib.Omega.{arith}

@@ -1,6 +1,7 @@
 use Rattle.model.specs.SiteMemory.{siteConsistent}
 use Rattle.network_tests.proofs.PartLaws.{few-sites, starts-within, start-small, part-is, part-fits}
--- `network_tests::sites_consistent` meets its contract. The invariant: the sites before j are consistent.
+-- `network_tests::sites_consistent` meets its contract. The invariant: the sites before j are
+-- consistent.
 use Prim.Native.Nat.{ℕ, _-_, _*_, _≤_}
 use mathlib.Core.Path.{_≡_, refl, sym, ap, _∙_}
 use native.Mathlib.Omega.{arith}

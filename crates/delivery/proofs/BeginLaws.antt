@@ -76,12 +76,13 @@ holds-two : {settings : Settings} {given : Given} {earlier : List Message} {netw
     (held .coordinatorMemory)
     (loggedTwo count (held .log) (held .underway .written) first second))
 holds-two [] count first second holds few count-is first-is second-is room = rw count-is holds
-holds-two {earlier = earlier} (x ∷ []) count first second holds few count-is first-is second-is room =
+holds-two {earlier = earlier} (x ∷ []) count first second holds few count-is first-is second-is
+    room =
     rw (count-is, first-is)
     (holds-sent x holds (omega arith)
     (omega (arith, length-append earlier (x ∷ []), length-append {A = Message} earlier [])))
-holds-two {earlier = earlier} (x ∷ (y ∷ [])) count first second holds few count-is first-is second-is
-    room =
+holds-two {earlier = earlier} (x ∷ (y ∷ [])) count first second holds few count-is first-is
+    second-is room =
     rw (count-is, first-is, second-is)
     (holds-sent y
     (holds-sent x holds (omega arith)

@@ -133,7 +133,11 @@ allUnreported-small settings (site ∷ sites) each =
     omega (
       arith,
       unreportedIn-small (site .counters) (λ place inside.
-          omega (arith, sound .counters-sound place inside .unreported-below, sound .threshold-within)),
+          omega (
+            arith,
+            sound .counters-sound place inside .unreported-below,
+            sound .threshold-within,
+          )),
       allUnreported-small settings sites (λ j j<. each (suc j) (omega arith)),
     )
 

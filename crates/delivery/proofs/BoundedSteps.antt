@@ -69,7 +69,8 @@ getD-added numbers place amount item = by-length (decLt place (length numbers))
         → getD (set numbers place (getD numbers place 0 + amount)) item 0
         ≤ getD numbers item 0 + amount
     by-place inside (yes here) =
-        rw (here, getD-set-same numbers place (getD numbers place 0 + amount) 0 inside) (omega arith)
+        rw (here, getD-set-same numbers place (getD numbers place 0 + amount) 0 inside)
+        (omega arith)
     by-place inside (no other) =
         rw (getD-set-other numbers place item (getD numbers place 0 + amount) 0 other) (omega arith)
 
@@ -260,7 +261,8 @@ module _ {settings : Settings} {network : Network} {m : Message} {waiting : List
               itemsWaiting-append waiting (after .messages),
               quiet .no-items,
             );
-        histogram-bounded = λ value. by-threshold quiet value (ℕ-discrete (after .coordinator .threshold) 1);
+        histogram-bounded = λ value.
+            by-threshold quiet value (ℕ-discrete (after .coordinator .threshold) 1);
       })
     where
       -- While the threshold is 1 the value counts sum to the total.

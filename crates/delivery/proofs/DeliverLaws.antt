@@ -110,7 +110,8 @@ less-step {settings} {held} u goes = by-count (ℕ-discrete (held .underway .wai
 pub left-less : {settings : Settings} {held next : State} (u : Delivering settings held)
     → goesOn (held .underway) ≡ true
     → Holds settings (u .given) (u .earlier) (deliveryStep settings (u .now)) next
-    → leftToDo (next .underway) (length (next .log)) < leftToDo (held .underway) (length (held .log))
+    → leftToDo (next .underway) (length (next .log))
+    < leftToDo (held .underway) (length (held .log))
 left-less {settings} {held} {next} u goes holds =
     let less = less-step u goes in
     let then = deliveryStep settings (u .now) in
@@ -134,7 +135,8 @@ left-less {settings} {held} {next} u goes holds =
 
 -- ---- From the first state on
 
-pub record After {settings : Settings} {first : State} (u : Delivering settings first) (held : State)
+pub record After {settings : Settings} {first : State} (u : Delivering settings first)
+    (held : State)
     : Type 0 where
   pub steps : ℕ
   pub now : Delivery

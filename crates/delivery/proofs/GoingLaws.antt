@@ -173,5 +173,8 @@ module _ {settings : Settings} {given : Given} {earlier : List Message} {network
     accepting = going .accepting;
     reached = asked steps now [] log (going .reached) announces;
     few-waiting =
-        omega (arith, quiet-announced settings (now .coordinator) (now .coordinator .phase) .one-answer);
+        omega (
+          arith,
+          quiet-announced settings (now .coordinator) (now .coordinator .phase) .one-answer,
+        );
   }

@@ -51,7 +51,8 @@ module _ {settings : Settings} {held : State} (u : Delivering settings held)
     c-read : coordinatorIn settings (held .underway .coordinator) (held .coordinatorMemory) ≡ c
     c-read = coordinator-read fits (going-stored (hand .going)) (hand .holds)
 
-    pub coordinator-asks : StepAsks settings (held .underway .coordinator) m (held .coordinatorMemory)
+    pub coordinator-asks : StepAsks settings (held .underway .coordinator) m
+        (held .coordinatorMemory)
     coordinator-asks = record {
       settings-accepted = fits .settings-accepted;
       memory-long = omega (
@@ -107,7 +108,8 @@ module _ {settings : Settings} {held : State} (u : Delivering settings held)
 
       pub coordinator-sends : (answer .count ≡ 0 → ⊥) → SendAsks next (held .log)
       coordinator-sends =
-          answer-sends changed (after .messages) (answer .count) (answer .out) count-is room-then fits
+          answer-sends changed (after .messages) (answer .count) (answer .out) count-is room-then
+          fits
 
       pub coordinator-holds : {result : Underway} {written : List ℕ}
           → AnswerSays (answer .count) next (answer .out) (held .log) result written

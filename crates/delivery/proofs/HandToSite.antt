@@ -73,7 +73,8 @@ module _ {settings : Settings} {held : State} (u : Delivering settings held)
     -- Where the part starts, in numbers and in bytes, is far from what a machine number holds.
     pub start-small : j * siteWords settings ≤ 32 * 13024
     start-small =
-        let few : settings .capacity ≤ 3000 = going-fit (hand .going .accepting) .capacity .at-most in
+        let few : settings .capacity ≤ 3000 =
+        going-fit (hand .going .accepting) .capacity .at-most in
         let words : siteWords settings ≤ 13024 = omega (arith, valueCount-is) in
         mul-le-mul (le-of-lt site-few) words
 
@@ -104,7 +105,8 @@ module _ {settings : Settings} {held : State} (u : Delivering settings held)
           long-enough = rw part-is
               (part-long fits (going-stored (hand .going)) (hand .holds) j site-known);
           site-ready = subst⁻¹ (SiteReady settings) read
-              (site-ready (at-stage (going-stage (hand .going)) .together .sites-sound j site-known));
+              (site-ready
+              (at-stage (going-stage (hand .going)) .together .sites-sound j site-known));
         };
         value-known = due .value-known;
       }
@@ -147,8 +149,8 @@ module _ {settings : Settings} {held : State} (u : Delivering settings held)
 
         pub site-sends : (answer .count ≡ 0 → ⊥) → SendAsks next (held .log)
         site-sends =
-            answer-sends changed (after .messages) (answer .count) (answer .reply) count-is room-then
-            fits
+            answer-sends changed (after .messages) (answer .count) (answer .reply) count-is
+            room-then fits
 
         pub site-holds : {result : Underway} {written : List ℕ}
             → AnswerSays (answer .count) next (answer .reply) (held .log) result written
@@ -156,7 +158,8 @@ module _ {settings : Settings} {held : State} (u : Delivering settings held)
             (state result (held .siteMemory) (held .coordinatorMemory) written)
         site-holds said =
             rw (hand .step-is, way)
-            (answer-holds changed (after .messages) (answer .count) (answer .reply) count-is room-then
+            (answer-holds changed (after .messages) (answer .count) (answer .reply) count-is
+            room-then
             (quiet-site (siteAt now j) m .one-answer)
             (says .reply ∙ ap (λ (x : Site). getD (siteReceives x m .messages) 0 noMessage) read)
             (few-rest u hand) said)

@@ -53,7 +53,8 @@ pub record Stored (settings : Settings) (network : Network) : Type 0 where
 
 -- ---- Read from a state
 
-module _ {settings : Settings} {given : Given} {earlier : List Message} {d : Delivery} {held : State}
+module _ {settings : Settings} {given : Given} {earlier : List Message} {d : Delivery}
+    {held : State}
     (fits : Fits settings given)
     (stored : Stored settings (d .network))
     (holds : Holds settings given earlier d held) where
@@ -113,7 +114,8 @@ module _ {settings : Settings} {given : Given} {earlier : List Message} {d : Del
       ∙ written-coordinator settings (d .network .coordinator) (given .coordinatorMemory)
       (stored .coordinator-stored .estimates-length) (stored .coordinator-stored .histogram-length)
 
-  pub coordinator-memory-length : length (held .coordinatorMemory) ≡ length (given .coordinatorMemory)
+  pub coordinator-memory-length :
+      length (held .coordinatorMemory) ≡ length (given .coordinatorMemory)
   coordinator-memory-length =
       let c = d .network .coordinator in
       ap length (holds .coordinator-memory)
@@ -234,7 +236,10 @@ module _ {settings : Settings} {given : Given} {earlier : List Message}
   coordinator-again c old new =
       let was = network .coordinator in
       let same : length (was .estimates ++ was .histogram) ≤ length (c .estimates ++ c .histogram) =
-      rw (length-append (was .estimates) (was .histogram), length-append (c .estimates) (c .histogram))
+      rw (
+        length-append (was .estimates) (was .histogram),
+        length-append (c .estimates) (c .histogram),
+      )
       (omega (
         arith,
         old .estimates-length,

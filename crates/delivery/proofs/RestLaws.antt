@@ -150,7 +150,8 @@ pub holds-rested : {settings : Settings} {given : Given} {earlier : List Message
     → Holds settings given earlier (delivery network [] messages) held
     → Holds settings given (earlier ++ messages) (delivery network [] []) held
 holds-rested {earlier = earlier} network messages holds =
-    let same : (earlier ++ messages) ++ [] ≡ earlier ++ messages = append-nil (earlier ++ messages) in
+    let same : (earlier ++ messages) ++ [] ≡ earlier ++ messages =
+    append-nil (earlier ++ messages) in
     record {
       records = holds .records;
       counted = rw same (holds .counted);

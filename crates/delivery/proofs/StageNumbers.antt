@@ -142,7 +142,8 @@ coordinator-shape {settings} {c} sound = record {
   counted = sound .numbers .histogram-sum;
 }
 
-pub coordinator-ready : {settings : Settings} {network : Network} {waiting : List Message} {left : ℕ}
+pub coordinator-ready : {settings : Settings} {network : Network} {waiting : List Message}
+    {left : ℕ}
     → Settled settings
     → Stage settings network waiting left
     → Bounded network waiting

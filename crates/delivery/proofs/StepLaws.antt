@@ -71,7 +71,8 @@ head-waits queue (m ∷ rest) is some = record {
 }
 
 -- A delivery whose head is the message that the code sees.
-pub record Handing (settings : Settings) (held : State) (u : Delivering settings held) : Type 0 where
+pub record Handing (settings : Settings) (held : State) (u : Delivering settings held)
+    : Type 0 where
   pub rest : List Message
   pub going : Going settings (u .given) (u .earlier) (u .network) (u .arrival) (u .steps)
       (delivery (u .now .network) (held .underway .waiting .first ∷ rest) (u .now .log))
@@ -187,7 +188,9 @@ module _ {settings : Settings} {held : State} (u : Delivering settings held)
 
   module _ (answer : CoordinatorAnswer.Answered)
       (is : (memory : List ℕ)
-      → answer ≡ answerOf (announced settings (coordinatorIn settings (held .underway .coordinator) memory))) where
+      → answer
+      ≡ answerOf
+      (announced settings (coordinatorIn settings (held .underway .coordinator) memory))) where
     abbrev after : CoordinatorStep
     after = announced settings c
 

@@ -72,7 +72,8 @@ siteIn-front settings numbers part rest few long =
     let words = counterWords settings in
     let counters = countersIn-front (numbers .used) part rest (omega arith) in
     let back : valueCount ≤ length (drop words part) = rw (length-drop words part) (omega arith) in
-    let histogram : take valueCount (drop words (part ++ rest)) ≡ take valueCount (drop words part) =
+    let histogram : take valueCount (drop words (part ++ rest))
+    ≡ take valueCount (drop words part) =
     ap (take valueCount) (drop-append-le words part rest (omega arith))
     ∙ take-append-le valueCount (drop words part) rest back in
     λ i. record {

@@ -30,7 +30,8 @@ part-read : (settings : Settings) (site : Site) (part rest : List ℕ)
     → siteWords settings ≤ length part
     → siteIn settings (siteRecord site) (siteMemory settings site part ++ rest) ≡ site
 part-read settings site part rest fits long =
-    siteIn-front settings (siteRecord site) (siteMemory settings site part) rest (fits .few-counters)
+    siteIn-front settings (siteRecord site) (siteMemory settings site part) rest
+    (fits .few-counters)
     (rw (length-written settings site part fits long) long)
     ∙ siteIn-siteMemory settings site part (fits .few-counters) (fits .all-values) long
 
@@ -59,7 +60,8 @@ pub sitesIn-sitesMemory : (settings : Settings) (sites : List Site) (numbers : L
     → AllStorable settings sites
     → length sites ≤ length numbers
     → length sites * siteWords settings ≤ length memory
-    → sitesIn (length sites) settings (siteRecords sites numbers) (sitesMemory settings sites memory)
+    → sitesIn (length sites) settings (siteRecords sites numbers)
+    (sitesMemory settings sites memory)
     ≡ sites
 sitesIn-sitesMemory settings [] numbers memory all enough long = refl
 sitesIn-sitesMemory settings (site ∷ sites) [] memory all enough long = absurd (omega arith)
@@ -110,7 +112,8 @@ getD-sitesIn default (suc k) settings (first ∷ others) memory (suc j) j< enoug
 
 -- ---- Written again
 
-pub siteRecords-sitesIn : (k : ℕ) (settings : Settings) (numbers : List SiteRecord) (memory : List ℕ)
+pub siteRecords-sitesIn : (k : ℕ) (settings : Settings) (numbers : List SiteRecord)
+    (memory : List ℕ)
     → siteRecords (sitesIn k settings numbers memory) numbers ≡ numbers
 siteRecords-sitesIn zero settings numbers memory = refl
 siteRecords-sitesIn (suc k) settings [] memory = refl

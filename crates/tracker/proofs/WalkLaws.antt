@@ -263,7 +263,7 @@ module _ {call : BatchCall} {answer : BatchAnswer} {lent : BatchLent} where
       let log = rw all at (holds .holds .log) in
       record {
         refusal = rw (test, ← is) (holds .refusal);
-        accepted = rw (test, ← is) (holds .accepted);
+        accepted = rw test (holds .accepted ∙ ap (λ (b : Batch). b .accepted) is);
         written = rw (test, ← is) written;
         sites = rw (test, ← is) (λ i. record { records = records i; messages = counted i });
         coordinator = rw (test, ← is) (holds .holds .coordinator);

@@ -71,9 +71,9 @@ fn one_refusal(
     }
     let which = arrival.site as usize;
     let own = delivery::record_of(sites, which);
-    let refusal = site::arrival_refusal(settings, own, arrival);
-    if refusal != ACCEPTED {
-        return refusal;
+    let of_site = site::arrival_refusal(settings, own, arrival);
+    if of_site != ACCEPTED {
+        return of_site;
     }
     let free = ((numbers / 4) as u64) - written;
     if free < 23 * (settings.sites as u64) + 2 {

@@ -16,7 +16,8 @@ send-requires c κs =
     let called = c .before .before .before .before in
     let start = called .before .before .before in
     let a = start .args in
-    second-asks (a .count) (a .underway) (a .first) (a .second) (a .log .now) (c .before .if1 .taken)
+    second-asks (a .count) (a .underway) (a .first) (a .second) (a .log .now)
+    (c .before .if1 .taken)
     _ _ (called .send-answer .ensures) (start .pre)
 
 same-length : tie.Need-same-length

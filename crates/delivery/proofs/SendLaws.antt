@@ -3,11 +3,11 @@
 --   some-asks       what sending the first asks, if there is one
 --   second-asks     what sending the second asks, if there are two
 --   two-said        what is promised when both went out
-use mathlib.Core.Path.{_≡_, refl, sym, ap, _∙_}
+use mathlib.Core.Path.{_≡_, refl, _∙_}
 use mathlib.Core.List.{List}
-use Prim.Native.Nat.{ℕ, zero, suc, _+_, _*_, _≤_}
+use Prim.Native.Nat.{ℕ, zero, suc}
 use native.Mathlib.Omega.{arith}
-use lib.ListN.{length, set, length-set}
+use lib.ListN.{length, length-set}
 use Rattle.model.specs.declared.Message.{Message}
 use Rattle.delivery.specs.declared.Underway.{Underway}
 use Rattle.delivery.specs.Log.{putRecord}

@@ -4,47 +4,30 @@
 --   none-waits, handing        the messages that wait, from their number and head
 --   Asking, ask-asks, asked-sends, asked-holds       the next kind 7 is asked for
 use mathlib.Core.Path.{_≡_, refl, sym, ap, _∙_, subst, subst⁻¹, subst₂}
-use mathlib.Core.Bool.{Bool, true, false, _||_, not}
+use mathlib.Core.Bool.{true}
 use mathlib.Core.List.{List, [], _∷_, _++_}
-use Prim.Native.Nat.{ℕ, zero, suc, _+_, _-_, _*_, _≤_, _<_}
+use Prim.Native.Nat.{ℕ, _*_, _≤_}
 use native.Mathlib.Omega.{arith}
-use lib.ListN.{length, getD, set, take, drop, length-append, length-drop}
-use lib.Seq.{take-all}
+use lib.ListN.{length, getD, length-append}
 use Rattle.model.specs.declared.Settings.{Settings}
-use Rattle.model.specs.declared.Arrival.{Arrival}
 use Rattle.model.specs.declared.Message.{Message}
-use Rattle.model.specs.declared.Sites.{Sites}
-use Rattle.model.specs.declared.SiteRecord.{SiteRecord}
-use Rattle.model.specs.Refusals.{accepted}
-use Rattle.model.specs.Choice.{isZero}
-use Rattle.model.specs.Messages.{noMessage, toCoordinator}
-use Rattle.model.specs.Site.{Site, SiteStep, siteReceives}
-use Rattle.model.specs.SiteMemory.{siteWords, siteIn, siteRecord}
-use Rattle.model.specs.Coordinator.{Coordinator, CoordinatorStep, coordinatorReceives, announced, isAnnouncing}
+use Rattle.model.specs.Messages.{noMessage}
+use Rattle.model.specs.Coordinator.{Coordinator, CoordinatorStep, announced, isAnnouncing}
 use Rattle.model.specs.CoordinatorMemory.{coordinatorIn, coordinatorMemory}
-use Rattle.model.specs.Network.{Network, siteAt, withSite, withCoordinator, handOver, askAnnouncement}
-use Rattle.model.specs.NetworkMemory.{sitesMemory}
-use Rattle.model.specs.DeliveryClaims.{Delivery, delivery, joining, deliveryStep, messageRefusal}
-use Rattle.model.proofs.MidDelivery.{hand-on}
+use Rattle.model.specs.Network.{Network, withCoordinator, handOver, askAnnouncement}
+use Rattle.model.specs.DeliveryClaims.{Delivery, delivery, joining, deliveryStep}
 use Rattle.model.proofs.StageFacts.{stage-coordinator}
-use Rattle.site_memory.specs.Ready.{SiteReady, StepReady}
-use Rattle.site_steps.specs.declared.Answered as SiteAnswer
-use Rattle.site_steps.specs.Steps.{ReceiveAsks, receivedIn, ReceiveStepSays}
-use Rattle.site_steps.proofs.ReceiveLaws.{Due, message-due}
 use Rattle.coordinator_steps.specs.declared.Answered as CoordinatorAnswer
-use Rattle.coordinator_steps.specs.Steps.{answerOf, Does}
-use Rattle.coordinator_steps.specs.Ready.{CoordinatorReady, StepAsks, AnnounceAsks, PhaseShape}
-use Rattle.network_memory.proofs.SitesMemoryLaws.{sitesMemory-kept}
+use Rattle.coordinator_steps.specs.Steps.{answerOf}
+use Rattle.coordinator_steps.specs.Ready.{AnnounceAsks}
 use Rattle.delivery.specs.declared.Queue.{Queue}
 use Rattle.delivery.specs.declared.Underway.{Underway}
-use Rattle.network_memory.specs.Records.{noRecord, withRecord}
-use Rattle.delivery.specs.Sending.{queueOf, withoutHead, sentIf, loggedIf, SendAsks, AnswerSays}
+use Rattle.delivery.specs.Sending.{queueOf, SendAsks, AnswerSays}
 use Rattle.delivery.specs.Holding.{Given, State, state, Holds, Fits, Going, Delivering, goesOn}
-use Rattle.delivery.proofs.StageNumbers.{at-stage, site-ready, coordinator-shape, coordinator-ready}
-use Rattle.delivery.proofs.BoundedSteps.{answers-one, quiet-site, quiet-announced}
-use Rattle.delivery.proofs.LogLaws.{withoutHead-queueOf}
-use Rattle.delivery.proofs.HoldingLaws.{Stored, StoredCoordinator, record-read, part-long, part-starts, site-read, coordinator-read, coordinator-memory-length, send-asks, holds-answer, holds-coordinator, coordinator-again, holds-site}
-use Rattle.delivery.proofs.GoingLaws.{going-fit, going-stage, going-bounded, going-stored, going-room, going-handed, going-asked, stored-coordinator}
+use Rattle.delivery.proofs.StageNumbers.{coordinator-shape}
+use Rattle.delivery.proofs.QuietSteps.{quiet-announced}
+use Rattle.delivery.proofs.HoldingLaws.{coordinator-read, send-asks, holds-answer, holds-coordinator}
+use Rattle.delivery.proofs.GoingLaws.{going-fit, going-stage, going-stored, going-room, going-asked}
 
 -- ---- The messages that wait
 

@@ -8,11 +8,11 @@
 --   siteMemory-again         written over another with no more counters
 use mathlib.Core.Path.{_≡_, refl, ap, sym, _∙_, subst⁻¹}
 use mathlib.Core.List.{List, [], _∷_, _++_, append-assoc}
-use Prim.Native.Nat.{ℕ, zero, suc, _+_, _-_, _*_, _<_, _≤_}
+use Prim.Native.Nat.{ℕ, zero, suc, _+_, _-_, _*_, _≤_}
 use native.Mathlib.Omega.{arith}
-use lib.ListN.{length, getD, take, drop, length-append, length-drop}
+use lib.ListN.{length, take, drop, length-drop}
 use lib.Seq.{length-take-le, take-append-le, drop-append-le, drop-append-add, take-take, drop-drop, take-add, take-at, drop-at}
-use Rattle.laws.proofs.FlatMemory.{Four, four, overwritten, length-overwritten, overwritten-front}
+use Rattle.laws.proofs.FlatMemory.{four, overwritten, length-overwritten, overwritten-front}
 use Rattle.model.specs.declared.Settings.{Settings}
 use Rattle.model.specs.declared.SiteRecord.{SiteRecord}
 use Rattle.model.specs.Limits.{valueCount}

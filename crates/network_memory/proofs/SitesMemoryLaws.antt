@@ -7,7 +7,7 @@
 --   sitesMemory-kept               a site set with the same counters and values: nothing is written
 --   siteRecords-set                the same of the records
 -- Letter: j a site.
-use mathlib.Core.Path.{_≡_, refl, ap, sym, _∙_}
+use mathlib.Core.Path.{_≡_, refl, ap, _∙_}
 use mathlib.Core.List.{List, [], _∷_, _++_, append-assoc}
 use Prim.Native.Nat.{ℕ, zero, suc, _+_, _*_, _<_, _≤_}
 use native.Mathlib.Omega.{arith}

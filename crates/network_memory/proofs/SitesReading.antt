@@ -6,7 +6,7 @@
 --   sitesIn-sitesMemory            all sites read back
 --   sitesMemory-sitesIn, siteRecords-sitesIn   what was read, written again, changes nothing
 -- Letters: j a site, k how many sites.
-use mathlib.Core.Path.{_≡_, refl, ap, sym, _∙_, subst}
+use mathlib.Core.Path.{_≡_, refl, ap, sym, _∙_}
 use mathlib.Core.List.{List, [], _∷_, _++_}
 use Prim.Native.Nat.{ℕ, zero, suc, _+_, _*_, _<_, _≤_}
 use native.Mathlib.Nat.{mul-le-mul-right}
@@ -20,7 +20,7 @@ use Rattle.model.specs.SiteMemory.{siteWords, siteIn, siteRecord, siteMemory}
 use Rattle.model.specs.NetworkMemory.{sitesIn, sitesMemory, siteRecords}
 use Rattle.site_memory.proofs.SiteMemoryLaws.{siteIn-siteMemory, siteMemory-siteIn, siteRecord-siteIn}
 use Rattle.network_memory.proofs.OneSite.{Storable, siteIn-front, length-written}
-use Rattle.network_memory.proofs.SitesMemoryLaws.{AllStorable, later, part-long, part-length, rest-long, drop-sitesMemory, written-length}
+use Rattle.network_memory.proofs.SitesMemoryLaws.{AllStorable, later, part-length, rest-long, drop-sitesMemory, written-length}
 
 -- ---- Read back
 

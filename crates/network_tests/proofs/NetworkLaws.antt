@@ -5,7 +5,7 @@
 --   count-refused .. sites-refused    the rows of the test
 --   refused-settings .. refused-not   the rows of the refusal
 --   fits-of-long                      memory that is not too short
-use mathlib.Core.Path.{_≡_, refl, sym, ap, _∙_}
+use mathlib.Core.Path.{_≡_, sym}
 use mathlib.Core.Bool.{Bool, true, false, _&&_, false≢true}
 use mathlib.Core.List.{List, [], _∷_}
 use Prim.Native.Nat.{ℕ, zero, suc, _+_, _*_, _≤_, _<_}
@@ -21,7 +21,7 @@ use Rattle.model.specs.declared.SiteRecord.{SiteRecord}
 use Rattle.model.specs.declared.Sites.{Sites}
 use Rattle.model.specs.declared.CoordinatorRecord.{CoordinatorRecord}
 use Rattle.model.specs.Refusals.{accepted, memoryTooShort, memoryInconsistent}
-use Rattle.model.specs.Limits.{siteLimit, coordinatorLimit, messageLimit}
+use Rattle.model.specs.Limits.{messageLimit}
 use Rattle.model.specs.Settings.{settingsRefusal}
 use Rattle.model.specs.SiteMemory.{siteWords, siteIn, siteConsistent}
 use Rattle.model.specs.CoordinatorMemory.{coordinatorIn, coordinatorConsistent}
@@ -32,7 +32,7 @@ use Rattle.site_memory.specs.Ready.{SiteReady}
 use Rattle.site_memory.proofs.ReadyLaws.{ready-of-consistent}
 use Rattle.coordinator_tests.proofs.ReadyLaws.{consistent-facts}
 use Rattle.network_memory.specs.Records.{noRecord}
-use Rattle.network_tests.specs.Contracts.{SitesFit, NetworkFits, RecordsFit, CountsFit}
+use Rattle.network_tests.specs.Contracts.{SitesFit, NetworkFits, CountsFit}
 
 module _ (settings : Settings) where
   pub enough-records : (k : ℕ) (records : List SiteRecord) (memory : List ℕ)
@@ -83,7 +83,8 @@ pub counts-fit : {settings : Settings} {siteMemory : List ℕ}
     → sitesConsistent (settings .sites) settings (sites .records) siteMemory ≡ true
     → coordinatorConsistent settings (coordinatorIn settings coordinator coordinatorNumbers) ≡ true
     → CountsFit settings sites (coordinator .total)
-counts-fit {settings} {siteMemory} fits sites coordinator coordinatorNumbers sites-hold coordinator-holds =
+counts-fit {settings} {siteMemory} fits sites coordinator coordinatorNumbers sites-hold
+    coordinator-holds =
     let ready = ready-at fits (sites .records) sites-hold in
     record {
       records-fit = record {

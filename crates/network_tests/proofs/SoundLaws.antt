@@ -3,16 +3,16 @@
 --
 --   sound-site, sound-coordinator     a ready site and a coordinator's shape, as soundness
 --   Passing, passing                  what an accepted start is worth
-use mathlib.Core.Path.{_≡_, refl, sym, ap, _∙_, subst⁻¹}
-use mathlib.Core.Bool.{Bool, true, false, _&&_, not, false≢true}
+use mathlib.Core.Path.{_≡_, refl, subst⁻¹}
+use mathlib.Core.Bool.{Bool, true, _&&_, not, false≢true}
 use mathlib.Core.List.{List, [], _∷_}
 use Prim.Native.Nat.{ℕ, zero, suc, _+_, _*_, _≤_, _<_}
 use native.Mathlib.Omega.{arith}
-use lib.Dec.{eqb, ltb, leb}
-use lib.ListN.{length, getD, take, drop, length-drop}
+use lib.Dec.{eqb, leb}
+use lib.ListN.{length, getD, drop, length-drop}
 use lib.Seq.{length-take-le}
 use borrow.Author.Tests.{leb-true, eqb-true, not-false}
-use Rattle.laws.proofs.Tests.{both-true}
+use Rattle.laws.proofs.Tests.{BothTrue, both-true}
 use Rattle.model.specs.declared.Settings.{Settings}
 use Rattle.model.specs.declared.Phase.{Phase}
 use Rattle.model.specs.declared.Phase.the-variants.{Idle, Collecting, Probing, Announcing}
@@ -147,22 +147,21 @@ module _ (settings : Settings) (sites : Sites) (coordinator : CoordinatorRecord)
   coordinator-test = coordinatorConsistent settings (network .coordinator)
 
   -- The four tests of `networkConsistent`, taken apart.
-  three-hold : (sites-test && coordinator-test && atRestTogether network) ≡ true
-  three-hold = both-true (sites-test && coordinator-test && atRestTogether network) (leb (sites .messages) messageLimit) holds .first-true
+  four : BothTrue (sites-test && coordinator-test && atRestTogether network)
+      (leb (sites .messages) messageLimit)
+  four = both-true _ _ holds
 
-  two-hold : (sites-test && coordinator-test) ≡ true
-  two-hold = both-true (sites-test && coordinator-test) (atRestTogether network) three-hold .first-true
+  three : BothTrue (sites-test && coordinator-test) (atRestTogether network)
+  three = both-true _ _ (four .first-true)
 
-  rest-holds : atRestTogether network ≡ true
-  rest-holds = both-true (sites-test && coordinator-test) (atRestTogether network) three-hold .second-true
+  two : BothTrue sites-test coordinator-test
+  two = both-true _ _ (three .first-true)
 
   sites-hold : sites-test ≡ true
-  sites-hold = both-true sites-test coordinator-test two-hold .first-true
+  sites-hold = two .first-true
 
   facts : Consistent settings (network .coordinator)
-  facts =
-      consistent-facts settings (network .coordinator)
-      (both-true sites-test coordinator-test two-hold .second-true)
+  facts = consistent-facts settings (network .coordinator) (two .second-true)
 
   -- The three tests of `atRestTogether`.
   abbrev same-test : Bool
@@ -172,8 +171,11 @@ module _ (settings : Settings) (sites : Sites) (coordinator : CoordinatorRecord)
   counted-test =
       eqb (network .coordinator .total + allPending (network .sites)) (allArrivals (network .sites))
 
-  idle-and-same : (isIdle (network .coordinator .phase) && same-test) ≡ true
-  idle-and-same = both-true (isIdle (network .coordinator .phase) && same-test) counted-test rest-holds .first-true
+  rest : BothTrue (isIdle (network .coordinator .phase) && same-test) counted-test
+  rest = both-true _ _ (three .second-true)
+
+  idle-and-same : BothTrue (isIdle (network .coordinator .phase)) same-test
+  idle-and-same = both-true _ _ (rest .first-true)
 
   records-enough : k ≤ length (sites .records)
   records-enough = enough-records settings k (sites .records) siteMemory sites-hold
@@ -183,7 +185,8 @@ module _ (settings : Settings) (sites : Sites) (coordinator : CoordinatorRecord)
 
   read-at : (j : ℕ) → j < k
       → siteAt network j
-      ≡ siteIn settings (getD (sites .records) j noRecord) (drop (j * siteWords settings) siteMemory)
+      ≡ siteIn settings (getD (sites .records) j noRecord)
+      (drop (j * siteWords settings) siteMemory)
   read-at j j< = getD-sitesIn noRecord k settings (sites .records) siteMemory j j< records-enough
 
   sound-at : (j : ℕ) → j < k → SoundSite settings (siteAt network j)
@@ -206,13 +209,11 @@ module _ (settings : Settings) (sites : Sites) (coordinator : CoordinatorRecord)
     all-sites = all-sites;
     sites-sound = sound-at;
     coordinator-sound = sound-coordinator estimates-length histogram-length (facts .shape);
-    idle = idle-is (network .coordinator .phase)
-        (both-true (isIdle (network .coordinator .phase)) same-test idle-and-same .first-true);
+    idle = idle-is (network .coordinator .phase) (idle-and-same .first-true);
     same-threshold = λ j j<.
         same-at (network .coordinator .threshold) (network .sites)
-        (both-true (isIdle (network .coordinator .phase)) same-test idle-and-same .second-true)
-        j (omega (arith, all-sites));
-    all-counted = eqb-true _ _ (both-true (isIdle (network .coordinator .phase) && same-test) counted-test rest-holds .second-true);
+        (idle-and-same .second-true) j (omega (arith, all-sites));
+    all-counted = eqb-true _ _ (rest .second-true);
   }
 
   consistent-passing : Passing settings sites coordinator siteMemory coordinatorMemory
@@ -227,7 +228,7 @@ module _ (settings : Settings) (sites : Sites) (coordinator : CoordinatorRecord)
     bounded = bounded-start settings network
         (settled settings (fits .sites-fit .settings-accepted)) network-sound
         (facts .within .estimates-within) (facts .within .histogram-within);
-    count-within = leb-true _ _ (both-true (sites-test && coordinator-test && atRestTogether network) (leb (sites .messages) messageLimit) holds .second-true);
+    count-within = leb-true _ _ (four .second-true);
   }
 
 pub passing : (settings : Settings) (sites : Sites) (coordinator : CoordinatorRecord)

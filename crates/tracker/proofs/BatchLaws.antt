@@ -7,36 +7,29 @@
 --   holds-stopped, holds-taken  answer and lent memory then
 --   ready-next                  a batch that took an arrival may take another
 use mathlib.Core.Path.{_≡_, refl, sym, ap, _∙_, subst}
-use mathlib.Core.Bool.{Bool, true, false}
-use mathlib.Core.List.{List, [], _∷_, _++_, append-nil}
-use Prim.Native.Nat.{ℕ, zero, suc, _+_, _-_, _*_, _/_, _≤_, _<_}
+use mathlib.Core.List.{List, append-nil}
+use Prim.Native.Nat.{ℕ, _+_, _-_, _*_, _≤_}
 use native.Mathlib.Nat.{mul-le-mul-right}
 use native.Mathlib.Omega.{arith}
-use lib.Dec.{ltb, eqb}
-use lib.ListN.{length, getD, length-append}
-use borrow.Author.Tests.{eq-eqb, ne-eqb, ltb-false, eqb-true}
+use lib.Dec.{ltb}
+use lib.ListN.{length, length-append}
+use borrow.Author.Tests.{eq-eqb, ne-eqb, ltb-false}
 use Rattle.model.specs.declared.Settings.{Settings}
 use Rattle.model.specs.declared.Arrival.{Arrival}
-use Rattle.model.specs.declared.Message.{Message}
 use Rattle.model.specs.declared.SiteRecord.{SiteRecord}
-use Rattle.model.specs.Choice.{if_then_else_, isZero}
-use Rattle.model.specs.Refusals.{when, _orElse_, accepted, logTooShort}
+use Rattle.model.specs.Refusals.{accepted, logTooShort}
 use Rattle.model.specs.Limits.{siteLimit, mostMessages}
-use Rattle.model.specs.Network.{Network, siteAt, afterArrival}
-use Rattle.model.specs.NetworkMemory.{allArrivals}
-use Rattle.model.specs.Runs.{Batch, refusalIn, batchRefusal, batchFrom}
-use Rattle.model.specs.DeliveryClaims.{Delivery, delivery}
+use Rattle.model.specs.Network.{Network, afterArrival}
+use Rattle.model.specs.Runs.{Batch, refusalIn}
 use Rattle.model.proofs.RefusalLaws.{both-accepted, passed}
 use Rattle.model.proofs.SettingsLaws.{settled}
 use Rattle.model.proofs.DeliveryTheorem.{delivery-claims}
-use Rattle.model.proofs.SoundStages.{together-of-sound}
 use Rattle.model.proofs.SitesInvariant.{arrivalsAt}
 use Rattle.model.proofs.ClosedSites.{sumBelow-allArrivals}
 use Rattle.laws.proofs.Sums.{sumBelow-le, sumBelow-const}
-use Rattle.network_memory.specs.Records.{noRecord}
 use Rattle.delivery.specs.declared.Underway.{Underway}
 use Rattle.delivery.specs.Log.{logRoom}
-use Rattle.delivery.specs.Holding.{Given, state, Holds, Accepting, ArrivalAsks, ArrivalSays, rested}
+use Rattle.delivery.specs.Holding.{state, Accepting, ArrivalAsks, ArrivalSays}
 use Rattle.delivery.proofs.HoldingLaws.{Stored, record-read, log-length}
 use Rattle.delivery.proofs.GoingLaws.{stored-of-sound}
 use Rattle.delivery.proofs.RestLaws.{sound-then, bounded-then, arrivals-then, holds-rested}

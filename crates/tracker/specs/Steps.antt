@@ -9,7 +9,7 @@
 --   OneAsks, OneSays                   one arrival of the call
 use mathlib.Core.Path.{_≡_}
 use mathlib.Core.List.{List, [], _++_}
-use Prim.Native.Nat.{ℕ, _+_, _-_, _*_, _/_, _≤_}
+use Prim.Native.Nat.{ℕ, _+_, _-_, _/_, _≤_}
 use lib.Dec.{ltb}
 use lib.ListN.{length, getD}
 use Rattle.model.specs.declared.Settings.{Settings}
@@ -20,7 +20,7 @@ use Rattle.model.specs.Choice.{if_then_else_, isZero}
 use Rattle.model.specs.Refusals.{when, _orElse_, accepted, logTooShort}
 use Rattle.model.specs.Limits.{mostSites, mostMessages}
 use Rattle.model.specs.Site.{arrivalRefusal}
-use Rattle.model.specs.Network.{Network, afterArrival}
+use Rattle.model.specs.Network.{afterArrival}
 use Rattle.model.specs.NetworkMemory.{allArrivals, networkRefusal}
 use Rattle.model.specs.Runs.{Batch, batchRefusal}
 use Rattle.model.specs.SoundNetwork.{Sound}

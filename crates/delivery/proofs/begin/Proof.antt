@@ -2,7 +2,7 @@
 use mathlib.Core.Path.{ap}
 use Prim.Native.Nat.{ℕ, _*_}
 use native.Mathlib.Omega.{arith}
-use Rattle.delivery.proofs.BeginLaws.{site-few, start-small, starts-within, observe-asks, two-ask, begun-holds}
+use Rattle.delivery.proofs.BeginLaws.{site-few, starts-small, starts-within, observe-asks, two-ask, begun-holds}
 use borrow.Author.Needs.{needs}
 use Rattle.delivery.proofs.begin.Statement.{statement}
 use Rattle.delivery.proofs.begin.Tie as tie
@@ -18,7 +18,7 @@ mul-start c =
     let start = c .before .before .before .before .before in
     let u = start .pre .asks in
     let at-start = ap (λ (z : ℕ). start .args .arrival .site * z) (c .site-words .ensures) in
-    omega (arith, start-small u, at-start)
+    omega (arith, starts-small u, at-start)
 
 record-of-requires : tie.Need-record-of-requires
 record-of-requires c κs = site-few (c .before .before .before .before .before .pre .asks)
@@ -29,7 +29,7 @@ mul-observe-step c =
     let u = start .pre .asks in
     let words = c .before .site-words in
     let at-start = ap (λ (z : ℕ). start .args .arrival .site * z) (words .ensures) in
-    omega (arith, start-small u, at-start)
+    omega (arith, starts-small u, at-start)
 
 sub-observe-step : tie.Need-sub-observe-step
 sub-observe-step c =

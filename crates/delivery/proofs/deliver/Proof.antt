@@ -1,7 +1,6 @@
 -- `delivery::deliver` meets its contract. The invariant: the state was reached by steps of the
 -- delivery that the first state holds, whichever that is.
 use mathlib.Core.Path.{sym, _∙_}
-use native.Mathlib.Omega.{arith}
 use lib.ListN.{length}
 use borrow.Author.Needs.{needs}
 use Rattle.delivery.specs.Holding.{state, Delivering}

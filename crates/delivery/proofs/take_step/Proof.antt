@@ -5,7 +5,7 @@ use Prim.Native.Nat.{ℕ, _*_}
 use native.Mathlib.Omega.{arith}
 use Rattle.delivery.proofs.StepLaws.{handing, asking, ask-asks, asked-sends, asked-holds}
 use Rattle.delivery.proofs.HandToCoordinator.{coordinator-asks, coordinator-sends, coordinator-holds}
-use Rattle.delivery.proofs.HandToSite.{site-few, starts-within, start-small, site-asks, site-sends, site-holds}
+use Rattle.delivery.proofs.HandToSite.{site-few, starts-within, starts-small, site-asks, site-sends, site-holds}
 use borrow.Author.Needs.{needs}
 use Rattle.delivery.proofs.take_step.Statement.{statement}
 use Rattle.delivery.proofs.take_step.Tie as tie
@@ -123,7 +123,7 @@ mul-start c =
     let hand = handing u (tested .if1 .left) in
     let at-start = ap (λ (z : ℕ). start .args .underway .waiting .first .site * z)
     (c .site-words .ensures) in
-    omega (arith, start-small u hand way, at-start)
+    omega (arith, starts-small u hand way, at-start)
 
 mul-part : tie.Need-mul-part
 mul-part c =
@@ -135,7 +135,7 @@ mul-part c =
     let hand = handing u (tested .if1 .left) in
     let at-start = ap (λ (z : ℕ). start .args .underway .waiting .first .site * z)
     (c .site-words .ensures) in
-    omega (arith, start-small u hand way, at-start)
+    omega (arith, starts-small u hand way, at-start)
 
 sub-part : tie.Need-sub-part
 sub-part c =

@@ -19,16 +19,15 @@ use Rattle.model.specs.declared.Arrival.{Arrival}
 use Rattle.model.specs.declared.Message.{Message}
 use Rattle.model.specs.Choice.{if_then_else_}
 use Rattle.model.specs.Limits.{siteLimit, coordinatorLimit}
-use Rattle.model.specs.Messages.{isItemReport}
-use Rattle.model.specs.Counters.{Counter, counterAt, unreported, lostBy}
-use Rattle.model.specs.Site.{Site, freshSite, observed, placementIn, reportsItem, reportsCount, reportedValue}
-use Rattle.model.specs.Network.{Network, siteAt, withSite}
+use Rattle.model.specs.Counters.{Counter, counterAt, unreported}
+use Rattle.model.specs.Site.{Site, freshSite, observed, reportsItem, reportsCount}
+use Rattle.model.specs.Network.{Network, siteAt}
 use Rattle.model.specs.NetworkMemory.{allArrivals}
-use Rattle.model.specs.SoundNetwork.{SoundCounter, SoundSite, Sound}
+use Rattle.model.specs.SoundNetwork.{SoundSite, Sound}
 use Rattle.model.specs.DeliveryClaims.{deliveryOf}
 use Rattle.model.proofs.SettingsLaws.{Settled}
 use Rattle.model.proofs.SoundSites.{ArrivalTaken, unreported-moves}
-use Rattle.delivery.specs.Bounded.{unreportedIn, allUnreported, itemsWaiting, startLimit, Bounded}
+use Rattle.delivery.specs.Bounded.{unreportedIn, allUnreported, itemsWaiting, Bounded}
 
 -- ---- Sums
 
@@ -133,7 +132,11 @@ allUnreported-small settings (site ∷ sites) each =
     omega (
       arith,
       unreportedIn-small (site .counters) (λ place inside.
-          omega (arith, sound .counters-sound place inside .unreported-below, sound .threshold-within)),
+          omega (
+            arith,
+            sound .counters-sound place inside .unreported-below,
+            sound .threshold-within,
+          )),
       allUnreported-small settings sites (λ j j<. each (suc j) (omega arith)),
     )
 

@@ -1,34 +1,33 @@
--- A delivery to its end: each step keeps a delivery that goes on from the same arrival, messages waiting
--- and free records of the log become fewer, and where nothing is left to do the state holds the
--- model's network and messages.
+-- A delivery to its end: each step keeps a delivery that goes on from the same arrival, messages
+-- waiting and free records of the log become fewer, and where nothing is left to do the state
+-- holds the model's network and messages.
 --
 --   After                     a state that was reached from another by steps of the same delivery
 --   after-start, after-step   kept from the first state on
 --   after-end                 where nothing is left to do
---   left-less                 two for each free number of the log and one for each message that waits
-use mathlib.Core.Path.{_≡_, refl, sym, ap, _∙_, subst, subst⁻¹}
-use mathlib.Core.Bool.{Bool, true, false, _||_, not, false≢true}
-use mathlib.Core.List.{List, [], _∷_, _++_}
-use Prim.Native.Nat.{ℕ, suc, _+_, _-_, _*_, _≤_, _<_}
+--   left-less                 two for each free number of the log and one for each message that
+--                             waits
+use mathlib.Core.Path.{_≡_, refl, sym, ap, subst, subst⁻¹}
+use mathlib.Core.Bool.{true, false, false≢true}
+use mathlib.Core.List.{List, [], _++_}
+use Prim.Native.Nat.{ℕ, suc, _+_, _-_, _*_, _<_}
 use native.Mathlib.Omega.{arith}
 use native.Mathlib.Decide.{ℕ-discrete}
 use lib.ListN.{length, length-append}
-use borrow.Author.Tests.{eq-eqb, ne-eqb}
+use borrow.Author.Tests.{ne-eqb}
 use Rattle.model.specs.declared.Settings.{Settings}
 use Rattle.model.specs.declared.Message.{Message}
 use Rattle.model.specs.declared.Phase.{Phase}
 use Rattle.model.specs.declared.Phase.the-variants.{Idle, Collecting, Probing, Announcing}
 use Rattle.model.specs.Coordinator.{Coordinator, isAnnouncing, announcedIn}
 use Rattle.model.specs.Network.{handOver, askAnnouncement, afterArrival}
-use Rattle.model.specs.DeliveryClaims.{Delivery, delivery, joining, deliveryStep}
+use Rattle.model.specs.DeliveryClaims.{Delivery, deliveryStep}
 use Rattle.delivery.specs.declared.Queue.{Queue}
 use Rattle.delivery.specs.declared.Underway.{Underway}
-use Rattle.delivery.specs.Sending.{queueOf}
 use Rattle.delivery.specs.Holding.{State, Holds, Going, Delivering, goesOn, StepSays, rested}
-use Rattle.delivery.proofs.BoundedSteps.{answers-one}
 use Rattle.delivery.proofs.HoldingLaws.{log-length}
 use Rattle.delivery.proofs.GoingLaws.{going-room, going-handed, going-asked, going-ends}
-use Rattle.delivery.proofs.StepLaws.{none-waits, Handing, handing, Asking, asking}
+use Rattle.delivery.proofs.StepLaws.{none-waits, handing, asking}
 
 -- ---- The next delivery
 
@@ -109,7 +108,8 @@ less-step {settings} {held} u goes = by-count (ℕ-discrete (held .underway .wai
 pub left-less : {settings : Settings} {held next : State} (u : Delivering settings held)
     → goesOn (held .underway) ≡ true
     → Holds settings (u .given) (u .earlier) (deliveryStep settings (u .now)) next
-    → leftToDo (next .underway) (length (next .log)) < leftToDo (held .underway) (length (held .log))
+    → leftToDo (next .underway) (length (next .log))
+    < leftToDo (held .underway) (length (held .log))
 left-less {settings} {held} {next} u goes holds =
     let less = less-step u goes in
     let then = deliveryStep settings (u .now) in
@@ -133,7 +133,8 @@ left-less {settings} {held} {next} u goes holds =
 
 -- ---- From the first state on
 
-pub record After {settings : Settings} {first : State} (u : Delivering settings first) (held : State)
+pub record After {settings : Settings} {first : State} (u : Delivering settings first)
+    (held : State)
     : Type 0 where
   pub steps : ℕ
   pub now : Delivery

@@ -1,37 +1,35 @@
--- A delivery that goes on: its stage, its bounds, the sizes of its network and the room that the log has
--- for its messages; and the deliveries that its two steps come to.
+-- A delivery that goes on: its stage, its bounds, the sizes of its network and the room that the
+-- log has for its messages; and the deliveries that its two steps come to.
 --
 --   going-stage, going-bounded, going-stored    what holds of it
 --   going-room                                  all messages so far fit the log
 --   going-handed, going-asked                   the next step
 --   going-ends                                  where nothing waits, it has come to the model's end
-use mathlib.Core.Path.{_≡_, refl, sym, ap, _∙_, subst}
+use mathlib.Core.Path.{_≡_, refl, ap}
 use mathlib.Core.Bool.{Bool, true, false}
 use mathlib.Core.List.{List, [], _∷_, _++_}
-use Prim.Native.Nat.{ℕ, zero, suc, _+_, _*_, _/_, _≤_, _<_}
+use Prim.Native.Nat.{ℕ, zero, suc, _*_, _≤_, _<_}
 use native.Mathlib.Omega.{arith}
 use lib.ListN.{length, length-append}
 use Rattle.model.specs.declared.Settings.{Settings}
 use Rattle.model.specs.declared.Arrival.{Arrival}
 use Rattle.model.specs.declared.Message.{Message}
 use Rattle.model.specs.Limits.{mostMessages}
-use Rattle.model.specs.Site.{Site, freshSite}
 use Rattle.model.specs.Coordinator.{Coordinator, isAnnouncing}
-use Rattle.model.specs.Network.{Network, siteAt, Delivered, handOver, askAnnouncement, afterArrival}
+use Rattle.model.specs.Network.{Network, siteAt, handOver, askAnnouncement, afterArrival}
 use Rattle.model.specs.SoundNetwork.{SoundSite, SoundNumbers}
-use Rattle.model.specs.DeliveryClaims.{Delivery, delivery, joining, deliveryStep, deliverySteps, outcome, deliveryOf}
+use Rattle.model.specs.DeliveryClaims.{Delivery, delivery, joining, deliveryStep, deliverySteps}
 use Rattle.model.specs.SoundClaims.{handed, asked}
 use Rattle.model.proofs.SettingsLaws.{Settled, settled}
 use Rattle.model.proofs.SoundSites.{ArrivalTaken, taken-of-no-refusal}
 use Rattle.model.proofs.DeliveryTheorem.{delivery-claims}
 use Rattle.model.proofs.Stages.{Stage}
 use Rattle.model.proofs.SoundTheorem.{StillLeft, reached-left, sound-claims}
-use Rattle.network_memory.proofs.SitesMemoryLaws.{AllStorable}
-use Rattle.delivery.specs.Log.{logRoom}
 use Rattle.delivery.specs.Bounded.{Bounded}
 use Rattle.delivery.specs.Holding.{Given, Accepting, Going, rested}
 use Rattle.delivery.proofs.StageNumbers.{at-stage}
-use Rattle.delivery.proofs.BoundedSteps.{answers-one, reached-bounded, quiet-announced}
+use Rattle.delivery.proofs.QuietSteps.{answers-one, quiet-announced}
+use Rattle.delivery.proofs.BoundedSteps.{reached-bounded}
 use Rattle.delivery.proofs.HoldingLaws.{StoredCoordinator, Stored}
 
 -- ---- The log only grows
@@ -173,5 +171,8 @@ module _ {settings : Settings} {given : Given} {earlier : List Message} {network
     accepting = going .accepting;
     reached = asked steps now [] log (going .reached) announces;
     few-waiting =
-        omega (arith, quiet-announced settings (now .coordinator) (now .coordinator .phase) .one-answer);
+        omega (
+          arith,
+          quiet-announced settings (now .coordinator) (now .coordinator .phase) .one-answer,
+        );
   }

@@ -1,12 +1,12 @@
--- The head of the messages that wait, about to be handed over: it is accepted, and the log has room for
--- the answer.
+-- The head of the messages that wait, about to be handed over: it is accepted, and the log has
+-- room for the answer.
 --
 --   head-accepted       by whom it is for
 --   rest-waits          the messages that wait when the head was taken
 --   room, stored-then   what the hand-over comes to fits the log, and lent memory
 use mathlib.Core.Path.{_≡_, ap, _∙_}
 use mathlib.Core.List.{_++_}
-use Prim.Native.Nat.{_+_, _-_, _*_, _≤_}
+use Prim.Native.Nat.{_*_, _≤_}
 use native.Mathlib.Omega.{arith}
 use lib.ListN.{length}
 use Rattle.model.specs.declared.Settings.{Settings}

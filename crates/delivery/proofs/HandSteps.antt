@@ -30,7 +30,7 @@ use Rattle.delivery.specs.declared.Queue.{Queue}
 use Rattle.delivery.specs.declared.Underway.{Underway}
 use Rattle.delivery.specs.declared.Change.{Change}
 use Rattle.delivery.specs.Log.{putRecord}
-use Rattle.delivery.specs.Sending.{withoutHead, sent, sentIf, loggedIf, SendAsks}
+use Rattle.delivery.specs.Sending.{withoutHead, sent, sentIf, loggedIf, SendAsks, SendSays}
 use Rattle.delivery.specs.Holding.{state, Holds, Delivering, goesOn, StepSays}
 use Rattle.delivery.specs.Handing.{coordinatorChange, changed, HandSays}
 use Rattle.delivery.proofs.StepLaws.{handing, asking, asked-sends, asked-holds}
@@ -81,7 +81,8 @@ module _ {settings : Settings} {underway : Underway} {siteMemory coordinatorBefo
             Holds settings (u .given) (u .earlier) (deliveryStep settings (u .now))
             (state (sentIf (answer .count) next (answer .out)) siteMemory coordinatorBefore
             (loggedIf (answer .count) log (underway .written) (answer .out)))) same
-            (asked-holds u (asking u none goes) answer is _ _ refl refl);
+            (asked-holds u (asking u none goes) answer is
+            (record { goes-out = refl; logged = refl }));
       })
 
   -- The head is for the coordinator.
@@ -111,7 +112,7 @@ module _ {settings : Settings} {underway : Underway} {siteMemory coordinatorBefo
             (state (sentIf (answer .count) next (answer .out)) siteMemory coordinatorAfter
             (loggedIf (answer .count) log (underway .written) (answer .out)))) same
             (coordinator-holds u (handing u some) way answer coordinatorAfter queue does queue-is
-            _ _ refl refl);
+            (record { goes-out = refl; logged = refl }));
       })
 
   -- The head is for the site that it names, whose record and part of the memory the code has.
@@ -149,7 +150,7 @@ module _ {settings : Settings} {underway : Underway} {siteMemory coordinatorBefo
           refl queue-is more;
       next = λ log u.
           site-holds u (handing u some) way numbers words numbers-are words-are answer _ queue says
-          refl queue-is _ _ refl refl;
+          refl queue-is (record { goes-out = refl; logged = refl });
     }
 
 -- ---- The step
@@ -178,18 +179,17 @@ module _ {settings : Settings} {underway : Underway}
       subst⁻¹ (λ (next : Underway). SendAsks next log) settled-is (says .sends log u some)
 
   pub answered-step : (by .count ≡ 0 → ⊥)
-      → (result : Underway) (written : List ℕ)
-      → result ≡ sent settled (by .out)
-      → written ≡ putRecord log (settled .written) (by .out)
+      → {result : Underway} {written : List ℕ}
+      → SendSays settled (by .out) log result written
       → StepSays settings (state underway siteMemory coordinatorBefore log)
       (state result siteMemory coordinatorAfter written)
-  answered-step some result written result-is written-is = record {
+  answered-step some sends = record {
     next = λ u.
         subst₂ (λ (next : Underway) (after : List ℕ).
         Holds settings (u .given) (u .earlier) (deliveryStep settings (u .now))
         (state next siteMemory coordinatorAfter after))
-        (sym (result-is ∙ ap (λ (next : Underway). sent next (by .out)) settled-is))
-        (sym (written-is
+        (sym (sends .goes-out ∙ ap (λ (next : Underway). sent next (by .out)) settled-is))
+        (sym (sends .logged
         ∙ ap (λ (next : Underway). putRecord log (next .written) (by .out)) settled-is))
         (rw (ne-eqb (by .count) 0 some) at (says .next log u));
   }

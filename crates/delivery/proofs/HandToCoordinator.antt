@@ -6,7 +6,7 @@
 use mathlib.Core.Path.{_≡_, ap, _∙_, subst, subst⁻¹}
 use mathlib.Core.Bool.{true}
 use mathlib.Core.List.{List, _++_}
-use Prim.Native.Nat.{ℕ, _+_, _*_, _≤_}
+use Prim.Native.Nat.{ℕ, _*_, _≤_}
 use native.Mathlib.Omega.{arith}
 use lib.ListN.{length}
 use Rattle.model.specs.declared.Settings.{Settings}
@@ -21,10 +21,10 @@ use Rattle.coordinator_steps.specs.Steps.{Does}
 use Rattle.coordinator_steps.specs.Ready.{CoordinatorReady, StepAsks}
 use Rattle.delivery.specs.declared.Queue.{Queue}
 use Rattle.delivery.specs.declared.Underway.{Underway}
-use Rattle.delivery.specs.Sending.{withoutHead, sentIf, loggedIf, SendAsks}
+use Rattle.delivery.specs.Sending.{withoutHead, SendAsks, AnswerSays}
 use Rattle.delivery.specs.Holding.{State, state, Holds, Fits, Delivering}
 use Rattle.delivery.proofs.StageNumbers.{coordinator-ready}
-use Rattle.delivery.proofs.BoundedSteps.{quiet-receives}
+use Rattle.delivery.proofs.QuietSteps.{quiet-receives}
 use Rattle.delivery.proofs.HoldingLaws.{coordinator-read, coordinator-memory-length, holds-coordinator, coordinator-again}
 use Rattle.delivery.proofs.GoingLaws.{going-fit, going-stage, going-bounded, going-stored}
 use Rattle.delivery.proofs.StepLaws.{Handing, answer-sends, answer-holds}
@@ -51,7 +51,8 @@ module _ {settings : Settings} {held : State} (u : Delivering settings held)
     c-read : coordinatorIn settings (held .underway .coordinator) (held .coordinatorMemory) ≡ c
     c-read = coordinator-read fits (going-stored (hand .going)) (hand .holds)
 
-    pub coordinator-asks : StepAsks settings (held .underway .coordinator) m (held .coordinatorMemory)
+    pub coordinator-asks : StepAsks settings (held .underway .coordinator) m
+        (held .coordinatorMemory)
     coordinator-asks = record {
       settings-accepted = fits .settings-accepted;
       memory-long = omega (
@@ -107,16 +108,16 @@ module _ {settings : Settings} {held : State} (u : Delivering settings held)
 
       pub coordinator-sends : (answer .count ≡ 0 → ⊥) → SendAsks next (held .log)
       coordinator-sends =
-          answer-sends changed (after .messages) (answer .count) (answer .out) count-is room-then fits
+          answer-sends changed (after .messages) (answer .count) (answer .out) count-is room-then
+          fits
 
-      pub coordinator-holds : (result : Underway) (written : List ℕ)
-          → result ≡ sentIf (answer .count) next (answer .out)
-          → written ≡ loggedIf (answer .count) (held .log) (held .underway .written) (answer .out)
+      pub coordinator-holds : {result : Underway} {written : List ℕ}
+          → AnswerSays (answer .count) next (answer .out) (held .log) result written
           → Holds settings (u .given) (u .earlier) (deliveryStep settings (u .now))
           (state result (held .siteMemory) memory written)
-      coordinator-holds result written result-is written-is =
+      coordinator-holds said =
           rw (hand .step-is, way)
           (answer-holds changed (after .messages) (answer .count) (answer .out) count-is room-then
           (quiet-receives settings c m .one-answer)
           (ap (λ (a : CoordinatorAnswer.Answered). a .out) (did .answer))
-          (few-rest u hand) result written result-is written-is)
+          (few-rest u hand) said)

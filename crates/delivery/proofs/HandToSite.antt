@@ -1,17 +1,16 @@
 -- A message for a site, handed over as the code does it. The site's memory is only read.
 --
---   site-known, site-few, starts-within, start-small   the site that the message names, and where its part starts
+--   site-known, site-few, starts-within, starts-small   the site that the message names, and where
+--                                                      its part starts
 --   site-asks     what the site's step requires
 --   site-sends    what sending its answer requires
 --   site-holds    what the state holds when the answer went out
-use mathlib.Core.Path.{_≡_, sym, ap, _∙_, subst, subst⁻¹}
+use mathlib.Core.Path.{_≡_, sym, ap, _∙_, subst⁻¹}
 use mathlib.Core.Bool.{false}
 use mathlib.Core.List.{List, _++_}
-use Prim.Native.Nat.{ℕ, _+_, _-_, _*_, _≤_, _<_}
-use native.Mathlib.Nat.{mul-le-mul, le-of-lt}
+use Prim.Native.Nat.{ℕ, _*_, _≤_, _<_}
 use native.Mathlib.Omega.{arith}
-use lib.ListN.{length, getD, take, drop, length-drop}
-use lib.Seq.{take-all}
+use lib.ListN.{length, getD, drop}
 use Rattle.model.specs.declared.Settings.{Settings}
 use Rattle.model.specs.declared.Message.{Message}
 use Rattle.model.specs.declared.Sites.{Sites}
@@ -22,7 +21,6 @@ use Rattle.model.specs.SiteMemory.{siteWords, siteIn, siteRecord}
 use Rattle.model.specs.Network.{Network, siteAt, withSite}
 use Rattle.model.specs.DeliveryClaims.{delivery, deliveryStep}
 use Rattle.site_memory.specs.Ready.{SiteReady}
-use Rattle.site_memory.proofs.ValueLaws.{valueCount-is}
 use Rattle.site_steps.specs.declared.Answered as SiteAnswer
 use Rattle.site_steps.specs.Steps.{ReceiveAsks, ReceiveStepSays}
 use Rattle.site_steps.proofs.ReceiveLaws.{Due, message-due}
@@ -30,10 +28,11 @@ use Rattle.network_memory.proofs.SitesMemoryLaws.{sitesMemory-kept}
 use Rattle.delivery.specs.declared.Queue.{Queue}
 use Rattle.delivery.specs.declared.Underway.{Underway}
 use Rattle.network_memory.specs.Records.{noRecord, withRecord}
-use Rattle.delivery.specs.Sending.{withoutHead, sentIf, loggedIf, SendAsks}
+use Rattle.delivery.specs.Sending.{withoutHead, SendAsks, AnswerSays}
 use Rattle.delivery.specs.Holding.{State, state, Holds, Fits, Delivering}
 use Rattle.delivery.proofs.StageNumbers.{at-stage, site-ready}
-use Rattle.delivery.proofs.BoundedSteps.{quiet-site}
+use Rattle.network_memory.proofs.SitePart.{few-sites, start-small, part, part-is}
+use Rattle.delivery.proofs.QuietSteps.{quiet-site}
 use Rattle.delivery.proofs.HoldingLaws.{part-long, part-starts, site-read, holds-site}
 use Rattle.delivery.proofs.GoingLaws.{going-fit, going-stage, going-stored}
 use Rattle.delivery.proofs.StepLaws.{Handing, answer-sends, answer-holds}
@@ -64,52 +63,44 @@ module _ {settings : Settings} {held : State} (u : Delivering settings held)
     site-known = due .site-known
 
     pub site-few : j < 32
-    site-few = omega (arith, site-known, going-fit (hand .going .accepting) .sites .at-most)
+    site-few = few-sites (going-fit (hand .going .accepting)) site-known
 
     pub starts-within : j * siteWords settings ≤ length (held .siteMemory)
     starts-within = part-starts fits (going-stored (hand .going)) (hand .holds) j site-known
 
-    -- Where the part starts, in numbers and in bytes, is far from what a machine number holds.
-    pub start-small : j * siteWords settings ≤ 32 * 13024
-    start-small =
-        let few : settings .capacity ≤ 3000 = going-fit (hand .going .accepting) .capacity .at-most in
-        let words : siteWords settings ≤ 13024 = omega (arith, valueCount-is) in
-        mul-le-mul (le-of-lt site-few) words
+    pub starts-small : j * siteWords settings ≤ 32 * 13024
+    starts-small = start-small (going-fit (hand .going .accepting)) site-known
 
     -- The site's record and its part of the memory, as the code names them.
     module _ (numbers : SiteRecord) (words : ℕ)
         (numbers-are : numbers ≡ getD (held .underway .sites .records) j noRecord)
         (words-are : words ≡ siteWords settings) where
-      abbrev part : List ℕ
-      part =
-          take (length (held .siteMemory) - j * words) (drop (j * words) (held .siteMemory))
+      abbrev own : List ℕ
+      own = part (held .siteMemory) j words
 
-      part-is : part ≡ drop (j * siteWords settings) (held .siteMemory)
-      part-is =
-          rw words-are
-          (take-all (length (held .siteMemory) - j * siteWords settings)
-          (drop (j * siteWords settings) (held .siteMemory))
-          (omega (arith, length-drop (j * siteWords settings) (held .siteMemory))))
+      own-is : own ≡ drop (j * siteWords settings) (held .siteMemory)
+      own-is = part-is settings (held .siteMemory) j words words-are
 
-      read : siteIn settings numbers part ≡ siteAt now j
+      read : siteIn settings numbers own ≡ siteAt now j
       read =
-          rw (numbers-are, part-is)
+          rw (numbers-are, own-is)
           (site-read fits (going-stored (hand .going)) (hand .holds) j site-known)
 
-      pub site-asks : ReceiveAsks settings numbers m part
+      pub site-asks : ReceiveAsks settings numbers m own
       site-asks = record {
         ready = record {
           settings-accepted = fits .settings-accepted;
-          long-enough = rw part-is
+          long-enough = rw own-is
               (part-long fits (going-stored (hand .going)) (hand .holds) j site-known);
           site-ready = subst⁻¹ (SiteReady settings) read
-              (site-ready (at-stage (going-stage (hand .going)) .together .sites-sound j site-known));
+              (site-ready
+              (at-stage (going-stage (hand .going)) .together .sites-sound j site-known));
         };
         value-known = due .value-known;
       }
 
       module _ (answer : SiteAnswer.Answered) (sites : Sites) (queue : Queue)
-          (says : ReceiveStepSays settings numbers m part answer)
+          (says : ReceiveStepSays settings numbers m own answer)
           (sites-are : sites ≡ withRecord (held .underway .sites) j (answer .site))
           (queue-is : queue ≡ withoutHead (held .underway .waiting)) where
         site-is : answer .site ≡ siteRecord (after .site)
@@ -146,17 +137,17 @@ module _ {settings : Settings} {held : State} (u : Delivering settings held)
 
         pub site-sends : (answer .count ≡ 0 → ⊥) → SendAsks next (held .log)
         site-sends =
-            answer-sends changed (after .messages) (answer .count) (answer .reply) count-is room-then
-            fits
+            answer-sends changed (after .messages) (answer .count) (answer .reply) count-is
+            room-then fits
 
-        pub site-holds : (result : Underway) (written : List ℕ)
-            → result ≡ sentIf (answer .count) next (answer .reply)
-            → written ≡ loggedIf (answer .count) (held .log) (held .underway .written) (answer .reply)
+        pub site-holds : {result : Underway} {written : List ℕ}
+            → AnswerSays (answer .count) next (answer .reply) (held .log) result written
             → Holds settings (u .given) (u .earlier) (deliveryStep settings (u .now))
             (state result (held .siteMemory) (held .coordinatorMemory) written)
-        site-holds result written result-is written-is =
+        site-holds said =
             rw (hand .step-is, way)
-            (answer-holds changed (after .messages) (answer .count) (answer .reply) count-is room-then
+            (answer-holds changed (after .messages) (answer .count) (answer .reply) count-is
+            room-then
             (quiet-site (siteAt now j) m .one-answer)
             (says .reply ∙ ap (λ (x : Site). getD (siteReceives x m .messages) 0 noMessage) read)
-            (few-rest u hand) result written result-is written-is)
+            (few-rest u hand) said)

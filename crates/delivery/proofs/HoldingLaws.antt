@@ -1,5 +1,5 @@
--- A state that holds a delivery: what is read from it, and what it holds when a message went out, the
--- coordinator was changed or a site was changed.
+-- A state that holds a delivery: what is read from it, and what it holds when a message went out,
+-- the coordinator was changed or a site was changed.
 --
 --   Stored                     sites and coordinator have the sizes that the settings say
 --   site-read                  a site, read from its record and its part of the memory
@@ -7,13 +7,13 @@
 --   holds-sent, holds-answer   a message went out; the answer of a step, if there is one
 --   holds-coordinator          the coordinator changed
 --   holds-site                 one site changed
-use mathlib.Core.Path.{_≡_, refl, sym, ap, _∙_, subst}
+use mathlib.Core.Path.{_≡_, sym, ap, _∙_}
 use mathlib.Core.List.{List, [], _∷_, _++_, append-assoc, append-nil}
-use Prim.Native.Nat.{ℕ, zero, suc, _+_, _*_, _≤_, _<_}
+use Prim.Native.Nat.{ℕ, suc, _+_, _*_, _≤_, _<_}
 use native.Mathlib.Nat.{mul-le-mul-right}
 use native.Mathlib.Omega.{arith}
-use lib.ListN.{length, getD, set, take, drop, length-append, length-drop, length-set}
-use Rattle.laws.proofs.Lists.{length-snoc, all-set}
+use lib.ListN.{length, getD, set, drop, length-append, length-drop}
+use Rattle.laws.proofs.Lists.{length-snoc}
 use Rattle.laws.proofs.FlatMemory.{length-overwritten}
 use Rattle.model.specs.declared.Settings.{Settings}
 use Rattle.model.specs.declared.Message.{Message}
@@ -21,16 +21,16 @@ use Rattle.model.specs.declared.SiteRecord.{SiteRecord}
 use Rattle.model.specs.declared.CoordinatorRecord.{CoordinatorRecord}
 use Rattle.model.specs.Limits.{valueCount}
 use Rattle.model.specs.Messages.{noMessage}
-use Rattle.model.specs.Site.{Site, freshSite}
-use Rattle.model.specs.SiteMemory.{siteWords, siteIn, siteRecord, siteMemory, overwrite}
+use Rattle.model.specs.Site.{Site}
+use Rattle.model.specs.SiteMemory.{siteWords, siteIn, siteRecord, siteMemory}
 use Rattle.model.specs.Coordinator.{Coordinator}
 use Rattle.model.specs.CoordinatorMemory.{coordinatorIn, coordinatorRecord, coordinatorMemory}
 use Rattle.model.specs.Network.{Network, siteAt, withSite, withCoordinator}
-use Rattle.model.specs.NetworkMemory.{siteRecords, sitesMemory}
+use Rattle.model.specs.NetworkMemory.{sitesMemory}
 use Rattle.model.specs.DeliveryClaims.{Delivery, delivery}
 use Rattle.coordinator_steps.proofs.MemoryLaws.{written-coordinator}
-use Rattle.network_memory.proofs.OneSite.{Storable, overwritten-again}
-use Rattle.network_memory.proofs.SitesMemoryLaws.{AllStorable, getD-siteRecords, siteRecords-set, length-sitesMemory, sitesMemory-set}
+use Rattle.network_memory.proofs.OneSite.{overwritten-again}
+use Rattle.network_memory.proofs.SitesMemoryLaws.{AllStorable, getD-siteRecords, siteRecords-set, length-sitesMemory}
 use Rattle.network_memory.proofs.SitesReading.{siteIn-sitesMemory}
 use Rattle.delivery.specs.declared.Underway.{Underway}
 use Rattle.delivery.specs.declared.Queue.{Queue}
@@ -53,7 +53,8 @@ pub record Stored (settings : Settings) (network : Network) : Type 0 where
 
 -- ---- Read from a state
 
-module _ {settings : Settings} {given : Given} {earlier : List Message} {d : Delivery} {held : State}
+module _ {settings : Settings} {given : Given} {earlier : List Message} {d : Delivery}
+    {held : State}
     (fits : Fits settings given)
     (stored : Stored settings (d .network))
     (holds : Holds settings given earlier d held) where
@@ -113,7 +114,8 @@ module _ {settings : Settings} {given : Given} {earlier : List Message} {d : Del
       ∙ written-coordinator settings (d .network .coordinator) (given .coordinatorMemory)
       (stored .coordinator-stored .estimates-length) (stored .coordinator-stored .histogram-length)
 
-  pub coordinator-memory-length : length (held .coordinatorMemory) ≡ length (given .coordinatorMemory)
+  pub coordinator-memory-length :
+      length (held .coordinatorMemory) ≡ length (given .coordinatorMemory)
   coordinator-memory-length =
       let c = d .network .coordinator in
       ap length (holds .coordinator-memory)
@@ -234,7 +236,10 @@ module _ {settings : Settings} {given : Given} {earlier : List Message}
   coordinator-again c old new =
       let was = network .coordinator in
       let same : length (was .estimates ++ was .histogram) ≤ length (c .estimates ++ c .histogram) =
-      rw (length-append (was .estimates) (was .histogram), length-append (c .estimates) (c .histogram))
+      rw (
+        length-append (was .estimates) (was .histogram),
+        length-append (c .estimates) (c .histogram),
+      )
       (omega (
         arith,
         old .estimates-length,

@@ -1,6 +1,7 @@
 -- The laws that the delivery's functions are proved by.
 pub mod BoundedLaws
 pub mod StageNumbers
+pub mod QuietSteps
 pub mod BoundedSteps
 pub mod LogLaws
 pub mod HoldingLaws
@@ -8,6 +9,7 @@ pub mod GoingLaws
 pub mod StepLaws
 pub mod DeliverLaws
 pub mod SendLaws
+pub mod ObservedLaws
 pub mod SiteLaws
 pub mod TakenLaws
 pub mod HandLaws

@@ -3,15 +3,14 @@
 --   length-messageNumbers       four numbers a message
 --   putRecord-append            the next record written: one message more stands in the log
 --   joined-queueOf, withoutHead-queueOf   the messages that wait, as code carries them
-use mathlib.Core.Path.{_≡_, refl, sym, ap, _∙_, subst⁻¹}
+use mathlib.Core.Path.{_≡_, refl, ap, _∙_, subst⁻¹}
 use mathlib.Core.List.{List, [], _∷_, _++_}
-use Prim.Native.Nat.{ℕ, zero, suc, _+_, _*_, _≤_, _<_}
+use Prim.Native.Nat.{ℕ, suc, _+_, _*_, _≤_}
 use native.Mathlib.Omega.{arith}
-use lib.ListN.{length, drop}
-use Rattle.laws.proofs.FlatMemory.{Four, four, four-suc}
+use lib.ListN.{length}
+use Rattle.laws.proofs.FlatMemory.{four, four-suc}
 use Rattle.model.specs.declared.Message.{Message}
 use Rattle.model.specs.SiteMemory.{overwrite}
-use Rattle.delivery.specs.declared.Queue.{Queue}
 use Rattle.delivery.specs.Log.{messageNumbers, putRecord}
 use Rattle.delivery.specs.Sending.{queueOf, joined, withoutHead}
 

@@ -1,13 +1,13 @@
--- A delivery that came to rest: the network then is sound and bounded, has one arrival more, and its
--- messages join those of earlier arrivals.
+-- A delivery that came to rest: the network then is sound and bounded, has one arrival more, and
+-- its messages join those of earlier arrivals.
 --
 --   rests                    the model's end of a delivery is one that was reached
 --   sound-then, bounded-then, arrivals-then   what holds of the network
 --   holds-rested             the state then holds a network at rest, with all messages so far
-use mathlib.Core.Path.{_≡_, refl, sym, ap, _∙_, subst}
+use mathlib.Core.Path.{_≡_, refl, _∙_, subst}
 use mathlib.Core.Bool.{Bool, true, false}
 use mathlib.Core.List.{List, [], _∷_, _++_, append-nil}
-use Prim.Native.Nat.{ℕ, zero, suc, _+_, _*_, _≤_, _<_}
+use Prim.Native.Nat.{ℕ, zero, suc, _+_, _<_}
 use native.Mathlib.Omega.{arith}
 use lib.ListN.{length}
 use Rattle.model.specs.declared.Settings.{Settings}
@@ -27,7 +27,8 @@ use Rattle.site_steps.proofs.ReceiveLaws.{message-due}
 use Rattle.delivery.specs.Bounded.{Bounded}
 use Rattle.delivery.specs.Holding.{Given, State, Holds, Accepting, rested}
 use Rattle.delivery.proofs.BoundedLaws.{allArrivals-set}
-use Rattle.delivery.proofs.BoundedSteps.{quiet-site, reached-bounded}
+use Rattle.delivery.proofs.QuietSteps.{quiet-site}
+use Rattle.delivery.proofs.BoundedSteps.{reached-bounded}
 use Rattle.delivery.proofs.StageNumbers.{at-stage}
 use Rattle.delivery.proofs.GoingLaws.{going-fit, going-taken}
 
@@ -150,7 +151,8 @@ pub holds-rested : {settings : Settings} {given : Given} {earlier : List Message
     → Holds settings given earlier (delivery network [] messages) held
     → Holds settings given (earlier ++ messages) (delivery network [] []) held
 holds-rested {earlier = earlier} network messages holds =
-    let same : (earlier ++ messages) ++ [] ≡ earlier ++ messages = append-nil (earlier ++ messages) in
+    let same : (earlier ++ messages) ++ [] ≡ earlier ++ messages =
+    append-nil (earlier ++ messages) in
     record {
       records = holds .records;
       counted = rw same (holds .counted);

@@ -2,16 +2,16 @@
 --
 --   some-asks       what sending the first asks, if there is one
 --   second-asks     what sending the second asks, if there are two
---   two-sent, two-logged   when both went out
-use mathlib.Core.Path.{_≡_, refl, sym, ap, _∙_}
+--   two-said        what is promised when both went out
+use mathlib.Core.Path.{_≡_, refl, _∙_}
 use mathlib.Core.List.{List}
-use Prim.Native.Nat.{ℕ, zero, suc, _+_, _*_, _≤_}
+use Prim.Native.Nat.{ℕ, zero, suc}
 use native.Mathlib.Omega.{arith}
-use lib.ListN.{length, set, length-set}
+use lib.ListN.{length, length-set}
 use Rattle.model.specs.declared.Message.{Message}
 use Rattle.delivery.specs.declared.Underway.{Underway}
 use Rattle.delivery.specs.Log.{putRecord}
-use Rattle.delivery.specs.Sending.{sent, sentIf, sentTwo, loggedIf, loggedTwo, SendAsks, SendTwoAsks}
+use Rattle.delivery.specs.Sending.{sent, SendAsks, SendSays, AnswerSays, SendTwoAsks, TwoSay}
 
 pub some-asks : (count : ℕ) (underway : Underway) (log : List ℕ)
     → SendTwoAsks count underway log
@@ -30,13 +30,12 @@ length-putRecord log place m = simp length-set
 module _ (count : ℕ) (underway : Underway) (first second : Message) (log : List ℕ)
     (two : count ≡ 2)
     (then : Underway) (written : List ℕ)
-    (then-is : then ≡ sentIf count underway first)
-    (written-is : written ≡ loggedIf count log (underway .written) first) where
+    (once : AnswerSays count underway first log then written) where
   then-sent : then ≡ sent underway first
-  then-sent = then-is ∙ rw two
+  then-sent = once .goes-out ∙ rw two
 
   written-put : written ≡ putRecord log (underway .written) first
-  written-put = written-is ∙ rw two
+  written-put = once .logged ∙ rw two
 
   pub second-asks : SendTwoAsks count underway log → SendAsks then written
   second-asks asks = rw (then-sent, written-put) (record {
@@ -49,12 +48,10 @@ module _ (count : ℕ) (underway : Underway) (first second : Message) (log : Lis
     count-within = omega (arith, asks .count-within);
   })
 
-  pub two-sent : (result : Underway)
-      → result ≡ sent then second
-      → result ≡ sentTwo count underway first second
-  two-sent result is = is ∙ rw (then-sent, two)
-
-  pub two-logged : (after : List ℕ)
-      → after ≡ putRecord written (then .written) second
-      → after ≡ loggedTwo count log (underway .written) first second
-  two-logged after is = is ∙ rw (written-put, then-sent, two)
+  pub two-said : {result : Underway} {after : List ℕ}
+      → SendSays then second written result after
+      → TwoSay count underway first second log result after
+  two-said twice = record {
+    go-out = twice .goes-out ∙ rw (then-sent, two);
+    logged = twice .logged ∙ rw (written-put, then-sent, two);
+  }

@@ -1,61 +1,35 @@
 -- An arrival at its site, as the code takes it: what the site's step requires, and the site
 -- written to its part of the memory.
 --
---   site-few, start-small, starts-within    the arrival's site, and where its part starts
+--   site-few, starts-small, starts-within   the arrival's site, and where its part starts
 --   observe-asks                            what the site's step requires
 --   site-takes                              what the state holds when the site has taken it
-use mathlib.Core.Path.{_≡_, refl, sym, ap, _∙_, subst⁻¹}
+use mathlib.Core.Path.{_≡_, ap, _∙_, subst⁻¹}
 use mathlib.Core.List.{List, [], _++_, append-nil}
-use Prim.Native.Nat.{ℕ, _+_, _-_, _*_, _≤_, _<_}
-use native.Mathlib.Nat.{mul-le-mul, le-of-lt}
+use Prim.Native.Nat.{ℕ, _-_, _*_, _≤_, _<_}
 use native.Mathlib.Omega.{arith}
-use lib.ListN.{length, getD, set, take, drop, length-set, length-drop, drop-of-length-le}
-use lib.Seq.{take-all}
-use Rattle.laws.proofs.Lists.{length-snoc}
+use lib.ListN.{length, getD, set, take, drop, length-drop, drop-of-length-le}
 use Rattle.model.specs.declared.Settings.{Settings}
 use Rattle.model.specs.declared.Arrival.{Arrival}
 use Rattle.model.specs.declared.SiteRecord.{SiteRecord}
-use Rattle.model.specs.Counters.{Counter, counterAt, Placement, own, unused, replaced, oneMoreOf, firstOf, replacing, countersAfter}
-use Rattle.model.specs.Site.{Site, SiteStep, observed, placementIn}
+use Rattle.model.specs.Site.{Site, SiteStep, observed}
 use Rattle.model.specs.SiteMemory.{siteWords, siteIn, siteRecord, siteMemory}
-use Rattle.model.specs.Network.{Network, siteAt}
+use Rattle.model.specs.Network.{siteAt}
 use Rattle.model.specs.NetworkMemory.{sitesMemory}
-use Rattle.model.proofs.SoundSites.{ArrivalTaken, sound-observed}
+use Rattle.model.proofs.SoundSites.{sound-observed}
 use Rattle.site_memory.specs.Ready.{SiteReady}
-use Rattle.site_memory.proofs.ValueLaws.{valueCount-is}
 use Rattle.site_steps.specs.declared.Observed.{Observed}
 use Rattle.site_steps.specs.Steps.{ObserveAsks, ObserveStepSays}
-use Rattle.site_steps.proofs.ObserveMemory.{length-countersReported}
 use Rattle.network_memory.specs.Records.{noRecord}
-use Rattle.network_memory.proofs.OneSite.{Storable}
 use Rattle.network_memory.proofs.SitesMemoryLaws.{sitesMemory-set}
+use Rattle.network_memory.proofs.SitePart.{few-sites, start-small, part, part-is}
 use Rattle.delivery.specs.Sending.{queueOf}
 use Rattle.delivery.specs.Holding.{State, state, Holds, Fits}
 use Rattle.delivery.specs.Arriving.{ArrivalAsks, stepAt, takenAt, Taken, outOf, putBack}
 use Rattle.delivery.proofs.StageNumbers.{site-ready}
+use Rattle.delivery.proofs.ObservedLaws.{observed-grows}
 use Rattle.delivery.proofs.HoldingLaws.{Stored, part-long, part-starts, site-read, holds-site}
 use Rattle.delivery.proofs.GoingLaws.{stored-of-sound, going-fit, going-taken}
-
--- ---- The counters of a site never become fewer
-
-counters-grow : (placement : Placement) (counters : List Counter) (item : ℕ)
-    → length counters ≤ length (countersAfter placement counters item)
-counters-grow (own place) counters item =
-    omega (arith, length-set counters place (oneMoreOf (counterAt counters place)))
-counters-grow unused counters item = rw (length-snoc counters (firstOf item)) (omega arith)
-counters-grow (replaced place) counters item =
-    omega (arith, length-set counters place (replacing (counterAt counters place) item))
-
-observed-grows : (settings : Settings) (site : Site) (arrival : Arrival)
-    → length (site .counters) ≤ length (observed settings site arrival .site .counters)
-observed-grows settings site arrival =
-    omega (
-      arith,
-      length-countersReported settings site arrival,
-      counters-grow (placementIn settings site arrival) (site .counters) (arrival .item),
-    )
-
--- ---- The arrival
 
 module _ {settings : Settings} {arrival : Arrival} {held : State}
     (u : ArrivalAsks settings arrival held) where
@@ -80,13 +54,10 @@ module _ {settings : Settings} {arrival : Arrival} {held : State}
   site-known = going-taken (u .accepting) .known .site-known
 
   pub site-few : j < 32
-  site-few = omega (arith, site-known, going-fit (u .accepting) .sites .at-most)
+  site-few = few-sites (going-fit (u .accepting)) site-known
 
-  pub start-small : j * siteWords settings ≤ 32 * 13024
-  start-small =
-      let few : settings .capacity ≤ 3000 = going-fit (u .accepting) .capacity .at-most in
-      let words : siteWords settings ≤ 13024 = omega (arith, valueCount-is) in
-      mul-le-mul (le-of-lt site-few) words
+  pub starts-small : j * siteWords settings ≤ 32 * 13024
+  starts-small = start-small (going-fit (u .accepting)) site-known
 
   pub starts-within : j * siteWords settings ≤ length (held .siteMemory)
   starts-within = part-starts fits stored (u .holds) j site-known
@@ -95,24 +66,20 @@ module _ {settings : Settings} {arrival : Arrival} {held : State}
   module _ (numbers : SiteRecord) (words : ℕ)
       (numbers-are : numbers ≡ getD (held .underway .sites .records) j noRecord)
       (words-are : words ≡ siteWords settings) where
-    abbrev part : List ℕ
-    part = take (length (held .siteMemory) - j * words) (drop (j * words) (held .siteMemory))
+    abbrev own : List ℕ
+    own = part (held .siteMemory) j words
 
-    part-is : part ≡ drop (j * siteWords settings) (held .siteMemory)
-    part-is =
-        rw words-are
-        (take-all (length (held .siteMemory) - j * siteWords settings)
-        (drop (j * siteWords settings) (held .siteMemory))
-        (omega (arith, length-drop (j * siteWords settings) (held .siteMemory))))
+    own-is : own ≡ drop (j * siteWords settings) (held .siteMemory)
+    own-is = part-is settings (held .siteMemory) j words words-are
 
-    read : siteIn settings numbers part ≡ site
-    read = rw (numbers-are, part-is) (site-read fits stored (u .holds) j site-known)
+    read : siteIn settings numbers own ≡ site
+    read = rw (numbers-are, own-is) (site-read fits stored (u .holds) j site-known)
 
-    pub observe-asks : ObserveAsks settings numbers arrival part
+    pub observe-asks : ObserveAsks settings numbers arrival own
     observe-asks = record {
       ready = record {
         settings-accepted = fits .settings-accepted;
-        long-enough = rw part-is (part-long fits stored (u .holds) j site-known);
+        long-enough = rw own-is (part-long fits stored (u .holds) j site-known);
         site-ready = subst⁻¹ (SiteReady settings) read
             (site-ready (u .accepting .sound .sites-sound j site-known));
       };
@@ -120,7 +87,7 @@ module _ {settings : Settings} {arrival : Arrival} {held : State}
     }
 
     module _ (answer : Observed) (part-after : List ℕ)
-        (says : ObserveStepSays settings numbers arrival part part-after answer) where
+        (says : ObserveStepSays settings numbers arrival own part-after answer) where
       -- The memory with the part put back in its place.
       abbrev memory-after : List ℕ
       memory-after =
@@ -138,8 +105,8 @@ module _ {settings : Settings} {arrival : Arrival} {held : State}
           (omega (arith, length-drop start memory)) in
           let written : part-after ≡ siteMemory settings (after .site) (drop start memory) =
           says .memory
-          ∙ ap (λ (x : Site). siteMemory settings (observed settings x arrival .site) part) read
-          ∙ ap (siteMemory settings (after .site)) part-is in
+          ∙ ap (λ (x : Site). siteMemory settings (observed settings x arrival .site) own) read
+          ∙ ap (siteMemory settings (after .site)) own-is in
           let sound = u .accepting .sound .sites-sound j site-known in
           let sound-after =
           sound-observed (going-fit (u .accepting) .capacity .at-least) (going-taken (u .accepting))

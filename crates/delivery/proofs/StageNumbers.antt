@@ -1,36 +1,34 @@
--- In mid-delivery every number is small enough for the steps: what the steps of the sites and of the
--- coordinator require, from the stage that the delivery is at. PROOF.md section 7.
+-- In mid-delivery every number is small enough for the steps: what the steps of the sites and of
+-- the coordinator require, from the stage that the delivery is at. PROOF.md section 7.
 --
 --   total-small, sum-small, arrivals-small    at most k * 10^9 each
 --   site-ready                                a sound site as the steps on it ask for it
 --   coordinator-ready                         the coordinator as its steps ask for it
 -- Letters: k the sites, j one of them.
-use mathlib.Core.Path.{_≡_, refl, sym, ap, _∙_}
+use mathlib.Core.Path.{_≡_, refl}
 use mathlib.Core.Bool.{Bool, true, false}
 use mathlib.Core.List.{List}
-use Prim.Native.Nat.{ℕ, _+_, _*_, _≤_, _<_}
+use Prim.Native.Nat.{ℕ, _*_, _≤_}
 use native.Mathlib.Nat.{mul-le-mul-right}
 use native.Mathlib.Omega.{arith}
 use lib.Dec.{ltb}
-use lib.ListN.{length, getD}
 use Rattle.laws.proofs.Sums.{sumBelow-le, sumBelow-const}
 use Rattle.model.specs.declared.Settings.{Settings}
 use Rattle.model.specs.declared.Message.{Message}
 use Rattle.model.specs.declared.Phase.{Phase}
 use Rattle.model.specs.declared.Phase.the-variants.{Idle, Announcing}
 use Rattle.model.specs.Limits.{siteLimit}
-use Rattle.model.specs.Counters.{Counter}
-use Rattle.model.specs.Site.{Site, freshSite}
-use Rattle.model.specs.Network.{Network, siteAt}
+use Rattle.model.specs.Site.{Site}
+use Rattle.model.specs.Network.{Network}
 use Rattle.model.specs.NetworkMemory.{allArrivals}
-use Rattle.model.specs.SoundNetwork.{SoundCounter, SoundSite, sumOfPhase}
+use Rattle.model.specs.SoundNetwork.{SoundSite, sumOfPhase}
 use Rattle.model.proofs.SettingsLaws.{Settled}
 use Rattle.model.proofs.SitesInvariant.{arrivalsAt}
 use Rattle.model.proofs.ClosedSites.{sumBelow-allArrivals}
 use Rattle.model.proofs.Together.{Together, total-bounded}
 use Rattle.model.proofs.Stages.{Announces, Stage, reporting, polling, halving, announcing}
 use Rattle.model.proofs.StageFacts.{stage-coordinator}
-use Rattle.site_memory.specs.Ready.{CounterReady, SiteReady}
+use Rattle.site_memory.specs.Ready.{SiteReady}
 use Rattle.coordinator_steps.specs.Ready.{CoordinatorReady}
 use Rattle.delivery.specs.Bounded.{Bounded}
 
@@ -113,7 +111,8 @@ module _ {settings : Settings} {network : Network} {waiting : List Message} {lef
 
 -- ---- The coordinator
 
-pub coordinator-ready : {settings : Settings} {network : Network} {waiting : List Message} {left : ℕ}
+pub coordinator-ready : {settings : Settings} {network : Network} {waiting : List Message}
+    {left : ℕ}
     → Settled settings
     → Stage settings network waiting left
     → Bounded network waiting

@@ -1,52 +1,32 @@
--- One step of a delivery, as the code takes it: what the steps of the coordinator and of a site require
--- there, and what the state holds when the answer went out.
+-- One step of a delivery, as the code takes it: what the steps of the coordinator and of a site
+-- require there, and what the state holds when the answer went out.
 --
 --   none-waits, handing        the messages that wait, from their number and head
 --   Asking, ask-asks, asked-sends, asked-holds       the next kind 7 is asked for
---   coordinator-asks, coordinator-sends, coordinator-holds   a message for the coordinator
---   site-asks, site-sends, site-holds                a message for a site
 use mathlib.Core.Path.{_≡_, refl, sym, ap, _∙_, subst, subst⁻¹, subst₂}
-use mathlib.Core.Bool.{Bool, true, false, _||_, not}
+use mathlib.Core.Bool.{true}
 use mathlib.Core.List.{List, [], _∷_, _++_}
-use Prim.Native.Nat.{ℕ, zero, suc, _+_, _-_, _*_, _≤_, _<_}
+use Prim.Native.Nat.{ℕ, _*_, _≤_}
 use native.Mathlib.Omega.{arith}
-use lib.ListN.{length, getD, set, take, drop, length-append, length-drop}
-use lib.Seq.{take-all}
+use lib.ListN.{length, getD, length-append}
 use Rattle.model.specs.declared.Settings.{Settings}
-use Rattle.model.specs.declared.Arrival.{Arrival}
 use Rattle.model.specs.declared.Message.{Message}
-use Rattle.model.specs.declared.Sites.{Sites}
-use Rattle.model.specs.declared.SiteRecord.{SiteRecord}
-use Rattle.model.specs.Refusals.{accepted}
-use Rattle.model.specs.Choice.{isZero}
-use Rattle.model.specs.Messages.{noMessage, toCoordinator}
-use Rattle.model.specs.Site.{Site, SiteStep, siteReceives}
-use Rattle.model.specs.SiteMemory.{siteWords, siteIn, siteRecord}
-use Rattle.model.specs.Coordinator.{Coordinator, CoordinatorStep, coordinatorReceives, announced, isAnnouncing}
+use Rattle.model.specs.Messages.{noMessage}
+use Rattle.model.specs.Coordinator.{Coordinator, CoordinatorStep, announced, isAnnouncing}
 use Rattle.model.specs.CoordinatorMemory.{coordinatorIn, coordinatorMemory}
-use Rattle.model.specs.Network.{Network, siteAt, withSite, withCoordinator, handOver, askAnnouncement}
-use Rattle.model.specs.NetworkMemory.{sitesMemory}
-use Rattle.model.specs.DeliveryClaims.{Delivery, delivery, joining, deliveryStep, messageRefusal}
-use Rattle.model.proofs.MidDelivery.{hand-on}
+use Rattle.model.specs.Network.{Network, withCoordinator, handOver, askAnnouncement}
+use Rattle.model.specs.DeliveryClaims.{Delivery, delivery, joining, deliveryStep}
 use Rattle.model.proofs.StageFacts.{stage-coordinator}
-use Rattle.site_memory.specs.Ready.{SiteReady, StepReady}
-use Rattle.site_steps.specs.declared.Answered as SiteAnswer
-use Rattle.site_steps.specs.Steps.{ReceiveAsks, receivedIn, ReceiveStepSays}
-use Rattle.site_steps.proofs.ReceiveLaws.{Due, message-due}
 use Rattle.coordinator_steps.specs.declared.Answered as CoordinatorAnswer
-use Rattle.coordinator_steps.specs.Steps.{answerOf, Does}
-use Rattle.coordinator_steps.specs.Ready.{CoordinatorReady, StepAsks, AnnounceAsks}
-use Rattle.network_memory.proofs.SitesMemoryLaws.{sitesMemory-kept}
+use Rattle.coordinator_steps.specs.Steps.{answerOf}
+use Rattle.coordinator_steps.specs.Ready.{AnnounceAsks}
 use Rattle.delivery.specs.declared.Queue.{Queue}
 use Rattle.delivery.specs.declared.Underway.{Underway}
-use Rattle.network_memory.specs.Records.{noRecord, withRecord}
-use Rattle.delivery.specs.Sending.{queueOf, withoutHead, sentIf, loggedIf, SendAsks}
+use Rattle.delivery.specs.Sending.{queueOf, SendAsks, AnswerSays}
 use Rattle.delivery.specs.Holding.{Given, State, state, Holds, Fits, Going, Delivering, goesOn}
-use Rattle.delivery.proofs.StageNumbers.{at-stage, site-ready, coordinator-ready}
-use Rattle.delivery.proofs.BoundedSteps.{answers-one, quiet-site, quiet-announced}
-use Rattle.delivery.proofs.LogLaws.{withoutHead-queueOf}
-use Rattle.delivery.proofs.HoldingLaws.{Stored, StoredCoordinator, record-read, part-long, part-starts, site-read, coordinator-read, coordinator-memory-length, send-asks, holds-answer, holds-coordinator, coordinator-again, holds-site}
-use Rattle.delivery.proofs.GoingLaws.{going-fit, going-stage, going-bounded, going-stored, going-room, going-handed, going-asked, stored-coordinator}
+use Rattle.delivery.proofs.QuietSteps.{quiet-announced}
+use Rattle.delivery.proofs.HoldingLaws.{coordinator-read, send-asks, holds-answer, holds-coordinator}
+use Rattle.delivery.proofs.GoingLaws.{going-fit, going-stage, going-stored, going-room, going-asked}
 
 -- ---- The messages that wait
 
@@ -73,7 +53,8 @@ head-waits queue (m ∷ rest) is some = record {
 }
 
 -- A delivery whose head is the message that the code sees.
-pub record Handing (settings : Settings) (held : State) (u : Delivering settings held) : Type 0 where
+pub record Handing (settings : Settings) (held : State) (u : Delivering settings held)
+    : Type 0 where
   pub rest : List Message
   pub going : Going settings (u .given) (u .earlier) (u .network) (u .arrival) (u .steps)
       (delivery (u .now .network) (held .underway .waiting .first ∷ rest) (u .now .log))
@@ -159,16 +140,15 @@ module _ {settings : Settings} {given : Given} {earlier : List Message}
   pub answer-holds : length out ≤ 1
       → m ≡ getD out 0 noMessage
       → length waiting ≤ 1
-      → (result : Underway) (written : List ℕ)
-      → result ≡ sentIf count (held .underway) m
-      → written ≡ loggedIf count (held .log) (held .underway .written) m
+      → {result : Underway} {written : List ℕ}
+      → AnswerSays count (held .underway) m (held .log) result written
       → Holds settings given earlier (delivery network (waiting ++ out) (log ++ out))
       (state result (held .siteMemory) (held .coordinatorMemory) written)
-  answer-holds one m-is few result written result-is written-is =
+  answer-holds one m-is few said =
       subst₂ (λ (r : Underway) (l : List ℕ).
       Holds settings given earlier (delivery network (waiting ++ out) (log ++ out))
       (state r (held .siteMemory) (held .coordinatorMemory) l))
-      (sym result-is) (sym written-is)
+      (sym (said .goes-out)) (sym (said .logged))
       (holds-answer out count m holds one count-is m-is few room)
 
 -- ---- The next kind 7
@@ -189,7 +169,9 @@ module _ {settings : Settings} {held : State} (u : Delivering settings held)
 
   module _ (answer : CoordinatorAnswer.Answered)
       (is : (memory : List ℕ)
-      → answer ≡ answerOf (announced settings (coordinatorIn settings (held .underway .coordinator) memory))) where
+      → answer
+      ≡ answerOf
+      (announced settings (coordinatorIn settings (held .underway .coordinator) memory))) where
     abbrev after : CoordinatorStep
     after = announced settings c
 
@@ -230,15 +212,14 @@ module _ {settings : Settings} {held : State} (u : Delivering settings held)
         answer-sends changed (after .messages) (answer .count) (answer .out) count-is room
         (ask .going .accepting .fits)
 
-    pub asked-holds : (result : Underway) (written : List ℕ)
-        → result ≡ sentIf (answer .count) next (answer .out)
-        → written ≡ loggedIf (answer .count) (held .log) (held .underway .written) (answer .out)
+    pub asked-holds : {result : Underway} {written : List ℕ}
+        → AnswerSays (answer .count) next (answer .out) (held .log) result written
         → Holds settings (u .given) (u .earlier) (deliveryStep settings (u .now))
         (state result (held .siteMemory) (held .coordinatorMemory) written)
-    asked-holds result written result-is written-is =
+    asked-holds {result} {written} said =
         subst⁻¹ (λ (d : Delivery). Holds settings (u .given) (u .earlier) d
         (state result (held .siteMemory) (held .coordinatorMemory) written)) (ask .step-is)
         (answer-holds changed (after .messages) (answer .count) (answer .out) count-is room
         (quiet-announced settings c (c .phase) .one-answer)
         (ap (λ (a : CoordinatorAnswer.Answered). a .out) answer-is)
-        (omega arith) result written result-is written-is)
+        (omega arith) said)

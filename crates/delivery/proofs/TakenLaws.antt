@@ -5,76 +5,28 @@
 --   begun-holds          what the state holds when they went out
 --   delivering-begun     the delivery then goes on
 --   quiet-rests          without messages, its delivery has come to its end
-use mathlib.Core.Path.{_≡_, refl, sym, ap, _∙_, subst, subst₂}
-use mathlib.Core.Bool.{Bool, true, false}
-use mathlib.Core.List.{List, [], _∷_, _++_}
-use Prim.Native.Nat.{ℕ, _+_, _*_, _≤_}
+use mathlib.Core.Path.{_≡_, sym, ap, subst, subst₂}
+use mathlib.Core.Bool.{false}
+use mathlib.Core.List.{List, [], _++_}
+use Prim.Native.Nat.{ℕ, _*_, _≤_}
 use native.Mathlib.Omega.{arith}
-use lib.ListN.{length, getD, length-append}
+use lib.ListN.{length, length-append}
 use Rattle.model.specs.declared.Settings.{Settings}
 use Rattle.model.specs.declared.Arrival.{Arrival}
 use Rattle.model.specs.declared.Message.{Message}
-use Rattle.model.specs.declared.Phase.{Phase}
-use Rattle.model.specs.Messages.{noMessage}
-use Rattle.model.specs.Site.{Site, observed, reportsItem, reportsCount}
 use Rattle.model.specs.Coordinator.{isAnnouncing}
 use Rattle.model.specs.Network.{Network, siteAt, afterArrival}
-use Rattle.model.specs.DeliveryClaims.{Delivery, delivery, deliveryOf}
+use Rattle.model.specs.DeliveryClaims.{Delivery, deliveryOf}
 use Rattle.model.specs.SoundClaims.{begun}
 use Rattle.delivery.specs.declared.Queue.{Queue}
 use Rattle.delivery.specs.declared.Underway.{Underway}
-use Rattle.delivery.specs.Sending.{queueOf, sentTwo, loggedTwo, SendTwoAsks}
-use Rattle.delivery.specs.Holding.{Given, State, state, Holds, Accepting, Going, Delivering, rested}
+use Rattle.delivery.specs.Sending.{SendTwoAsks, TwoSay}
+use Rattle.delivery.specs.Holding.{Given, State, state, Holds, Going, Delivering, rested}
 use Rattle.delivery.specs.Arriving.{stepAt, Taken, MessagesAsk}
-use Rattle.delivery.proofs.HoldingLaws.{log-length, holds-sent}
+use Rattle.delivery.proofs.ObservedLaws.{messages-two, holds-two}
+use Rattle.delivery.proofs.HoldingLaws.{log-length}
 use Rattle.delivery.proofs.GoingLaws.{going-room, going-ends}
 use Rattle.delivery.proofs.StepLaws.{none-waits}
-
--- ---- The messages of an arrival
-
-messages-two : (settings : Settings) (site : Site) (arrival : Arrival)
-    → length (observed settings site arrival .messages) ≤ 2
-messages-two settings site arrival =
-    by-due (reportsItem settings site arrival) refl (reportsCount site) refl
-  where
-    by-due : (itemDue : Bool) → reportsItem settings site arrival ≡ itemDue
-        → (countDue : Bool) → reportsCount site ≡ countDue
-        → length (observed settings site arrival .messages) ≤ 2
-    by-due true item-is true count-is = rw (item-is, count-is) (omega arith)
-    by-due true item-is false count-is = rw (item-is, count-is) (omega arith)
-    by-due false item-is true count-is = rw (item-is, count-is) (omega arith)
-    by-due false item-is false count-is = rw (item-is, count-is) (omega arith)
-
--- Two messages at most go out when nothing waits.
-holds-two : {settings : Settings} {given : Given} {earlier : List Message} {network : Network}
-    {held : State} (out : List Message) (count : ℕ) (first second : Message)
-    → Holds settings given earlier (delivery network [] []) held
-    → length out ≤ 2
-    → count ≡ length out
-    → first ≡ getD out 0 noMessage
-    → second ≡ getD out 1 noMessage
-    → 4 * length (earlier ++ out) ≤ length (given .log)
-    → Holds settings given earlier (delivery network out out)
-    (state (sentTwo count (held .underway) first second) (held .siteMemory)
-    (held .coordinatorMemory)
-    (loggedTwo count (held .log) (held .underway .written) first second))
-holds-two [] count first second holds few count-is first-is second-is room = rw count-is holds
-holds-two {earlier = earlier} (x ∷ []) count first second holds few count-is first-is second-is room =
-    rw (count-is, first-is)
-    (holds-sent x holds (omega arith)
-    (omega (arith, length-append earlier (x ∷ []), length-append {A = Message} earlier [])))
-holds-two {earlier = earlier} (x ∷ (y ∷ [])) count first second holds few count-is first-is second-is
-    room =
-    rw (count-is, first-is, second-is)
-    (holds-sent y
-    (holds-sent x holds (omega arith)
-    (omega (arith, length-append earlier (x ∷ (y ∷ [])), length-append {A = Message} earlier [])))
-    (omega arith)
-    (omega (arith, length-append earlier (x ∷ (y ∷ [])), length-append earlier (x ∷ []))))
-holds-two (x ∷ (y ∷ (z ∷ out))) count first second holds few count-is first-is second-is room =
-    absurd (omega arith)
-
--- ---- The arrival that was taken
 
 module _ {settings : Settings} {given : Given} {earlier : List Message} {network : Network}
     {arrival : Arrival} {out : Queue} {held : State}
@@ -115,17 +67,15 @@ module _ {settings : Settings} {given : Given} {earlier : List Message} {network
             omega (arith, holds .counted, holds .written, taken .accepting .fits .count-within);
       }
 
-  pub begun-holds : (result : Underway) (written : List ℕ)
-      → result ≡ sentTwo (out .count) (held .underway) (out .first) (out .second)
-      → written
-      ≡ loggedTwo (out .count) (held .log) (held .underway .written) (out .first) (out .second)
+  pub begun-holds : {result : Underway} {written : List ℕ}
+      → TwoSay (out .count) (held .underway) (out .first) (out .second) (held .log) result written
       → Holds settings given earlier (deliveryOf settings network arrival)
       (state result (held .siteMemory) (held .coordinatorMemory) written)
-  begun-holds result written result-is written-is =
+  begun-holds said =
       subst₂ (λ (r : Underway) (l : List ℕ).
       Holds settings given earlier (deliveryOf settings network arrival)
       (state r (held .siteMemory) (held .coordinatorMemory) l))
-      (sym result-is) (sym written-is)
+      (sym (said .go-out)) (sym (said .logged))
       (holds-two messages (out .count) (out .first) (out .second) (taken .holds) few count-is
       (ap (λ (q : Queue). q .first) (taken .out-is))
       (ap (λ (q : Queue). q .second) (taken .out-is))

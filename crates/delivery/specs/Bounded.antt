@@ -1,7 +1,7 @@
--- How large the coordinator's numbers may grow within a call, for every network that passes refusal 11,
--- arisen or not: an estimate and all unreported arrivals together grow by at most 1 an arrival
--- (PROOF.md S7), so that they stay far below what 64 bits hold. (A number may pass 100,000,000,000
--- within a call; the next call says 11.)
+-- How large the coordinator's numbers may grow within a call, for every network that passes
+-- refusal 11, arisen or not: an estimate and all unreported arrivals together grow by at most 1
+-- an arrival (PROOF.md S7), so that they stay far below what 64 bits hold. (A number may pass
+-- 100,000,000,000 within a call; the next call says 11.)
 --
 --   unreportedIn counters, allUnreported sites   their unreported arrivals; 0 of none
 --   itemsWaiting messages                        what the kinds 1 among them will add; 0 of none

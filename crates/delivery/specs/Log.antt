@@ -1,4 +1,5 @@
--- The log of the batch call: "A message is four numbers: kind, deck, a, b", one record after another.
+-- The log of the batch call: "A message is four numbers: kind, deck, a, b", one record after
+-- another.
 --
 --   logRoom log                   the records that a log has place for: four numbers each
 --   messageNumbers messages       the numbers of messages, as the log holds them

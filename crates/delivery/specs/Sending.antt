@@ -5,7 +5,9 @@
 --   joined, withoutHead           a message waits last; the head is taken
 --   sent, sentIf, sentTwo         a message goes out; only if there is one; none, one or two
 --   loggedIf, loggedTwo           what is written to the log then
---   SendAsks, SendTwoAsks         what sending asks: free records, and a count that is not too large
+--   SendAsks, SendTwoAsks         what sending asks: free records, and a count not too large
+--   SendSays, AnswerSays, TwoSay  what it promises: the delivery then, and the log
+use mathlib.Core.Path.{_≡_}
 use mathlib.Core.List.{List}
 use Prim.Native.Nat.{ℕ, _+_, _*_, _≤_}
 use lib.Dec.{eqb}
@@ -89,3 +91,34 @@ pub record SendAsks (underway : Underway) (log : List ℕ) : Type 0 where
 pub record SendTwoAsks (count : ℕ) (underway : Underway) (log : List ℕ) : Type 0 where
   pub room : 4 * underway .written + 4 * count ≤ length log
   pub count-within : underway .sites .messages ≤ messageLimit + underway .written
+
+-- ---- What sending promises
+
+pub record SendSays
+    (before : Underway)
+    (m : Message)
+    (logBefore : List ℕ)
+    (after : Underway)
+    (logAfter : List ℕ) : Type 0 where
+  pub goes-out : after ≡ sent before m
+  pub logged : logAfter ≡ putRecord logBefore (before .written) m
+
+pub record AnswerSays
+    (count : ℕ)
+    (before : Underway)
+    (m : Message)
+    (logBefore : List ℕ)
+    (after : Underway)
+    (logAfter : List ℕ) : Type 0 where
+  pub goes-out : after ≡ sentIf count before m
+  pub logged : logAfter ≡ loggedIf count logBefore (before .written) m
+
+pub record TwoSay
+    (count : ℕ)
+    (before : Underway)
+    (first second : Message)
+    (logBefore : List ℕ)
+    (after : Underway)
+    (logAfter : List ℕ) : Type 0 where
+  pub go-out : after ≡ sentTwo count before first second
+  pub logged : logAfter ≡ loggedTwo count logBefore (before .written) first second

@@ -1,8 +1,8 @@
 // The delivery that an arrival sets off in a network: each message that goes out is written to the
-// log, counted and handed over, in the order of going out, to the site or the coordinator it is for,
-// until nothing waits and the coordinator is idle. These functions are internal: they test nothing,
-// and require what the batch call has tested. Every rule stands in the steps of the site and of the
-// coordinator; the delivery only carries messages.
+// log, counted and handed over, in the order of going out, to the site or the coordinator it is
+// for, until nothing waits and the coordinator is idle. These functions are internal: they test
+// nothing, and require what the batch call has tested. Every rule stands in the steps of the site
+// and of the coordinator; the delivery only carries messages.
 
 ghost use mathlib.Core.Path.{_≡_};
 ghost use Prim.Native.Nat.{_+_, _*_, _<_, _≤_};
@@ -10,7 +10,7 @@ ghost use lib.ListN.{length, getD, set};
 ghost use Rattle.model.specs.Messages.{toCoordinator};
 ghost use Rattle.network_memory.specs.Records.{noRecord, withRecord};
 ghost use Rattle.delivery.specs.Log.{putRecord};
-ghost use Rattle.delivery.specs.Sending.{nothingWaits, resting, joined, withoutHead, oneCounted, sent, sentIf, sentTwo, loggedIf, loggedTwo, SendAsks, SendTwoAsks};
+ghost use Rattle.delivery.specs.Sending.{nothingWaits, resting, joined, withoutHead, SendAsks, SendSays, AnswerSays, SendTwoAsks, TwoSay};
 ghost use Rattle.delivery.specs.Holding.{state, goesOn, Delivering, EndSays};
 ghost use Rattle.delivery.specs.Handing.{coordinatorChange, changed, HandAsks, HandSays};
 ghost use Rattle.delivery.specs.Arriving.{SiteAsks, SiteSays, MessagesAsk, MessagesSay};
@@ -33,8 +33,8 @@ pub struct Queue {
     pub second: Message,
 }
 
-// A delivery under way: the records of the network, the messages written to the log so far, and those
-// that wait.
+// A delivery under way: the records of the network, the messages written to the log so far, and
+// those that wait.
 pub struct Underway {
     pub sites: Sites,
     pub coordinator: CoordinatorRecord,
@@ -88,7 +88,8 @@ fn write_record(log: &mut [u64], place: u64, message: Message)
     log[at + 3] = message.b;
 }
 
-// The record of one site.
+// The record of one site. Internal: the batch call looks at a site that `site::address_refusal`
+// (5, 6) has let pass, in a network whose settings passed 1 to 3, so that there are at most 32.
 pub fn record_of(sites: Sites, which: usize) -> SiteRecord
     requires { ⌜ which < 32 ⌝ }
     ensures { λ r. ⌜ r ≡ getD (sites .records) which noRecord ⌝ }
@@ -134,7 +135,7 @@ pub fn at_rest(sites: Sites, coordinator: CoordinatorRecord, written: u64) -> Un
 // A message goes out: it is written to the log, counted, and waits last.
 fn send(underway: Underway, message: Message, log: &mut [u64]) -> Underway
     requires { ⌜ SendAsks underway (now log) ⌝ }
-    ensures { λ r. ⌜ (r ≡ sent underway message) × (now (log .exit) ≡ putRecord (now (log .entry)) (underway .written) message) ⌝ }
+    ensures { λ r. ⌜ SendSays underway message (now (log .entry)) r (now (log .exit)) ⌝ }
 {
     write_record(log, underway.written, message);
     let mut sites = underway.sites;
@@ -150,7 +151,7 @@ fn send(underway: Underway, message: Message, log: &mut [u64]) -> Underway
 // The answer of a step goes out, if it has one.
 fn send_answer(underway: Underway, count: u32, message: Message, log: &mut [u64]) -> Underway
     requires { ⌜ ((count ≡ 0 → ⊥) → SendAsks underway (now log)) ⌝ }
-    ensures { λ r. ⌜ (r ≡ sentIf count underway message) × (now (log .exit) ≡ loggedIf count (now (log .entry)) (underway .written) message) ⌝ }
+    ensures { λ r. ⌜ AnswerSays count underway message (now (log .entry)) r (now (log .exit)) ⌝ }
 {
     if count == 0 {
         return underway;
@@ -167,7 +168,7 @@ fn send_two(
     log: &mut [u64],
 ) -> Underway
     requires { ⌜ SendTwoAsks count underway (now log) ⌝ }
-    ensures { λ r. ⌜ (r ≡ sentTwo count underway first second) × (now (log .exit) ≡ loggedTwo count (now (log .entry)) (underway .written) first second) ⌝ }
+    ensures { λ r. ⌜ TwoSay count underway first second (now (log .entry)) r (now (log .exit)) ⌝ }
 {
     let next = send_answer(underway, count, first, log);
     if count == 2 {
@@ -210,9 +211,9 @@ fn goes_on(underway: Underway) -> bool
     }
 }
 
-// What a hand-over changes: the record of one site, the coordinator's and the messages that wait; and
-// the answer, if `count` is 1. Where the coordinator is handed a message no site's record changes, and
-// that of site 0 stands here as it is.
+// What a hand-over changes: the record of one site, the coordinator's and the messages that wait;
+// and the answer, if `count` is 1. Where the coordinator is handed a message no site's record
+// changes, and that of site 0 stands here as it is.
 pub struct Change {
     pub which: usize,
     pub site: SiteRecord,
@@ -239,9 +240,9 @@ fn coordinator_change(sites: Sites, waiting: Queue, answer: Answered) -> Change
     }
 }
 
-// One step of a delivery: the head of the messages that wait is handed over, or, where none waits, the
-// next announcement is asked for. What is under way is only read, and only what changes is handed back:
-// the records of 32 sites are not copied for a message.
+// One step of a delivery: the head of the messages that wait is handed over, or, where none waits,
+// the next announcement is asked for. What is under way is only read, and only what changes is
+// handed back: the records of 32 sites are not copied for a message.
 fn hand_over(
     settings: Settings,
     underway: Underway,
@@ -249,7 +250,8 @@ fn hand_over(
     coordinator_memory: &mut [u64],
 ) -> Change
     requires { ⌜ HandAsks settings underway (now «site_memory») (now «coordinator_memory») ⌝ }
-    ensures { λ r. ⌜ HandSays settings underway (now («site_memory» .entry)) (now («coordinator_memory» .entry)) (now («coordinator_memory» .exit)) r ⌝ }
+    ensures { λ r. ⌜ HandSays settings underway (now («site_memory» .entry))
+        (now («coordinator_memory» .entry)) (now («coordinator_memory» .exit)) r ⌝ }
 {
     let sites = underway.sites;
     let coordinator = underway.coordinator;
@@ -310,8 +312,13 @@ fn deliver(
     coordinator_memory: &mut [u64],
     log: &mut [u64],
 ) -> Underway
-    requires { ⌜ Delivering settings (state first (now «site_memory») (now «coordinator_memory») (now log)) ⌝ }
-    ensures { λ r. ⌜ EndSays settings (state first (now («site_memory» .entry)) (now («coordinator_memory» .entry)) (now (log .entry))) (state r (now («site_memory» .entry)) (now («coordinator_memory» .exit)) (now (log .exit))) ⌝ }
+    requires { ⌜ Delivering settings
+        (state first (now «site_memory») (now «coordinator_memory») (now log)) ⌝ }
+    ensures { λ r. ⌜ EndSays settings
+        (state first (now («site_memory» .entry))
+        (now («coordinator_memory» .entry)) (now (log .entry)))
+        (state r (now («site_memory» .entry))
+        (now («coordinator_memory» .exit)) (now (log .exit))) ⌝ }
 {
     let mut underway = first;
     while goes_on(underway) {

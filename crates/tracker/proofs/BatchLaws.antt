@@ -6,33 +6,26 @@
 --   holds-stopped, holds-delivered   answer and lent memory then
 --   ready-next                  a batch that took an arrival may take another
 use mathlib.Core.Path.{_≡_, refl, sym, ap, _∙_, subst}
-use mathlib.Core.Bool.{Bool, true, false}
-use mathlib.Core.List.{List, [], _∷_, _++_, append-nil}
-use Prim.Native.Nat.{ℕ, zero, suc, _+_, _-_, _*_, _/_, _≤_, _<_}
+use mathlib.Core.List.{List, append-nil}
+use Prim.Native.Nat.{ℕ, _+_, _-_, _*_, _≤_}
 use native.Mathlib.Nat.{mul-le-mul-right}
 use native.Mathlib.Omega.{arith}
-use lib.Dec.{ltb, eqb}
-use lib.ListN.{length, getD, length-append}
-use borrow.Author.Tests.{eq-eqb, ne-eqb, ltb-false, eqb-true}
+use lib.Dec.{ltb}
+use lib.ListN.{length, length-append}
+use borrow.Author.Tests.{eq-eqb, ne-eqb, ltb-false}
 use Rattle.model.specs.declared.Settings.{Settings}
 use Rattle.model.specs.declared.Arrival.{Arrival}
-use Rattle.model.specs.declared.Message.{Message}
 use Rattle.model.specs.declared.SiteRecord.{SiteRecord}
-use Rattle.model.specs.Choice.{if_then_else_, isZero}
-use Rattle.model.specs.Refusals.{when, _orElse_, accepted, logTooShort}
+use Rattle.model.specs.Refusals.{accepted, logTooShort}
 use Rattle.model.specs.Limits.{mostSites, siteLimit, mostMessages}
-use Rattle.model.specs.Network.{Network, siteAt, afterArrival}
-use Rattle.model.specs.NetworkMemory.{allArrivals}
-use Rattle.model.specs.Runs.{Batch, refusalIn, batchRefusal, batchFrom}
-use Rattle.model.specs.DeliveryClaims.{Delivery, delivery}
+use Rattle.model.specs.Network.{Network, afterArrival}
+use Rattle.model.specs.Runs.{Batch, refusalIn}
 use Rattle.model.proofs.RefusalLaws.{both-accepted, passed}
 use Rattle.model.proofs.SettingsLaws.{settled}
 use Rattle.model.proofs.DeliveryTheorem.{delivery-claims}
-use Rattle.model.proofs.SoundStages.{together-of-sound}
 use Rattle.model.proofs.SitesInvariant.{arrivalsAt}
 use Rattle.model.proofs.ClosedSites.{sumBelow-allArrivals}
 use Rattle.laws.proofs.Sums.{sumBelow-le, sumBelow-const}
-use Rattle.network_memory.specs.Records.{noRecord}
 use Rattle.delivery.specs.declared.Underway.{Underway}
 use Rattle.delivery.specs.Log.{logRoom}
 use Rattle.delivery.specs.Sending.{resting}

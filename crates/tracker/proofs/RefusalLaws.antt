@@ -4,25 +4,23 @@
 --   site-known, own-refusal                                      the site is known; its own record
 --   address-refused, arrival-refused, log-refused, not-refused   the rows, as the code has them
 --   placesRefusal-is                                             the model's refusal
-use mathlib.Core.Path.{_≡_, refl, sym, ap, _∙_}
-use mathlib.Core.Bool.{Bool, true, false}
-use mathlib.Core.List.{List, [], _++_}
-use Prim.Native.Nat.{ℕ, _+_, _-_, _*_, _/_, _≤_, _<_}
+use mathlib.Core.Path.{_≡_, ap, _∙_}
+use Prim.Native.Nat.{ℕ, _-_, _/_, _≤_, _<_}
 use native.Mathlib.Omega.{arith}
 use native.Mathlib.Decide.{decLt}
-use lib.Dec.{ltb, leb}
-use lib.ListN.{length, getD}
+use lib.Dec.{leb}
+use lib.ListN.{getD}
 use borrow.Author.Tests.{lt-ltb, le-ltb, le-leb, leb-false}
 use Rattle.model.specs.declared.Settings.{Settings}
 use Rattle.model.specs.declared.Arrival.{Arrival}
 use Rattle.model.specs.declared.Sites.{Sites}
 use Rattle.model.specs.declared.SiteRecord.{SiteRecord}
-use Rattle.model.specs.Refusals.{when, _orElse_, accepted, logTooShort, unknownSite}
+use Rattle.model.specs.Refusals.{accepted, logTooShort, unknownSite}
 use Rattle.model.specs.Limits.{mostMessages}
 use Rattle.model.specs.Site.{Site, addressRefusal, arrivalRefusal}
 use Rattle.model.specs.Network.{Network, siteAt}
 use Rattle.model.specs.Runs.{batchRefusal}
-use Rattle.model.proofs.RefusalLaws.{passed, refused-same, refused-first}
+use Rattle.model.proofs.RefusalLaws.{passed, refused-same}
 use Rattle.site.specs.Calls.{bareSite}
 use Rattle.network_memory.specs.Records.{noRecord}
 use Rattle.tracker.specs.Steps.{placesRefusal}

@@ -7,34 +7,30 @@
 --   walked-start, walked-open, walked-step   from the start on, arrival by arrival
 --   walked-asks                      what one arrival asks
 --   walked-done, walked-stopped      the end: no arrival is left, or one was refused
-use mathlib.Core.Path.{_≡_, refl, sym, ap, _∙_, subst, subst⁻¹}
+use mathlib.Core.Path.{_≡_, refl, sym, ap, _∙_}
 use mathlib.Core.Bool.{Bool, true, false}
 use mathlib.Core.List.{List, [], _∷_, _++_, append-nil}
-use Prim.Native.Nat.{ℕ, _+_, _-_, _*_, _≤_, _<_}
+use Prim.Native.Nat.{ℕ, _+_}
 use native.Mathlib.Omega.{arith}
 use native.Mathlib.Decide.{ℕ-discrete}
-use lib.Dec.{eqb}
 use lib.ListN.{length}
 use borrow.Author.Tests.{eq-eqb, ne-eqb}
 use Rattle.model.specs.declared.Settings.{Settings}
 use Rattle.model.specs.declared.Arrival.{Arrival}
-use Rattle.model.specs.declared.Message.{Message}
-use Rattle.model.specs.declared.Sites.{Sites}
 use Rattle.model.specs.Choice.{if_then_else_, isZero}
 use Rattle.model.specs.Refusals.{accepted}
 use Rattle.model.specs.Network.{Network}
 use Rattle.model.specs.NetworkMemory.{networkIn}
 use Rattle.model.specs.Runs.{Batch, batchFrom, freshBatch}
-use Rattle.model.specs.DeliveryClaims.{delivery}
 use Rattle.coordinator_steps.proofs.MemoryLaws.{memory-kept}
 use Rattle.network_memory.specs.Records.{noRecord}
 use Rattle.network_memory.proofs.SitesReading.{siteRecords-sitesIn, sitesMemory-sitesIn}
 use Rattle.delivery.specs.Log.{logRoom}
-use Rattle.delivery.specs.Holding.{Given, state, Holds}
+use Rattle.delivery.specs.Holding.{Given}
 use Rattle.network_tests.proofs.SoundLaws.{Passing, passing}
 use Rattle.tracker.specs.declared.BatchAnswer.{BatchAnswer}
 use Rattle.tracker.specs.Batch.{BatchCall, BatchLent, startRefusal, batchIn, BatchSays}
-use Rattle.tracker.specs.Steps.{opened, OpenSays, withOne, stoppedBy, oneRefusal, batchOne, underwayOf, BatchHolds, BatchReady, OneAsks, OneSays, lentOf}
+use Rattle.tracker.specs.Steps.{opened, OpenSays, oneRefusal, batchOne, BatchHolds, BatchReady, OneAsks, OneSays, lentOf}
 use Rattle.tracker.proofs.BatchLaws.{ready-next}
 
 -- ---- The batch with the arrivals still to come
@@ -263,7 +259,7 @@ module _ {call : BatchCall} {answer : BatchAnswer} {lent : BatchLent} where
       let log = rw all at (holds .holds .log) in
       record {
         refusal = rw (test, ← is) (holds .refusal);
-        accepted = rw (test, ← is) (holds .accepted);
+        accepted = rw test (holds .accepted ∙ ap (λ (b : Batch). b .accepted) is);
         written = rw (test, ← is) written;
         sites = rw (test, ← is) (λ i. record { records = records i; messages = counted i });
         coordinator = rw (test, ← is) (holds .holds .coordinator);

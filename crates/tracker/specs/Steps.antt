@@ -9,7 +9,7 @@
 --   OneAsks, OneSays                   one arrival of the call
 use mathlib.Core.Path.{_≡_}
 use mathlib.Core.List.{List, [], _++_}
-use Prim.Native.Nat.{ℕ, _+_, _-_, _*_, _/_, _≤_}
+use Prim.Native.Nat.{ℕ, _+_, _-_, _/_, _≤_}
 use lib.Dec.{ltb}
 use lib.ListN.{length, getD}
 use Rattle.model.specs.declared.Settings.{Settings}
@@ -20,7 +20,7 @@ use Rattle.model.specs.Choice.{if_then_else_, isZero}
 use Rattle.model.specs.Refusals.{when, _orElse_, accepted, logTooShort}
 use Rattle.model.specs.Limits.{mostSites, mostMessages}
 use Rattle.model.specs.Site.{arrivalRefusal}
-use Rattle.model.specs.Network.{Network, afterArrival}
+use Rattle.model.specs.Network.{afterArrival}
 use Rattle.model.specs.NetworkMemory.{allArrivals, networkRefusal}
 use Rattle.model.specs.Runs.{Batch, batchRefusal}
 use Rattle.model.specs.SoundNetwork.{Sound}
@@ -37,6 +37,7 @@ use Rattle.tracker.specs.Batch.{BatchLent}
 
 -- ---- The start
 
+-- Nothing is accepted and nothing written yet.
 abbrev pub opened : ℕ → Sites → CoordinatorRecord → BatchAnswer
 opened refusal sites coordinator = record {
   refusal = refusal;
@@ -74,6 +75,7 @@ pub record PlacesAsk (settings : Settings) (written numbers : ℕ) : Type 0 wher
   pub few-sites : settings .sites ≤ mostSites
   pub written-within : written ≤ numbers / 4
 
+-- The batch with one arrival more, taken with full delivery.
 abbrev pub withOne : Settings → Batch → Arrival → Batch
 withOne settings batch arrival =
     let after = afterArrival settings (batch .network) arrival in
@@ -84,6 +86,7 @@ withOne settings batch arrival =
       refusal = accepted;
     }
 
+-- The batch as it was, stopped by a refusal.
 abbrev pub stoppedBy : Batch → ℕ → Batch
 stoppedBy batch refusal = record {
   network = batch .network;
@@ -92,10 +95,12 @@ stoppedBy batch refusal = record {
   refusal = refusal;
 }
 
+-- Why the next arrival is refused: 14 by the places of the log that the messages so far leave.
 abbrev pub oneRefusal : Settings → ℕ → Batch → Arrival → ℕ
 oneRefusal settings room batch arrival =
     batchRefusal settings (batch .network) (room - length (batch .messages)) arrival
 
+-- What the next arrival comes to.
 abbrev pub batchOne : Settings → ℕ → Batch → Arrival → Batch
 batchOne settings room batch arrival =
     if isZero (oneRefusal settings room batch arrival)
@@ -104,6 +109,7 @@ batchOne settings room batch arrival =
 
 -- ---- What answer and lent memory hold
 
+-- An answer as a delivery at rest.
 abbrev pub underwayOf : BatchAnswer → Underway
 underwayOf answer = record {
   sites = answer .sites;
@@ -112,6 +118,8 @@ underwayOf answer = record {
   waiting = nothingWaits;
 }
 
+-- The answer's numbers are the batch's; its records and lent memory hold the batch's network, and
+-- the log its messages.
 pub record BatchHolds
     (settings : Settings)
     (given : Given)
@@ -123,6 +131,7 @@ pub record BatchHolds
   pub holds : Holds settings given (batch .messages) (delivery (batch .network) [] [])
       (state (underwayOf answer) (lent .siteMemory) (lent .coordinatorMemory) (lent .log))
 
+-- The network is sound and within the bounds, and counts are below what a machine number holds.
 pub record BatchReady (settings : Settings) (given : Given) (batch : Batch) : Type 0 where
   pub fits : Fits settings given
   pub sound : Sound settings (batch .network)
@@ -130,6 +139,7 @@ pub record BatchReady (settings : Settings) (given : Given) (batch : Batch) : Ty
   pub accepted-within : batch .accepted ≤ allArrivals (batch .network .sites)
   pub messages-within : length (batch .messages) ≤ logRoom (given .log)
 
+-- Answer and lent memory hold some batch that may take another arrival.
 pub record OneAsks (settings : Settings) (answer : BatchAnswer) (lent : BatchLent) : Type 0 where
   pub given : Given
   pub batch : Batch

@@ -83,9 +83,9 @@ fn one_refusal(
     }
     let which = arrival.site as usize;
     let own = delivery::record_of(sites, which);
-    let refusal = site::arrival_refusal(settings, own, arrival);
-    if refusal != ACCEPTED {
-        return refusal;
+    let of_site = site::arrival_refusal(settings, own, arrival);
+    if of_site != ACCEPTED {
+        return of_site;
     }
     let free = ((numbers / 4) as u64) - written;
     if free < 23 * (settings.sites as u64) + 2 {
@@ -114,7 +114,8 @@ fn refused_turn(number: u32) -> Turn
 }
 
 // An arrival is refused, or its site takes it. The answer is only read here, and what changes is
-// handed back: the records of 32 sites are not copied for an arrival. `numbers` is the log's length.
+// handed back: the records of 32 sites are not copied for an arrival. `numbers` is the log's
+// length.
 fn take_turn(
     settings: Settings,
     answer: BatchAnswer,

@@ -1,7 +1,6 @@
 -- `delivery::deliver` meets its contract. The invariant: the state was reached by steps of the
 -- delivery that the first state holds, whichever that is.
 use mathlib.Core.Path.{sym, _∙_}
-use native.Mathlib.Omega.{arith}
 use lib.ListN.{length}
 use borrow.Author.Needs.{needs}
 use Rattle.delivery.specs.Holding.{state, Delivering}
@@ -59,8 +58,7 @@ loop-less c =
     ∙ handed .before .before .if1 .taken in
     let says =
     answered-step (handed .hand-over .ensures) _ (settled .settle .result)
-    (settled .settle .ensures) (out .before .before .before .if2 .taken) (out .send .result) _ (out .send .ensures .0)
-    (out .send .ensures .1) in
+    (settled .settle .ensures) (out .before .before .before .if2 .taken) (out .send .ensures) in
     let u = looped .before .before .before .before .pre in
     let now = delivering-after u (looped .loop .inv u) in
     left-less now goes (says .next now)
@@ -75,8 +73,7 @@ loop-again c =
     ∙ handed .before .before .if1 .taken in
     let says =
     answered-step (handed .hand-over .ensures) _ (settled .settle .result)
-    (settled .settle .ensures) (out .before .before .before .if2 .taken) (out .send .result) _ (out .send .ensures .0)
-    (out .send .ensures .1) in
+    (settled .settle .ensures) (out .before .before .before .if2 .taken) (out .send .ensures) in
     λ u. after-step u (looped .loop .inv u) goes says
 
 loop-less-2 : tie.Need-loop-less-2 Inv-loop μ-loop

@@ -12,9 +12,7 @@ deliver-requires : tie.Need-deliver-requires
 deliver-requires c κs =
     let sent = c .before .before .before .before in
     let u = sent .before .before .before .before .before .before .before .pre in
-    let out = sent .send-two in
-    delivering-begun u
-    (begun-holds (u .taken) (out .result) _ (out .ensures .0) (out .ensures .1))
+    delivering-begun u (begun-holds (u .taken) (sent .send-two .ensures))
 
 same-length : tie.Need-same-length
 same-length c = search needs
@@ -25,12 +23,11 @@ same-length-2 c = search needs
 returns : tie.Need-returns
 returns c =
     let delivered = c .before .before .before .before in
-    let out = delivered .before .before .before .before .before .send-two in
+    let sent = delivered .before .before .before .before .before in
     record {
       delivers = λ u.
           delivered .deliver .ensures .ends
-          (delivering-begun u
-          (begun-holds (u .taken) (out .result) _ (out .ensures .0) (out .ensures .1)));
+          (delivering-begun u (begun-holds (u .taken) (sent .send-two .ensures)));
     }
 
 pub deliver-messages-spec : {M : Type 1} → statement M

@@ -5,7 +5,7 @@ use Prim.Native.Nat.{ℕ, _*_}
 use native.Mathlib.Omega.{arith}
 use Rattle.delivery.proofs.StepLaws.{handing, asking, ask-asks}
 use Rattle.delivery.proofs.HandToCoordinator.{coordinator-asks}
-use Rattle.delivery.proofs.HandToSite.{site-few, starts-within, start-small, site-asks}
+use Rattle.delivery.proofs.HandToSite.{site-few, starts-within, starts-small, site-asks}
 use Rattle.delivery.proofs.HandSteps.{asked-says, received-says, site-says}
 use borrow.Author.Needs.{needs}
 use Rattle.delivery.proofs.hand_over.Statement.{statement}
@@ -79,7 +79,7 @@ mul-start c =
     ∙ c .before .before .if2 .left in
     let at-start =
     ap (λ (z : ℕ). start .args .underway .waiting .first .site * z) (c .site-words .ensures) in
-    omega (arith, start-small u (handing u some) way, at-start)
+    omega (arith, starts-small u (handing u some) way, at-start)
 
 mul-part : tie.Need-mul-part
 mul-part c =
@@ -91,7 +91,7 @@ mul-part c =
     ∙ c .before .before .if2 .left in
     let at-start =
     ap (λ (z : ℕ). start .args .underway .waiting .first .site * z) (c .site-words .ensures) in
-    omega (arith, start-small u (handing u some) way, at-start)
+    omega (arith, starts-small u (handing u some) way, at-start)
 
 sub-part : tie.Need-sub-part
 sub-part c =

@@ -2,7 +2,7 @@
 use mathlib.Core.Path.{ap}
 use Prim.Native.Nat.{ℕ, _*_}
 use native.Mathlib.Omega.{arith}
-use Rattle.delivery.proofs.SiteLaws.{start-small, starts-within, observe-asks, site-takes}
+use Rattle.delivery.proofs.SiteLaws.{starts-small, starts-within, observe-asks, site-takes}
 use borrow.Author.Needs.{needs}
 use Rattle.delivery.proofs.observe.Statement.{statement}
 use Rattle.delivery.proofs.observe.Tie as tie
@@ -17,13 +17,13 @@ mul-start : tie.Need-mul-start
 mul-start c =
     let start = c .before .before .before in
     let words = ap (λ (z : ℕ). start .args .arrival .site * z) (c .site-words .ensures) in
-    omega (arith, start-small (start .pre .asks), words)
+    omega (arith, starts-small (start .pre .asks), words)
 
 mul-observe-step : tie.Need-mul-observe-step
 mul-observe-step c =
     let start = c .before .before .before in
     let words = ap (λ (z : ℕ). start .args .arrival .site * z) (c .site-words .ensures) in
-    omega (arith, start-small (start .pre .asks), words)
+    omega (arith, starts-small (start .pre .asks), words)
 
 sub-observe-step : tie.Need-sub-observe-step
 sub-observe-step c =

@@ -20,7 +20,11 @@ same-length c = search needs
 
 returns : tie.Need-returns
 returns c =
-    (rw (c .join .ensures), c .before .before .before .before .before .before .before .write-record .ensures)
+    let written = c .before .before .before .before .before .before .before in
+    record {
+      goes-out = rw (c .join .ensures);
+      logged = written .write-record .ensures;
+    }
 
 pub send-spec : {M : Type 1} → statement M
 send-spec =

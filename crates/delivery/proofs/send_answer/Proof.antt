@@ -1,12 +1,13 @@
 -- `delivery::send_answer` meets its contract: by whether there is an answer.
-use mathlib.Core.Path.{refl}
 use borrow.Author.Tests.{eq-eqb, ne-eqb}
 use borrow.Author.Needs.{needs}
 use Rattle.delivery.proofs.send_answer.Statement.{statement}
 use Rattle.delivery.proofs.send_answer.Tie as tie
 
 returns : tie.Need-returns
-returns c = rw (eq-eqb (c .before .before .args .count) 0 (c .if1 .taken)) (refl, refl)
+returns c =
+    let none = eq-eqb (c .before .before .args .count) 0 (c .if1 .taken) in
+    record { goes-out = rw none; logged = rw none }
 
 send-requires : tie.Need-send-requires
 send-requires c κs = c .before .before .before .pre (c .before .if1 .left)
@@ -17,8 +18,9 @@ same-length c = search needs
 returns-2 : tie.Need-returns-2
 returns-2 c =
     let start = c .before .before .before .before .before .before in
-    rw (ne-eqb (start .args .count) 0 (c .before .before .before .before .if1 .left))
-    (c .before .before .send .ensures)
+    let some = ne-eqb (start .args .count) 0 (c .before .before .before .before .if1 .left) in
+    let says = c .before .before .send .ensures in
+    record { goes-out = rw some (says .goes-out); logged = rw some (says .logged) }
 
 pub send-answer-spec : {M : Type 1} → statement M
 send-answer-spec = tie.close (tie.spec returns send-requires same-length returns-2)

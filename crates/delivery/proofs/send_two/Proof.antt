@@ -1,6 +1,7 @@
--- `delivery::send_two` meets its contract: the first goes out if there is one, the second if there are two.
+-- `delivery::send_two` meets its contract: the first goes out if there is one, the second if there
+-- are two.
 use borrow.Author.Tests.{ne-eqb}
-use Rattle.delivery.proofs.SendLaws.{some-asks, second-asks, two-sent, two-logged}
+use Rattle.delivery.proofs.SendLaws.{some-asks, second-asks, two-said}
 use borrow.Author.Needs.{needs}
 use Rattle.delivery.proofs.send_two.Statement.{statement}
 use Rattle.delivery.proofs.send_two.Tie as tie
@@ -12,25 +13,23 @@ send-answer-requires c κs =
 
 send-requires : tie.Need-send-requires
 send-requires c κs =
-    let start = c .before .before .before .before .before .before .before in
-    let once = c .before .before .before .before .send-answer in
-    second-asks (start .args .count) (start .args .underway) (start .args .first) (start .args .second) (start .args .log .now) (c .before .if1 .taken)
-    (once .result) (once .last .1 .1 .1 .0) (once .ensures .0) (once .ensures .1) (start .pre)
+    let called = c .before .before .before .before in
+    let start = called .before .before .before in
+    let a = start .args in
+    second-asks (a .count) (a .underway) (a .first) (a .second) (a .log .now)
+    (c .before .if1 .taken)
+    _ _ (called .send-answer .ensures) (start .pre)
 
 same-length : tie.Need-same-length
 same-length c = search needs
 
 returns : tie.Need-returns
 returns c =
-    let start = c .before .before .before .before .before .before .before .before .before .before in
-    let once = c .before .before .before .before .before .before .before .send-answer in
-    let two = c .before .before .before .before .if1 .taken in
-    let twice = c .before .before .send in (
-      two-sent (start .args .count) (start .args .underway) (start .args .first) (start .args .second) (start .args .log .now) two
-          (once .result) (once .last .1 .1 .1 .0) (once .ensures .0) (once .ensures .1) (twice .result) (twice .ensures .0),
-      two-logged (start .args .count) (start .args .underway) (start .args .first) (start .args .second) (start .args .log .now) two
-          (once .result) (once .last .1 .1 .1 .0) (once .ensures .0) (once .ensures .1) (twice .last .1 .1 .0) (twice .ensures .1),
-    )
+    let tested = c .before .before .before .before in
+    let called = tested .before .before .before in
+    let a = called .before .before .before .args in
+    two-said (a .count) (a .underway) (a .first) (a .second) (a .log .now) (tested .if1 .taken)
+    _ _ (called .send-answer .ensures) (c .before .before .send .ensures)
 
 same-length-2 : tie.Need-same-length-2
 same-length-2 c = search needs
@@ -39,7 +38,8 @@ returns-2 : tie.Need-returns-2
 returns-2 c =
     let start = c .before .before .before .before .before .before in
     let once = c .before .before .before .send-answer in
-    rw (ne-eqb (start .args .count) 2 (c .if1 .left)) (once .ensures .0, once .ensures .1)
+    let one = ne-eqb (start .args .count) 2 (c .if1 .left) in
+    record { go-out = rw one (once .ensures .goes-out); logged = rw one (once .ensures .logged) }
 
 pub send-two-spec : {M : Type 1} → statement M
 send-two-spec =

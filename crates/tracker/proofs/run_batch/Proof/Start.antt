@@ -3,7 +3,7 @@
 --
 --   begins   the body of the function
 -- Numbers behind `look`, `init`, `forget` and `move` count the context's items, as in Ending.
-use mathlib.Core.Path.{_≡_, refl, ap, subst}
+use mathlib.Core.Path.{refl, ap, subst}
 use Prim.Native.Nat.{ℕ}
 use mathlib.Core.List.{List, [], _∷_}
 use lib.Dec.{lit<}

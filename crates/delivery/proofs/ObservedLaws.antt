@@ -1,0 +1,89 @@
+-- What an arrival at its site comes to: two messages at most, which go out, and never fewer
+-- counters.
+--
+--   messages-two, holds-two   its messages
+--   observed-grows            its counters
+use mathlib.Core.Path.{_≡_, refl}
+use mathlib.Core.Bool.{Bool, true, false}
+use mathlib.Core.List.{List, [], _∷_, _++_}
+use Prim.Native.Nat.{ℕ, _*_, _≤_}
+use native.Mathlib.Omega.{arith}
+use lib.ListN.{length, getD, length-set, length-append}
+use Rattle.laws.proofs.Lists.{length-snoc}
+use Rattle.model.specs.declared.Settings.{Settings}
+use Rattle.model.specs.declared.Arrival.{Arrival}
+use Rattle.model.specs.declared.Message.{Message}
+use Rattle.model.specs.Messages.{noMessage}
+use Rattle.model.specs.Counters.{Counter, counterAt, Placement, own, unused, replaced, oneMoreOf, firstOf, replacing, countersAfter}
+use Rattle.model.specs.Site.{Site, observed, placementIn, reportsItem, reportsCount}
+use Rattle.model.specs.SiteMemory.{siteMemory}
+use Rattle.model.specs.Network.{Network}
+use Rattle.model.specs.DeliveryClaims.{delivery}
+use Rattle.site_steps.proofs.ObserveMemory.{length-countersReported}
+use Rattle.delivery.specs.Sending.{sentTwo, loggedTwo}
+use Rattle.delivery.specs.Holding.{Given, State, state, Holds}
+use Rattle.delivery.proofs.HoldingLaws.{holds-sent}
+
+-- ---- The messages of an arrival
+
+pub messages-two : (settings : Settings) (site : Site) (arrival : Arrival)
+    → length (observed settings site arrival .messages) ≤ 2
+messages-two settings site arrival =
+    by-due (reportsItem settings site arrival) refl (reportsCount site) refl
+  where
+    by-due : (itemDue : Bool) → reportsItem settings site arrival ≡ itemDue
+        → (countDue : Bool) → reportsCount site ≡ countDue
+        → length (observed settings site arrival .messages) ≤ 2
+    by-due true item-is true count-is = rw (item-is, count-is) (omega arith)
+    by-due true item-is false count-is = rw (item-is, count-is) (omega arith)
+    by-due false item-is true count-is = rw (item-is, count-is) (omega arith)
+    by-due false item-is false count-is = rw (item-is, count-is) (omega arith)
+
+-- Two messages at most go out when nothing waits.
+pub holds-two : {settings : Settings} {given : Given} {earlier : List Message} {network : Network}
+    {held : State} (out : List Message) (count : ℕ) (first second : Message)
+    → Holds settings given earlier (delivery network [] []) held
+    → length out ≤ 2
+    → count ≡ length out
+    → first ≡ getD out 0 noMessage
+    → second ≡ getD out 1 noMessage
+    → 4 * length (earlier ++ out) ≤ length (given .log)
+    → Holds settings given earlier (delivery network out out)
+    (state (sentTwo count (held .underway) first second) (held .siteMemory)
+    (held .coordinatorMemory)
+    (loggedTwo count (held .log) (held .underway .written) first second))
+holds-two [] count first second holds few count-is first-is second-is room = rw count-is holds
+holds-two {earlier = earlier} (x ∷ []) count first second holds few count-is first-is second-is
+    room =
+    rw (count-is, first-is)
+    (holds-sent x holds (omega arith)
+    (omega (arith, length-append earlier (x ∷ []), length-append {A = Message} earlier [])))
+holds-two {earlier = earlier} (x ∷ (y ∷ [])) count first second holds few count-is first-is
+    second-is room =
+    rw (count-is, first-is, second-is)
+    (holds-sent y
+    (holds-sent x holds (omega arith)
+    (omega (arith, length-append earlier (x ∷ (y ∷ [])), length-append {A = Message} earlier [])))
+    (omega arith)
+    (omega (arith, length-append earlier (x ∷ (y ∷ [])), length-append earlier (x ∷ []))))
+holds-two (x ∷ (y ∷ (z ∷ out))) count first second holds few count-is first-is second-is room =
+    absurd (omega arith)
+
+-- ---- The counters of a site never become fewer
+
+counters-grow : (placement : Placement) (counters : List Counter) (item : ℕ)
+    → length counters ≤ length (countersAfter placement counters item)
+counters-grow (own place) counters item =
+    omega (arith, length-set counters place (oneMoreOf (counterAt counters place)))
+counters-grow unused counters item = rw (length-snoc counters (firstOf item)) (omega arith)
+counters-grow (replaced place) counters item =
+    omega (arith, length-set counters place (replacing (counterAt counters place) item))
+
+pub observed-grows : (settings : Settings) (site : Site) (arrival : Arrival)
+    → length (site .counters) ≤ length (observed settings site arrival .site .counters)
+observed-grows settings site arrival =
+    omega (
+      arith,
+      length-countersReported settings site arrival,
+      counters-grow (placementIn settings site arrival) (site .counters) (arrival .item),
+    )

@@ -14,7 +14,8 @@ add-next : tie.Need-add-next
 add-next c = omega (arith, c .before .before .before .before .before .pre .accepted-within)
 
 with-record-requires : tie.Need-with-record-requires
-with-record-requires c κs = c .before .before .before .before .before .pre .which-within
+with-record-requires c κs =
+    omega (arith, c .before .before .before .before .before .pre .which-within)
 
 returns-2 : tie.Need-returns-2
 returns-2 c =

@@ -25,7 +25,7 @@ use Rattle.delivery.specs.declared.Queue.{Queue}
 use Rattle.delivery.specs.declared.Underway.{Underway}
 use Rattle.delivery.specs.Sending.{queueOf}
 use Rattle.delivery.specs.Holding.{State, Holds, Going, Delivering, goesOn, StepSays, rested}
-use Rattle.delivery.proofs.BoundedSteps.{answers-one}
+use Rattle.delivery.proofs.QuietSteps.{answers-one}
 use Rattle.delivery.proofs.HoldingLaws.{log-length}
 use Rattle.delivery.proofs.GoingLaws.{going-room, going-handed, going-asked, going-ends}
 use Rattle.delivery.proofs.StepLaws.{none-waits, Handing, handing, Asking, asking}

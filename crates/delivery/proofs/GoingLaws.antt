@@ -31,7 +31,8 @@ use Rattle.delivery.specs.Log.{logRoom}
 use Rattle.delivery.specs.Bounded.{Bounded}
 use Rattle.delivery.specs.Holding.{Given, Accepting, Going, rested}
 use Rattle.delivery.proofs.StageNumbers.{at-stage}
-use Rattle.delivery.proofs.BoundedSteps.{answers-one, reached-bounded, quiet-announced}
+use Rattle.delivery.proofs.QuietSteps.{answers-one, quiet-announced}
+use Rattle.delivery.proofs.BoundedSteps.{reached-bounded}
 use Rattle.delivery.proofs.HoldingLaws.{StoredCoordinator, Stored}
 
 -- ---- The log only grows

@@ -24,7 +24,7 @@ use Rattle.delivery.specs.declared.Underway.{Underway}
 use Rattle.delivery.specs.Sending.{withoutHead, sentIf, loggedIf, SendAsks}
 use Rattle.delivery.specs.Holding.{State, state, Holds, Fits, Delivering}
 use Rattle.delivery.proofs.StageNumbers.{coordinator-ready}
-use Rattle.delivery.proofs.BoundedSteps.{quiet-receives}
+use Rattle.delivery.proofs.QuietSteps.{quiet-receives}
 use Rattle.delivery.proofs.HoldingLaws.{coordinator-read, coordinator-memory-length, holds-coordinator, coordinator-again}
 use Rattle.delivery.proofs.GoingLaws.{going-fit, going-stage, going-bounded, going-stored}
 use Rattle.delivery.proofs.StepLaws.{Handing, answer-sends, answer-holds}

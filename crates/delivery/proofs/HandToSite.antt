@@ -33,7 +33,7 @@ use Rattle.network_memory.specs.Records.{noRecord, withRecord}
 use Rattle.delivery.specs.Sending.{withoutHead, sentIf, loggedIf, SendAsks}
 use Rattle.delivery.specs.Holding.{State, state, Holds, Fits, Delivering}
 use Rattle.delivery.proofs.StageNumbers.{at-stage, site-ready}
-use Rattle.delivery.proofs.BoundedSteps.{quiet-site}
+use Rattle.delivery.proofs.QuietSteps.{quiet-site}
 use Rattle.delivery.proofs.HoldingLaws.{part-long, part-starts, site-read, holds-site}
 use Rattle.delivery.proofs.GoingLaws.{going-fit, going-stage, going-stored}
 use Rattle.delivery.proofs.StepLaws.{Handing, answer-sends, answer-holds}

@@ -1,6 +1,7 @@
 -- The laws that the delivery's functions are proved by.
 pub mod BoundedLaws
 pub mod StageNumbers
+pub mod QuietSteps
 pub mod BoundedSteps
 pub mod LogLaws
 pub mod HoldingLaws

@@ -27,7 +27,8 @@ use Rattle.site_steps.proofs.ReceiveLaws.{message-due}
 use Rattle.delivery.specs.Bounded.{Bounded}
 use Rattle.delivery.specs.Holding.{Given, State, Holds, Accepting, rested}
 use Rattle.delivery.proofs.BoundedLaws.{allArrivals-set}
-use Rattle.delivery.proofs.BoundedSteps.{quiet-site, reached-bounded}
+use Rattle.delivery.proofs.QuietSteps.{quiet-site}
+use Rattle.delivery.proofs.BoundedSteps.{reached-bounded}
 use Rattle.delivery.proofs.StageNumbers.{at-stage}
 use Rattle.delivery.proofs.GoingLaws.{going-fit, going-taken}
 

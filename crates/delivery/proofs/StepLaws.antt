@@ -43,7 +43,7 @@ use Rattle.network_memory.specs.Records.{noRecord, withRecord}
 use Rattle.delivery.specs.Sending.{queueOf, withoutHead, sentIf, loggedIf, SendAsks}
 use Rattle.delivery.specs.Holding.{Given, State, state, Holds, Fits, Going, Delivering, goesOn}
 use Rattle.delivery.proofs.StageNumbers.{at-stage, site-ready, coordinator-ready}
-use Rattle.delivery.proofs.BoundedSteps.{answers-one, quiet-site, quiet-announced}
+use Rattle.delivery.proofs.QuietSteps.{answers-one, quiet-site, quiet-announced}
 use Rattle.delivery.proofs.LogLaws.{withoutHead-queueOf}
 use Rattle.delivery.proofs.HoldingLaws.{Stored, StoredCoordinator, record-read, part-long, part-starts, site-read, coordinator-read, coordinator-memory-length, send-asks, holds-answer, holds-coordinator, coordinator-again, holds-site}
 use Rattle.delivery.proofs.GoingLaws.{going-fit, going-stage, going-bounded, going-stored, going-room, going-handed, going-asked, stored-coordinator}

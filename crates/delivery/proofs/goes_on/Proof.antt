@@ -23,23 +23,27 @@ enum-told-4 c = search needs
 
 returns-2 : tie.Need-returns-2
 returns-2 c =
-    let start = c .before .before .before .before .before .before in
-    rw (eq-eqb (start .args .underway .waiting .count) 0 (c .before .before .before .if1 .left), c .enum-told .given .1)
+    let tested = c .before .before .before in
+    let queue = tested .before .before .before .args .underway .waiting in
+    rw (eq-eqb (queue .count) 0 (tested .if1 .left), c .enum-told .given .1)
 
 returns-3 : tie.Need-returns-3
 returns-3 c =
-    let start = c .before .before .before .before .before .before in
-    rw (eq-eqb (start .args .underway .waiting .count) 0 (c .before .before .before .if1 .left), c .enum-told2 .given .1)
+    let tested = c .before .before .before in
+    let queue = tested .before .before .before .args .underway .waiting in
+    rw (eq-eqb (queue .count) 0 (tested .if1 .left), c .enum-told2 .given .1)
 
 returns-4 : tie.Need-returns-4
 returns-4 c =
-    let start = c .before .before .before .before .before .before in
-    rw (eq-eqb (start .args .underway .waiting .count) 0 (c .before .before .before .if1 .left), c .enum-told3 .given .1)
+    let tested = c .before .before .before in
+    let queue = tested .before .before .before .args .underway .waiting in
+    rw (eq-eqb (queue .count) 0 (tested .if1 .left), c .enum-told3 .given .1)
 
 returns-5 : tie.Need-returns-5
 returns-5 c =
-    let start = c .before .before .before .before .before .before in
-    rw (eq-eqb (start .args .underway .waiting .count) 0 (c .before .before .before .if1 .left), c .enum-told4 .given .1)
+    let tested = c .before .before .before in
+    let queue = tested .before .before .before .args .underway .waiting in
+    rw (eq-eqb (queue .count) 0 (tested .if1 .left), c .enum-told4 .given .1)
 
 pub goes-on-spec : {M : Type 1} → statement M
 goes-on-spec =

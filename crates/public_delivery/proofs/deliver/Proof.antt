@@ -27,13 +27,14 @@ sub-progress c =
 
 take-step-requires : tie.Need-take-step-requires Inv-loop μ-loop
 take-step-requires c κs =
-    let due = due-facts (c .before .before .before .before .loop .progress) (sym (c .before .before .before .call-due .ensures) ∙ c .before .before .if1 .taken) in
-    (c .before .before .before .before .before .before .before .pre .fits,
-    record {
-      not-refused = due .not-refused;
-      few = c .before .before .before .before .loop .inv .few;
-      announces = due .announces;
-    })
+    let due = due-facts (c .before .before .before .before .loop .progress) (sym (c .before .before .before .call-due .ensures) ∙ c .before .before .if1 .taken) in (
+      c .before .before .before .before .before .before .before .pre .fits,
+      record {
+        not-refused = due .not-refused;
+        few = c .before .before .before .before .loop .inv .few;
+        announces = due .announces;
+      },
+    )
 
 loop-less : tie.Need-loop-less Inv-loop μ-loop
 loop-less c =

@@ -1,4 +1,5 @@
--- `public_delivery::take_step` meets its contract: nothing waits, or the head is for the coordinator, or for a site.
+-- `public_delivery::take_step` meets its contract: nothing waits, or the head is for the
+-- coordinator, or for a site.
 use mathlib.Core.Path.{sym, _∙_}
 use denote.Ref.{now}
 use borrow.Author.Needs.{needs}
@@ -43,14 +44,15 @@ returns-2 c = c .before .before .hand-to-coordinator .ensures (now (c .before .b
 hand-to-site-requires : tie.Need-hand-to-site-requires
 hand-to-site-requires c κs =
     let start = c .before .before .before .before .before .before .before .before in
-    let asks = start .pre .1 in
-    (start .pre .0,
-    record {
-      not-refused = asks .not-refused;
-      some = c .before .before .before .if1 .left;
-      few = asks .few;
-      way-is = sym (c .before .to-coordinator .ensures) ∙ c .if2 .left;
-    })
+    let asks = start .pre .1 in (
+      start .pre .0,
+      record {
+        not-refused = asks .not-refused;
+        some = c .before .before .before .if1 .left;
+        few = asks .few;
+        way-is = sym (c .before .to-coordinator .ensures) ∙ c .if2 .left;
+      },
+    )
 
 returns-3 : tie.Need-returns-3
 returns-3 c = c .hand-to-site .ensures (now (c .before .before .before .before .before .before .before .before .before .args .coordinator-memory))

@@ -1,19 +1,41 @@
 //! Times of the proved calls as a ratio to the separate implementation, on the same input in the
 //! same run. README.md says what is measured and how.
+//!
+//! `bench [calls] [steps] [batches] [long]`: these parts, or the first three; with `long` batches
+//! go on to ten million arrivals.
 
+mod batches;
 mod coordinators;
+mod networks;
 mod sites;
+mod steps;
+mod streams;
 mod timing;
 
 use timing::Table;
 
 fn main() {
-    let mut table = Table::new();
-    for capacity in [6, 100, 3000] {
-        sites::measure(capacity, &mut table);
+    let words: Vec<String> = std::env::args().skip(1).collect();
+    let asked = |part: &str| words.is_empty() || words.iter().any(|word| word == part);
+    if asked("calls") {
+        let mut table = Table::new();
+        for capacity in [6, 100, 3000] {
+            sites::measure(capacity, &mut table);
+        }
+        for universe in [1000, 65_536] {
+            coordinators::measure(universe, &mut table);
+        }
+        table.print();
     }
-    for universe in [1000, 65_536] {
-        coordinators::measure(universe, &mut table);
+    if asked("steps") {
+        let mut table = Table::new();
+        for capacity in [6, 100, 3000] {
+            steps::measure(capacity, &mut table);
+        }
+        table.print();
     }
-    table.print();
+    let long = words.iter().any(|word| word == "long");
+    if asked("batches") || long {
+        batches::measure(if long { 10_000_000 } else { 1_000_000 });
+    }
 }

@@ -16,16 +16,19 @@ pub struct Times {
 
 /// The least time of a call on each side. Both are called equally often, in turns.
 pub fn measure(mut proved: impl FnMut(), mut reference: impl FnMut()) -> Times {
-    let warm = block(&mut proved, 20).max(block(&mut reference, 20));
-    let calls = (BLOCK_NANOSECONDS / warm).clamp(10.0, 20_000.0) as u32;
-    let mut least = Times { proved: f64::INFINITY, reference: f64::INFINITY };
+    let [proved, reference] = least([&mut proved, &mut reference]);
+    Times { proved, reference }
+}
+
+/// The least time of each of some calls. All are made equally often, in turns.
+pub fn least<const CALLS: usize>(mut calls: [&mut dyn FnMut(); CALLS]) -> [f64; CALLS] {
+    let warm = calls.iter_mut().map(|call| block(call, 20)).fold(0.0, f64::max);
+    let times = (BLOCK_NANOSECONDS / warm).clamp(10.0, 20_000.0) as u32;
+    let mut least = [f64::INFINITY; CALLS];
     for round in 0..ROUNDS {
-        if round % 2 == 0 {
-            least.proved = least.proved.min(block(&mut proved, calls));
-            least.reference = least.reference.min(block(&mut reference, calls));
-        } else {
-            least.reference = least.reference.min(block(&mut reference, calls));
-            least.proved = least.proved.min(block(&mut proved, calls));
+        for turn in 0..CALLS {
+            let place = (round + turn) % CALLS;
+            least[place] = least[place].min(block(&mut calls[place], times));
         }
     }
     least

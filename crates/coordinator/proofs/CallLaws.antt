@@ -4,9 +4,9 @@
 --   fresh-memory                                       the fresh coordinator is zeros alone
 --   start-long, step-asks, announce-asks               what an accepted call may hand to a step
 --   hands-refused, hands-accepted                      the record `Hands`
-use mathlib.Core.Path.{_≡_, refl, ap, sym, _∙_}
-use mathlib.Core.List.{List, _++_}
-use Prim.Native.Nat.{ℕ, suc, _+_, _≤_, _<_}
+use mathlib.Core.Path.{_≡_, ap, sym, _∙_}
+use mathlib.Core.List.{List}
+use Prim.Native.Nat.{ℕ, _+_, _≤_, _<_}
 use native.Mathlib.Omega.{arith}
 use lib.Dec.{ltb}
 use borrow.Author.Tests.{ltb-false}
@@ -22,7 +22,7 @@ use Rattle.model.specs.Settings.{settingsRefusal}
 use Rattle.model.specs.Messages.{noMessage}
 use Rattle.model.specs.SiteMemory.{overwrite}
 use Rattle.model.specs.Coordinator.{CoordinatorStep, freshCoordinator}
-use Rattle.model.specs.CoordinatorMemory.{coordinatorIn, coordinatorMemory, coordinatorWords, coordinatorMemoryRefusal}
+use Rattle.model.specs.CoordinatorMemory.{coordinatorMemory, coordinatorWords, coordinatorMemoryRefusal}
 use Rattle.model.proofs.RefusalLaws.{both-accepted, passed}
 use Rattle.coordinator_steps.specs.declared.Answered.{Answered}
 use Rattle.coordinator.specs.declared.Received.{Received}
@@ -81,7 +81,7 @@ step-asks settings numbers m memory none =
     record {
       settings-accepted = facts .settings-accepted;
       memory-long = facts .memory-long;
-      ready = ready-of-consistent settings (coordinatorIn settings numbers memory)
+      ready = ready-of-consistent settings numbers memory (facts .memory-long)
           (facts .consistent);
       message-accepted = rows .later-accepted;
     }
@@ -92,11 +92,11 @@ pub announce-asks : (settings : Settings) (numbers : CoordinatorRecord) (memory 
 announce-asks settings numbers memory none =
     let rows = both-accepted (coordinatorMemoryRefusal settings numbers memory) _ none in
     let facts = tested settings numbers memory (rows .first-accepted) in
-    let ready = ready-of-consistent settings (coordinatorIn settings numbers memory)
+    let ready = ready-of-consistent settings numbers memory (facts .memory-long)
     (facts .consistent) in
     record {
       settings-accepted = facts .settings-accepted;
-      phase-shape = ready .shape .phase-shape;
+      phase-sound = ready .sound .phase-sound;
     }
 
 -- ---- What is handed back

@@ -4,9 +4,9 @@
 --   message-accepted                an accepted message has them
 --   count-report-of-idle, kind-of-collecting, kind-of-probing    the kind that the phase leaves
 --   item-known-of-report, item-amount-of-report, count-amount-of-report, value-of-report,
---   amount-of-poll-answer, amount-of-probe-answer                what the kind says of a and b
-use mathlib.Core.Path.{_≡_}
-use mathlib.Core.Bool.{true, false, _&&_, _||_, not}
+--   value-known-of-report, amount-of-poll-answer, amount-of-probe-answer    what it says of a and b
+use mathlib.Core.Path.{_≡_, refl}
+use mathlib.Core.Bool.{Bool, true, false, _&&_, _||_, not}
 use Prim.Native.Nat.{ℕ, _≤_, _<_}
 use native.Mathlib.Omega.{arith}
 use lib.Dec.{eqb, ltb, leb}
@@ -28,6 +28,7 @@ use Rattle.model.proofs.RefusalLaws.{passed}
 pub record NothingWrong (c : Coordinator) (m : Message) : Type 0 where
   pub item-amount : (isItemReport m && not (eqb (m .b) (c .threshold))) ≡ false
   pub count-amount : (isCountReport m && not (eqb (m .a) (c .threshold))) ≡ false
+  pub count-zero : (isCountReport m && not (eqb (c .threshold) 1) && not (isZero (m .b))) ≡ false
   pub poll-amount : (isPollAnswer m && (leb (c .threshold) (m .a) || not (isZero (m .b)))) ≡ false
   pub probe-amount :
       (isProbeAnswer m && (not (eqb (m .a) (askedValue (c .phase))) || ltb siteLimit (m .b))) ≡
@@ -42,6 +43,7 @@ nothing-wrong c m fails =
     record {
       item-amount = one .first-false;
       count-amount = one .second-false;
+      count-zero = two .second-false;
       poll-amount = three .second-false;
       probe-amount = four .second-false;
     }
@@ -107,6 +109,17 @@ module _ (settings : Settings) (c : Coordinator) (m : Message)
 
     pub value-of-report : m .kind ≡ 2 → c .threshold ≡ 1 → m .b ≤ topValue
     value-of-report is one = ltb-false _ _ (rw (is, one) at (taken .value-small))
+
+    -- Later b must be 0, so that it is never above the last value.
+    pub value-known-of-report : m .kind ≡ 2 → m .b ≤ topValue
+    value-known-of-report is = by-threshold (eqb (c .threshold) 1) refl
+      where
+        by-threshold : (one : Bool) → eqb (c .threshold) 1 ≡ one → m .b ≤ topValue
+        by-threshold true test = value-of-report is (eqb-true _ _ test)
+        by-threshold false test =
+            let none : m .b ≡ 0 =
+            eqb-true _ _ (not-false _ (rw (is, test) at (taken .amount-due .count-zero))) in
+            omega arith
 
     -- A kind 4 reports less than the threshold.
     pub amount-of-poll-answer : m .kind ≡ 4 → m .a < c .threshold

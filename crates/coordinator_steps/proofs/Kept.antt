@@ -1,19 +1,13 @@
--- What a step leaves: a coordinator of the same shape and size, and memory from which it is read
--- back.
+-- What a step leaves: a coordinator that is sound again, and memory from which it is read back.
 --
---   shape-receives, shape-announced     the shape is kept by every accepted message and
---      announcement
---   Sized, sized-in, sized-receives, sized-announced    as many numbers as the settings say
 --   receives-cases, announced-cases     a property of what a step leaves, case by case
+--   sound-receives, sound-announced     soundness, after an accepted message and an announcement
 --   read-back                           the step's record and memory hold the model's coordinator
 use mathlib.Core.Path.{_≡_, refl, ap, _∙_, subst}
 use mathlib.Core.Bool.{Bool, true, false}
 use mathlib.Core.List.{List}
-use Prim.Native.Nat.{ℕ, _+_, _≤_, _<_}
-use native.Mathlib.Omega.{arith}
+use Prim.Native.Nat.{ℕ, _+_, _<_}
 use lib.Dec.{eqb, ltb}
-use lib.ListN.{length, drop, length-set, length-drop}
-use lib.Seq.{length-take-le}
 use borrow.Author.Tests.{ltb-true, eqb-true, eqb-false}
 use Rattle.model.specs.declared.Settings.{Settings}
 use Rattle.model.specs.declared.Message.{Message}
@@ -22,46 +16,19 @@ use Rattle.model.specs.declared.Phase.the-variants.{Idle, Collecting, Probing, 
 use Rattle.model.specs.declared.CoordinatorRecord.{CoordinatorRecord}
 use Rattle.model.specs.Choice.{if_then_else_}
 use Rattle.model.specs.Refusals.{accepted}
-use Rattle.model.specs.Limits.{valueCount}
 use Rattle.model.specs.Settings.{settingsRefusal}
 use Rattle.model.specs.Messages.{noMessage}
-use Rattle.model.specs.Site.{oneMoreAt}
-use Rattle.model.specs.Coordinator.{Coordinator, withPhase, atRest, takesItemReport, takesCountReport, takesPollAnswer, takesProbeAnswer, receivesIn, coordinatorReceives, coordinatorRefusal, announcedIn, announced}
-use Rattle.model.specs.CoordinatorMemory.{coordinatorIn, coordinatorRecord, coordinatorWords}
+use Rattle.model.specs.Coordinator.{Coordinator, withPhase, atRest, takesItemReport, takesCountReport, takesPollAnswer, takesProbeAnswer, receivesIn, coordinatorReceives, announcedIn, announced}
+use Rattle.model.specs.CoordinatorMemory.{coordinatorIn, coordinatorRecord}
+use Rattle.model.specs.SoundNetwork.{SoundPhase, SoundCoordinator}
+use Rattle.model.proofs.CoordinatorSound.{numbers-rest}
 use Rattle.coordinator_steps.specs.declared.Answered.{Answered}
 use Rattle.coordinator_steps.specs.Steps.{Does}
-use Rattle.coordinator_steps.specs.Ready.{PhaseShape, CoordinatorShape}
-use Rattle.coordinator_steps.proofs.Accepted.{MessageAccepted, message-accepted, count-report-of-idle, count-amount-of-report, value-of-report, kind-of-collecting, amount-of-poll-answer}
+use Rattle.coordinator_steps.specs.Ready.{StepAsks}
+use Rattle.coordinator_steps.proofs.Accepted.{MessageAccepted, message-accepted, count-report-of-idle, count-amount-of-report, value-known-of-report, kind-of-collecting, amount-of-poll-answer}
 use Rattle.coordinator_steps.proofs.MemoryLaws.{written-coordinator}
-use Rattle.coordinator_steps.proofs.StepLaws.{settings-fit, value-known, NumbersKept, poll-kept, probe-kept}
-use Rattle.coordinator_steps.proofs.ShapeLaws.{shape-item, shape-count, shape-poll, shape-probe, shape-in}
-
--- ---- Size
-
-pub record Sized (settings : Settings) (c : Coordinator) : Type 0 where
-  pub estimates-long : length (c .estimates) ≡ settings .universe
-  pub histogram-long : length (c .histogram) ≡ valueCount
-
-pub sized-in : (settings : Settings) (numbers : CoordinatorRecord) (memory : List ℕ)
-    → coordinatorWords settings ≤ length memory
-    → Sized settings (coordinatorIn settings numbers memory)
-sized-in settings numbers memory long =
-    let front : settings .universe ≤ length memory = omega arith in
-    let back : valueCount ≤ length (drop (settings .universe) memory) =
-    rw (length-drop (settings .universe) memory) (omega arith) in
-    record {
-      estimates-long = length-take-le (settings .universe) memory front;
-      histogram-long = length-take-le valueCount (drop (settings .universe) memory) back;
-    }
-
-sized-of-kept : (settings : Settings) {c c′ : Coordinator}
-    → Sized settings c
-    → NumbersKept c c′
-    → Sized settings c′
-sized-of-kept settings sized kept = record {
-  estimates-long = ap length (kept .estimates-kept) ∙ sized .estimates-long;
-  histogram-long = ap length (kept .histogram-kept) ∙ sized .histogram-long;
-}
+use Rattle.coordinator_steps.proofs.StepLaws.{settings-fit}
+use Rattle.coordinator_steps.proofs.SoundSteps.{sound-item, sound-count, sound-poll, sound-probe, sound-in}
 
 -- ---- By the kind that an accepted message has
 
@@ -98,63 +65,32 @@ module _ (settings : Settings) (c : Coordinator) (m : Message) where
       by-phase (Probing site low high total) probing = cases .probe site low high total probing
       by-phase (Announcing site) announcing = cases .nothing
 
-  -- ---- The shape
+  -- ---- Soundness
 
-  module _ (settings-accepted : settingsRefusal settings ≡ accepted) (sized : Sized settings c)
-      (shape : CoordinatorShape settings c) (taken : MessageAccepted settings c m) where
-    phase-is : (phase : Phase) → c .phase ≡ phase → PhaseShape settings (c .signals) phase
-    phase-is phase is = subst (PhaseShape settings (c .signals)) is (shape .phase-shape)
+  module _ (settings-accepted : settingsRefusal settings ≡ accepted)
+      (sound : SoundCoordinator settings c) (taken : MessageAccepted settings c m) where
+    phase-is : (phase : Phase) → c .phase ≡ phase → SoundPhase settings (c .signals) phase
+    phase-is phase is = subst (SoundPhase settings (c .signals)) is (sound .phase-sound)
 
-    value-inside : m .kind ≡ 2 → c .threshold ≡ 1 → m .b < length (c .histogram)
-    value-inside is one =
-        rw (sized .histogram-long) (value-known (m .b) (value-of-report settings c m taken is one))
-
-    pub shape-receives : CoordinatorShape settings (coordinatorReceives settings c m .coordinator)
-    shape-receives =
+    pub sound-receives : SoundCoordinator settings (coordinatorReceives settings c m .coordinator)
+    sound-receives =
         let fit = settings-fit settings settings-accepted in
-        receives-cases (CoordinatorShape settings) taken
+        receives-cases (SoundCoordinator settings) taken
         (record {
-          item = λ idle is. shape-item settings fit c m shape;
-          count = λ idle is. shape-count settings fit c m shape (phase-is Idle idle)
-              (count-amount-of-report settings c m taken is) (value-inside is);
-          poll = λ site collecting. shape-poll settings fit c m shape site
+          item = λ idle is. sound-item settings fit c m sound;
+          count = λ idle is. sound-count settings fit c m sound (phase-is Idle idle)
+              (count-amount-of-report settings c m taken is)
+              (value-known-of-report settings c m taken is);
+          poll = λ site collecting. sound-poll settings fit c m sound site
               (ltb (site + 1) (settings .sites)) (phase-is (Collecting site) collecting)
               (amount-of-poll-answer settings c m taken
               (kind-of-collecting settings c m taken site collecting)) refl;
-          probe = λ site low high total probing. shape-probe settings fit c m shape site low high
+          probe = λ site low high total probing. sound-probe settings fit c m sound site low high
               total
               (ltb (site + 1) (settings .sites)) (phase-is (Probing site low high total) probing)
               refl;
-          nothing = shape;
+          nothing = sound;
         })
-
-  -- ---- The size
-
-  sized-count : (test : Bool)
-      → Sized settings c
-      → length (if test then oneMoreAt (c .histogram) (m .b) else c .histogram) ≡ valueCount
-  sized-count true sized = length-set (c .histogram) (m .b) _ ∙ sized .histogram-long
-  sized-count false sized = sized .histogram-long
-
-  pub sized-receives : Sized settings c
-      → MessageAccepted settings c m
-      → Sized settings (coordinatorReceives settings c m .coordinator)
-  sized-receives sized taken =
-      receives-cases (Sized settings) taken
-      (record {
-        item = λ idle is. record {
-          estimates-long = length-set (c .estimates) (m .a) _ ∙ sized .estimates-long;
-          histogram-long = sized .histogram-long;
-        };
-        count = λ idle is. record {
-          estimates-long = sized .estimates-long;
-          histogram-long = sized-count (eqb (c .threshold) 1) sized;
-        };
-        poll = λ site collecting. sized-of-kept settings sized (poll-kept settings c site m);
-        probe = λ site low high total probing. sized-of-kept settings sized
-            (probe-kept settings c site low high total m);
-        nothing = sized;
-      })
 
 -- ---- Announcements
 
@@ -180,49 +116,35 @@ module _ (settings : Settings) (c : Coordinator) where
       by-phase (Probing site low high total) is = same
       by-phase (Announcing site) is = by-site site (ltb (site + 1) (settings .sites)) is refl
 
-  pub shape-announced : settingsRefusal settings ≡ accepted
-      → CoordinatorShape settings c
-      → CoordinatorShape settings (announced settings c .coordinator)
-  shape-announced settings-accepted shape =
+  pub sound-announced : settingsRefusal settings ≡ accepted
+      → SoundCoordinator settings c
+      → SoundCoordinator settings (announced settings c .coordinator)
+  sound-announced settings-accepted sound =
       let fit = settings-fit settings settings-accepted in
-      announced-cases (CoordinatorShape settings) shape
-      (λ site announcing known. shape-in settings fit c noMessage shape (Announcing (site + 1))
+      announced-cases (SoundCoordinator settings) sound
+      (λ site announcing known. sound-in settings fit c noMessage sound (Announcing (site + 1))
       (record {
-        all-signalled =
-            subst (PhaseShape settings (c .signals)) announcing (shape .phase-shape) .all-signalled;
+        all-signals =
+            subst (SoundPhase settings (c .signals)) announcing (sound .phase-sound) .all-signals;
         site-known = known;
       }))
-      (record {
-        phase-shape = fit .sites-some;
-        threshold-is = shape .threshold-is;
-        base-within = shape .base-within;
-        quantile-within = shape .quantile-within;
-        counted = shape .counted;
-      })
-
-  pub sized-announced : Sized settings c → Sized settings (announced settings c .coordinator)
-  sized-announced sized =
-      let long = sized .estimates-long in
-      let values = sized .histogram-long in
-      announced-cases (Sized settings) sized
-      (λ site announcing known. record { estimates-long = long; histogram-long = values })
-      (record { estimates-long = long; histogram-long = values })
+      (record { numbers = numbers-rest (sound .numbers); phase-sound = fit .sites-some })
 
 -- ---- Memory
 
 -- The record and the memory that a step leaves hold the coordinator that the model gives.
 pub read-back : (settings : Settings) (numbers : CoordinatorRecord) (m : Message)
     (before after : List ℕ) (r : Answered)
-    → coordinatorWords settings ≤ length before
-    → coordinatorRefusal settings (coordinatorIn settings numbers before) m ≡ accepted
+    → StepAsks settings numbers m before
     → Does (coordinatorReceives settings (coordinatorIn settings numbers before) m) before after r
     → coordinatorIn settings (r .coordinator) after
     ≡ coordinatorReceives settings (coordinatorIn settings numbers before) m .coordinator
-read-back settings numbers m before after r long none does =
+read-back settings numbers m before after r asks does =
     let here = coordinatorIn settings numbers before in
     let given = coordinatorReceives settings here m .coordinator in
-    let sized = sized-receives settings here m (sized-in settings numbers before long)
-    (message-accepted settings here m none) in
+    let sound = sound-receives settings here m (asks .settings-accepted) (asks .ready .sound)
+    (message-accepted settings here m (asks .message-accepted)) in
     ap (λ (x : Answered). coordinatorIn settings (x .coordinator) after) (does .answer)
     ∙ ap (coordinatorIn settings (coordinatorRecord given)) (does .memory)
-    ∙ written-coordinator settings given before (sized .estimates-long) (sized .histogram-long)
+    ∙ written-coordinator settings given before (sound .numbers .estimates-length)
+    (sound .numbers .histogram-length)

@@ -2,7 +2,7 @@
 pub mod Accepted
 pub mod MemoryLaws
 pub mod StepLaws
-pub mod ShapeLaws
+pub mod SoundSteps
 pub mod Kept
 pub mod WithinLaws
 pub mod Receives

@@ -2,6 +2,7 @@
 -- class counts): what a step writes, and the coordinator read back from what was written.
 --
 --   memory-kept, memory-item, memory-value   the memory after a step, as the code writes it
+--   estimates-long, histogram-long           the size of what is read
 --   written-coordinator                      reading back what was written
 use mathlib.Core.Path.{_≡_, refl, sym}
 use mathlib.Core.Bool.{Bool, true, false}
@@ -9,8 +10,9 @@ use mathlib.Core.List.{List}
 use Prim.Native.Nat.{ℕ, _+_, _≤_, _<_}
 use borrow.Author.Tests.{eqb-true}
 use lib.Dec.{eqb}
-use lib.ListN.{length, getD, set, take, drop}
-use lib.Seq.{getD-take, getD-drop}
+use native.Mathlib.Omega.{arith}
+use lib.ListN.{length, getD, set, take, drop, length-drop}
+use lib.Seq.{getD-take, getD-drop, length-take-le}
 use Rattle.laws.proofs.Overwrite.{overwritten-kept, overwritten-set-first, overwritten-set-second, first-written, second-written}
 use Rattle.model.specs.declared.Settings.{Settings}
 use Rattle.model.specs.declared.Message.{Message}
@@ -61,6 +63,23 @@ module _ (settings : Settings) (numbers : CoordinatorRecord) (memory : List ℕ)
           )
           (sym (overwritten-set-second (settings .universe) valueCount memory long (m .b) _ within))
       by-threshold false test = rw test memory-kept
+
+-- ---- Reading
+
+-- What is read has as many estimates and value counts as the settings say.
+pub estimates-long : (settings : Settings) (numbers : CoordinatorRecord) (memory : List ℕ)
+    → coordinatorWords settings ≤ length memory
+    → length (coordinatorIn settings numbers memory .estimates) ≡ settings .universe
+estimates-long settings numbers memory long =
+    length-take-le (settings .universe) memory (omega arith)
+
+pub histogram-long : (settings : Settings) (numbers : CoordinatorRecord) (memory : List ℕ)
+    → coordinatorWords settings ≤ length memory
+    → length (coordinatorIn settings numbers memory .histogram) ≡ valueCount
+histogram-long settings numbers memory long =
+    let back : valueCount ≤ length (drop (settings .universe) memory) =
+    rw (length-drop (settings .universe) memory) (omega arith) in
+    length-take-le valueCount (drop (settings .universe) memory) back
 
 -- A coordinator with as many estimates and value counts as the settings say, read back.
 pub written-coordinator : (settings : Settings) (c : Coordinator) (memory : List ℕ)

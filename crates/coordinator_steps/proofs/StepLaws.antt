@@ -23,9 +23,10 @@ use Rattle.model.specs.Limits.{topValue, valueCount, siteLimit}
 use Rattle.model.specs.Settings.{settingsRefusal, thresholdOf}
 use Rattle.model.specs.Coordinator.{Coordinator, enough, closed, narrowed, halved, takesPollAnswer, takesProbeAnswer, middle}
 use Rattle.model.specs.CoordinatorMemory.{coordinatorIn, coordinatorMemory, coordinatorWords}
+use Rattle.model.specs.SoundNetwork.{SoundPhase}
 use Rattle.model.proofs.SettingsLaws.{settled}
 use Rattle.coordinator_steps.specs.Steps.{SettingsFit, ItemAsks, ValueRoom, CountAsks, PollAsks, ProbeAsks}
-use Rattle.coordinator_steps.specs.Ready.{PhaseShape, StepAsks, readyLimit}
+use Rattle.coordinator_steps.specs.Ready.{StepAsks, readyLimit}
 use Rattle.coordinator_steps.proofs.Accepted.{MessageAccepted, message-accepted, count-report-of-idle, kind-of-collecting, kind-of-probing, item-known-of-report, item-amount-of-report, count-amount-of-report, value-of-report, amount-of-poll-answer, amount-of-probe-answer}
 use Rattle.coordinator_steps.proofs.MemoryLaws.{memory-kept}
 
@@ -79,8 +80,8 @@ module _ (settings : Settings) (numbers : CoordinatorRecord) (m : Message) (memo
       let ready = asks .ready in
       omega (
         arith,
-        ready .shape .threshold-is,
-        ready .shape .base-within,
+        ready .sound .numbers .threshold-of-base,
+        ready .sound .numbers .base-within,
         ready .within .total-within,
         threshold-small settings (numbers .base) fit,
       )
@@ -118,7 +119,7 @@ module _ (settings : Settings) (numbers : CoordinatorRecord) (m : Message) (memo
         settings-fit = fit;
         memory-long = asks .memory-long;
         value-room = value-room is;
-        signals-few = rw idle at (asks .ready .shape .phase-shape);
+        signals-few = rw idle at (asks .ready .sound .phase-sound);
         total-small = omega (arith, threshold-within, asks .ready .within .total-within);
       }
 
@@ -126,11 +127,11 @@ module _ (settings : Settings) (numbers : CoordinatorRecord) (m : Message) (memo
   poll-asks site collecting =
       let is : m .kind ≡ 4 = kind-of-collecting settings here m taken site collecting in
       let amount : m .a < numbers .threshold = amount-of-poll-answer settings here m taken is in
-      let shape : PhaseShape settings (numbers .signals) (Collecting site) =
-      rw collecting at (asks .ready .shape .phase-shape) in
+      let phase : SoundPhase settings (numbers .signals) (Collecting site) =
+      rw collecting at (asks .ready .sound .phase-sound) in
       record {
         settings-fit = fit;
-        site-known = shape .site-known;
+        site-known = phase .site-known;
         total-small = omega (arith, threshold-within, asks .ready .within .total-within);
       }
 
@@ -140,21 +141,21 @@ module _ (settings : Settings) (numbers : CoordinatorRecord) (m : Message) (memo
   probe-asks site low high total probing =
       let is : m .kind ≡ 6 = kind-of-probing settings here m taken site low high total probing in
       let amount : m .b ≤ siteLimit = amount-of-probe-answer settings here m taken is in
-      let shape : PhaseShape settings (numbers .signals) (Probing site low high total) =
-      rw probing at (asks .ready .shape .phase-shape) in
+      let phase : SoundPhase settings (numbers .signals) (Probing site low high total) =
+      rw probing at (asks .ready .sound .phase-sound) in
       let gathered : total ≤ readyLimit = rw probing at (asks .ready .within .sum-within) in
       record {
-        site-known = shape .closing .site-known;
+        site-known = phase .closing .site-known;
         halving = record {
           settings-fit = fit;
           base-small = omega (
             arith,
-            asks .ready .shape .base-within,
+            asks .ready .sound .numbers .base-within,
             asks .ready .within
                 .total-within,
           );
-          interval = shape .interval;
-          values = shape .values;
+          interval = phase .interval .low-below;
+          values = phase .interval .high-within;
           sum-small = omega arith;
         };
       }

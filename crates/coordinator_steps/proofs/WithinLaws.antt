@@ -19,7 +19,8 @@ use Rattle.model.specs.Limits.{siteLimit}
 use Rattle.model.specs.Settings.{thresholdOf}
 use Rattle.model.specs.Site.{oneMoreAt}
 use Rattle.model.specs.Coordinator.{Coordinator, enough, closed, narrowed, halved, middle, closesRound, takesItemReport, takesCountReport, takesPollAnswer, takesProbeAnswer, coordinatorReceives, announced}
-use Rattle.coordinator_steps.specs.Ready.{phaseSum, CoordinatorWithin}
+use Rattle.model.specs.SoundNetwork.{sumOfPhase}
+use Rattle.coordinator_steps.specs.Ready.{NumbersWithin}
 use Rattle.coordinator_steps.proofs.Accepted.{MessageAccepted, item-amount-of-report, count-amount-of-report, kind-of-collecting, kind-of-probing, amount-of-poll-answer, amount-of-probe-answer}
 use Rattle.coordinator_steps.proofs.StepLaws.{NumbersKept, poll-kept, probe-kept}
 use Rattle.coordinator_steps.proofs.Kept.{receives-cases, announced-cases}
@@ -43,7 +44,7 @@ set-within limit (y ∷ ys) (suc i) x all small (suc j) =
 -- The total and the phase's sum of a coordinator, at most these.
 pub record Grown (total sum : ℕ) (c : Coordinator) : Type 0 where
   pub total-most : c .total ≤ total
-  pub sum-most : phaseSum (c .phase) ≤ sum
+  pub sum-most : sumOfPhase (c .phase) ≤ sum
 
 grown-closed : (settings : Settings) (c : Coordinator) (total : ℕ) (high : Bool)
     → leb 2 (thresholdOf settings total) ≡ high
@@ -100,10 +101,10 @@ probe-grows settings c site low high total m false test =
 
 within-of-kept : (limit more : ℕ) {c c′ : Coordinator}
     → limit ≤ more
-    → CoordinatorWithin limit c
+    → NumbersWithin limit c
     → NumbersKept c c′
     → Grown more more c′
-    → CoordinatorWithin more c′
+    → NumbersWithin more c′
 within-of-kept limit more rises within kept grown = record {
   total-within = grown .total-most;
   estimates-within = λ item. rw (kept .estimates-kept)
@@ -124,7 +125,7 @@ grown-more rises rises′ grown = record {
 }
 
 module _ (settings : Settings) (c : Coordinator) (m : Message) (limit amount : ℕ)
-    (within : CoordinatorWithin limit c) (taken : MessageAccepted settings c m)
+    (within : NumbersWithin limit c) (taken : MessageAccepted settings c m)
     (threshold-most : c .threshold ≤ amount) (site-most : siteLimit ≤ amount) where
   abbrev more : ℕ
   more = limit + amount
@@ -137,11 +138,11 @@ module _ (settings : Settings) (c : Coordinator) (m : Message) (limit amount : �
       (omega (arith, within .histogram-within (m .b))) value
   value-within false value = omega (arith, within .histogram-within value)
 
-  phase-none : (closes : Bool) → phaseSum (if closes then Collecting 0 else Idle) ≤ more
+  phase-none : (closes : Bool) → sumOfPhase (if closes then Collecting 0 else Idle) ≤ more
   phase-none true = omega arith
   phase-none false = omega arith
 
-  within-item : m .kind ≡ 1 → CoordinatorWithin more (takesItemReport c m .coordinator)
+  within-item : m .kind ≡ 1 → NumbersWithin more (takesItemReport c m .coordinator)
   within-item is = record {
     total-within = omega (arith, within .total-within);
     estimates-within = set-within more (c .estimates) (m .a) _
@@ -156,7 +157,7 @@ module _ (settings : Settings) (c : Coordinator) (m : Message) (limit amount : �
     sum-within = omega (arith, within .sum-within);
   }
 
-  within-count : m .kind ≡ 2 → CoordinatorWithin more (takesCountReport settings c m .coordinator)
+  within-count : m .kind ≡ 2 → NumbersWithin more (takesCountReport settings c m .coordinator)
   within-count is = record {
     total-within = omega (
       arith,
@@ -171,7 +172,7 @@ module _ (settings : Settings) (c : Coordinator) (m : Message) (limit amount : �
 
   within-poll : (site : ℕ)
       → c .phase ≡ Collecting site
-      → CoordinatorWithin more (takesPollAnswer settings c site m .coordinator)
+      → NumbersWithin more (takesPollAnswer settings c site m .coordinator)
   within-poll site collecting =
       let is = kind-of-collecting settings c m taken site collecting in
       let below = amount-of-poll-answer settings c m taken is in
@@ -181,7 +182,7 @@ module _ (settings : Settings) (c : Coordinator) (m : Message) (limit amount : �
 
   within-probe : (site low high total : ℕ)
       → c .phase ≡ Probing site low high total
-      → CoordinatorWithin more (takesProbeAnswer settings c site low high total m .coordinator)
+      → NumbersWithin more (takesProbeAnswer settings c site low high total m .coordinator)
   within-probe site low high total probing =
       let is = kind-of-probing settings c m taken site low high total probing in
       let small = amount-of-probe-answer settings c m taken is in
@@ -191,7 +192,7 @@ module _ (settings : Settings) (c : Coordinator) (m : Message) (limit amount : �
       (probe-grows settings c site low high total m (ltb (site + 1) (settings .sites)) refl))
 
   -- A greater limit serves as well.
-  within-same : CoordinatorWithin more c
+  within-same : NumbersWithin more c
   within-same = record {
     total-within = omega (arith, within .total-within);
     estimates-within = λ item. omega (arith, within .estimates-within item);
@@ -199,9 +200,9 @@ module _ (settings : Settings) (c : Coordinator) (m : Message) (limit amount : �
     sum-within = omega (arith, within .sum-within);
   }
 
-  pub within-receives : CoordinatorWithin more (coordinatorReceives settings c m .coordinator)
+  pub within-receives : NumbersWithin more (coordinatorReceives settings c m .coordinator)
   within-receives =
-      receives-cases settings c m (CoordinatorWithin more) taken
+      receives-cases settings c m (NumbersWithin more) taken
       (record {
         item = λ idle is. within-item is;
         count = λ idle is. within-count is;
@@ -211,13 +212,13 @@ module _ (settings : Settings) (c : Coordinator) (m : Message) (limit amount : �
       })
 
 pub within-announced : (settings : Settings) (c : Coordinator) (limit : ℕ)
-    → CoordinatorWithin limit c
-    → CoordinatorWithin limit (announced settings c .coordinator)
+    → NumbersWithin limit c
+    → NumbersWithin limit (announced settings c .coordinator)
 within-announced settings c limit within =
     let total = within .total-within in
     let estimates = within .estimates-within in
     let values = within .histogram-within in
-    announced-cases settings c (CoordinatorWithin limit) within
+    announced-cases settings c (NumbersWithin limit) within
     (λ site announcing known. record {
       total-within = total;
       estimates-within = estimates;

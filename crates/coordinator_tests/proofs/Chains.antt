@@ -2,6 +2,7 @@
 --
 --   refused-first, accepted-first    a chain whose first part refuses, and one whose first part
 --      does not
+--   first-refuses, first-accepts     the same of a result that is the first part
 --   last-row                         a chain whose first part accepts: its last row decides
 --   accepts, refuses, refuses-by                 what is chosen where a call accepts, and where it
 --      refuses
@@ -19,6 +20,21 @@ refused-first (suc first) later refused = refl
 
 pub accepted-first : (first later : ℕ) → first ≡ accepted → (first orElse later) ≡ later
 accepted-first first later none = ap (λ (x : ℕ). x orElse later) none
+
+-- The same of a result that is the first part: it is the whole chain where it refuses, and what
+-- comes later is where it accepts.
+pub first-refuses : {result first : ℕ} (later : ℕ)
+    → result ≡ first
+    → (result ≡ accepted → ⊥)
+    → result ≡ (first orElse later)
+first-refuses {result} {first} later is refused =
+    is ∙ sym (refused-first first later (λ none. refused (is ∙ none)))
+
+pub first-accepts : {result first : ℕ} (later : ℕ)
+    → result ≡ first
+    → result ≡ accepted
+    → later ≡ (first orElse later)
+first-accepts {result} {first} later is none = sym (accepted-first first later (sym is ∙ none))
 
 -- The last row of a chain decides where the first part accepts.
 pub last-row : (first number : ℕ) (test answer : Bool)

@@ -1,124 +1,37 @@
--- The consistency test decides what a step asks: a consistent coordinator has the shape, and its
--- numbers are within document 01's limit, which is below the one that the steps need.
+-- The consistency test decides what a step asks: a consistent coordinator is sound, and its numbers
+-- are within document 01's limit, which is below the one that the steps need.
 --
---   Consistent settings c           shape, and numbers within 100,000,000,000
---   consistent-facts                what `coordinatorConsistent` is worth
---   ready-of-consistent             it is ready for a step
+--   within-more                     a greater limit serves as well
+--   within-of-consistent            numbers within 100,000,000,000
+--   ready-of-consistent             ready for a step
 --   Tested, tested                  what accepted settings and memory are worth
-use mathlib.Core.Path.{_≡_, ap, sym, _∙_}
-use mathlib.Core.Bool.{true, _&&_, _||_, not}
+use mathlib.Core.Path.{_≡_}
+use mathlib.Core.Bool.{true, not}
 use mathlib.Core.List.{List}
 use Prim.Native.Nat.{ℕ, _≤_}
 use native.Mathlib.Omega.{arith}
-use lib.Dec.{eqb, ltb, leb}
+use lib.Dec.{ltb}
 use lib.ListN.{length}
-use borrow.Author.Tests.{leb-true, ltb-true, ltb-false, eqb-true, not-false}
-use Rattle.laws.proofs.Tests.{both-true}
+use borrow.Author.Tests.{ltb-false, not-false}
 use Rattle.model.specs.declared.Settings.{Settings}
-use Rattle.model.specs.declared.Phase.{Phase}
-use Rattle.model.specs.declared.Phase.the-variants.{Idle, Collecting, Probing, Announcing}
 use Rattle.model.specs.declared.CoordinatorRecord.{CoordinatorRecord}
 use Rattle.model.specs.Refusals.{accepted}
-use Rattle.model.specs.Limits.{topValue, coordinatorLimit}
+use Rattle.model.specs.Limits.{coordinatorLimit}
 use Rattle.model.specs.Settings.{settingsRefusal}
-use Rattle.model.specs.SiteMemory.{sum}
 use Rattle.model.specs.Coordinator.{Coordinator}
-use Rattle.model.specs.CoordinatorMemory.{coordinatorIn, coordinatorWords, coordinatorConsistent, coordinatorMemoryRefusal, phaseConsistent, allWithin}
+use Rattle.model.specs.CoordinatorMemory.{coordinatorIn, coordinatorWords, coordinatorConsistent, coordinatorMemoryRefusal}
 use Rattle.model.proofs.RefusalLaws.{both-accepted, passed}
-use Rattle.coordinator_steps.specs.Ready.{ClosingShape, PhaseShape, phaseSum, CoordinatorShape, CoordinatorWithin, CoordinatorReady, readyLimit}
-use Rattle.coordinator_tests.proofs.NumberLaws.{within-at}
+use Rattle.model.proofs.ConsistentCoordinator.{coordinator-sound-of, coordinator-within-of}
+use Rattle.coordinator_steps.specs.Ready.{NumbersWithin, CoordinatorReady, readyLimit}
+use Rattle.coordinator_steps.proofs.MemoryLaws.{estimates-long, histogram-long}
 
--- ---- The phase
-
-closing-shape : (settings : Settings) (signals site : ℕ)
-    → (eqb signals (settings .sites) && ltb site (settings .sites)) ≡ true
-    → ClosingShape settings signals site
-closing-shape settings signals site holds =
-    let both = both-true _ _ holds in
-    record {
-      all-signalled = eqb-true _ _ (both .first-true);
-      site-known = ltb-true _ _ (both .second-true);
-    }
-
-pub phase-shape : (settings : Settings) (signals : ℕ) (phase : Phase)
-    → phaseConsistent settings signals phase ≡ true
-    → PhaseShape settings signals phase
-phase-shape settings signals Idle holds = ltb-true signals (settings .sites) holds
-phase-shape settings signals (Collecting site) holds = closing-shape settings signals site holds
-phase-shape settings signals (Probing site low high total) holds =
-    let four = both-true _ _ holds in
-    let three = both-true _ _ (four .first-true) in
-    let two = both-true _ _ (three .first-true) in
-    record {
-      closing = closing-shape settings signals site (two .first-true);
-      interval = ltb-true _ _ (two .second-true);
-      values = leb-true _ _ (three .second-true);
-    }
-phase-shape settings signals (Announcing site) holds = closing-shape settings signals site holds
-
-phase-sum-within : (settings : Settings) (signals : ℕ) (phase : Phase)
-    → phaseConsistent settings signals phase ≡ true
-    → phaseSum phase ≤ coordinatorLimit
-phase-sum-within settings signals Idle holds = omega arith
-phase-sum-within settings signals (Collecting site) holds = omega arith
-phase-sum-within settings signals (Probing site low high total) holds =
-    let shape = eqb signals (settings .sites)
-    && ltb site (settings .sites)
-    && ltb low high
-    && leb high topValue in
-    leb-true total coordinatorLimit (both-true shape (leb total coordinatorLimit) holds
-    .second-true)
-phase-sum-within settings signals (Announcing site) holds = omega arith
-
--- ---- The whole test
-
-pub record Consistent (settings : Settings) (c : Coordinator) : Type 0 where
-  pub shape : CoordinatorShape settings c
-  pub within : CoordinatorWithin coordinatorLimit c
-  pub histogram-all : allWithin coordinatorLimit (c .histogram) ≡ true
-
--- While the threshold is 1 the other half of the test decides.
-counted-of-test : (c : Coordinator)
-    → (not (eqb (c .threshold) 1) || eqb (sum (c .histogram)) (c .total)) ≡ true
-    → c .threshold ≡ 1
-    → sum (c .histogram) ≡ c .total
-counted-of-test c holds one =
-    eqb-true _ _
-    (ap (λ (n : ℕ). not (eqb n 1) || eqb (sum (c .histogram)) (c .total)) (sym one) ∙ holds)
-
-pub consistent-facts : (settings : Settings) (c : Coordinator)
-    → coordinatorConsistent settings c ≡ true
-    → Consistent settings c
-consistent-facts settings c holds =
-    let eight = both-true _ _ holds in
-    let seven = both-true _ _ (eight .first-true) in
-    let six = both-true _ _ (seven .first-true) in
-    let five = both-true _ _ (six .first-true) in
-    let four = both-true _ _ (five .first-true) in
-    let three = both-true _ _ (four .first-true) in
-    let two = both-true _ _ (three .first-true) in
-    record {
-      shape = record {
-        phase-shape = phase-shape settings (c .signals) (c .phase) (two .first-true);
-        threshold-is = eqb-true _ _ (two .second-true);
-        base-within = leb-true _ _ (three .second-true);
-        quantile-within = leb-true _ _ (four .second-true);
-        counted = counted-of-test c (five .second-true);
-      };
-      within = record {
-        total-within = leb-true _ _ (eight .second-true);
-        estimates-within = within-at coordinatorLimit (c .estimates) (six .second-true);
-        histogram-within = within-at coordinatorLimit (c .histogram) (seven .second-true);
-        sum-within = phase-sum-within settings (c .signals) (c .phase) (two .first-true);
-      };
-      histogram-all = seven .second-true;
-    }
+-- ---- The consistency test
 
 -- A greater limit serves as well.
 pub within-more : (limit more : ℕ) (c : Coordinator)
     → limit ≤ more
-    → CoordinatorWithin limit c
-    → CoordinatorWithin more c
+    → NumbersWithin limit c
+    → NumbersWithin more c
 within-more limit more c rises within = record {
   total-within = omega (arith, within .total-within);
   estimates-within = λ item. omega (arith, within .estimates-within item);
@@ -126,15 +39,30 @@ within-more limit more c rises within = record {
   sum-within = omega (arith, within .sum-within);
 }
 
--- The law of the steps: what the public test accepts, they can take.
-pub ready-of-consistent : (settings : Settings) (c : Coordinator)
+pub within-of-consistent : (settings : Settings) (c : Coordinator)
     → coordinatorConsistent settings c ≡ true
-    → CoordinatorReady settings c
-ready-of-consistent settings c holds =
-    let facts = consistent-facts settings c holds in
+    → NumbersWithin coordinatorLimit c
+within-of-consistent settings c holds =
+    let within = coordinator-within-of settings c holds in
     record {
-      shape = facts .shape;
-      within = within-more coordinatorLimit readyLimit c (omega arith) (facts .within);
+      total-within = within .total-within;
+      estimates-within = within .estimates-within;
+      histogram-within = within .values-within;
+      sum-within = within .sum-within;
+    }
+
+-- The law of the steps: what the public test accepts, they can take.
+pub ready-of-consistent : (settings : Settings) (numbers : CoordinatorRecord) (memory : List ℕ)
+    → coordinatorWords settings ≤ length memory
+    → coordinatorConsistent settings (coordinatorIn settings numbers memory) ≡ true
+    → CoordinatorReady settings (coordinatorIn settings numbers memory)
+ready-of-consistent settings numbers memory long holds =
+    let here = coordinatorIn settings numbers memory in
+    record {
+      sound = coordinator-sound-of settings here (estimates-long settings numbers memory long)
+          (histogram-long settings numbers memory long) holds;
+      within = within-more coordinatorLimit readyLimit here (omega arith)
+          (within-of-consistent settings here holds);
     }
 
 -- ---- The tests of every call

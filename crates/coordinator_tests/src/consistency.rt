@@ -111,8 +111,8 @@ fn numbers_consistent(settings: Settings, coordinator: CoordinatorRecord, memory
     false
 }
 
-// Whether record and memory are consistent. It is internal: the caller has tested settings and
-// length.
+// Whether record and memory are consistent. Internal: `coordinator_memory_refusal` tests settings
+// and length first, and so does the batch call, `network_refusal`.
 pub fn coordinator_consistent(
     settings: Settings,
     coordinator: CoordinatorRecord,

@@ -1,11 +1,13 @@
 // The counters of one site in its lent memory (Space-Saving): the search for an item, the scan for
-// the least count, and the counting of an arrival's item. All functions here are internal steps:
-// what they require, the entry points of crate `site` and the batch call establish by their tests.
+// the least count, and the counting of an arrival's item. The functions with a `requires` are
+// internal; the test that decides it is `site_memory::site_memory_refusal`, which every call on a
+// site makes first, or the batch call's start test.
 
 ghost use mathlib.Core.Path.{_≡_};
 ghost use Prim.Native.Nat.{_+_, _*_, _≤_};
 ghost use lib.ListN.{length};
 ghost use Rattle.model.specs.Counters.{find, leastPlace};
+ghost use Rattle.model.specs.Lent.{before, after};
 ghost use Rattle.model.specs.SiteMemory.{countersIn};
 ghost use Rattle.counters.specs.Count.{CountAsks, CountSays};
 ghost use Rattle.counters.specs.Stored.{storedAt, setCounter, counterOf, ordered};
@@ -23,6 +25,7 @@ pub struct StoredCounter {
 }
 
 // The lowest place of the item's counter, or the number of counters in use if it has none.
+// Internal: `site_memory_refusal` decides that the counters in use lie within the memory.
 pub fn find_counter(memory: &[Word], used: usize, item: Word) -> usize
     requires { ⌜ 4 * used ≤ length (now memory) ⌝ }
     ensures { λ r. ⌜ r ≡ find item (countersIn used (now (memory .entry))) ⌝ }
@@ -53,7 +56,7 @@ pub fn is_before(count: Word, item: Word, least_count: Word, least_item: Word) -
     item < least_item
 }
 
-// The place of the least count, of equals the one of the least item.
+// The place of the least count, of equals the one of the least item. Internal, as `find_counter`.
 pub fn least_counter(memory: &[Word], used: usize) -> usize
     requires { ⌜ 4 * used ≤ length (now memory) ⌝ }
     ensures { λ r. ⌜ r ≡ leastPlace (countersIn used (now (memory .entry))) ⌝ }
@@ -74,7 +77,8 @@ pub fn least_counter(memory: &[Word], used: usize) -> usize
     best
 }
 
-// The counter at a place.
+// The counter at a place. Internal: `site_memory_refusal` decides that all counters lie within the
+// memory.
 pub fn counter_at(memory: &[Word], place: usize) -> StoredCounter
     requires { ⌜ 4 * place + 4 ≤ length (now memory) ⌝ }
     ensures { λ r. ⌜ counterOf r ≡ storedAt (now (memory .entry)) place ⌝ }
@@ -88,10 +92,10 @@ pub fn counter_at(memory: &[Word], place: usize) -> StoredCounter
     }
 }
 
-// A counter stored at a place.
+// A counter stored at a place. Internal, as `counter_at`.
 pub fn put_counter(memory: &mut [Word], place: usize, counter: StoredCounter)
     requires { ⌜ 4 * place + 4 ≤ length (now memory) ⌝ }
-    ensures { λ r. ⌜ now (memory .exit) ≡ setCounter (now (memory .entry)) place (counterOf counter) ⌝ }
+    ensures { λ r. ⌜ after memory ≡ setCounter (before memory) place (counterOf counter) ⌝ }
 {
     let start = 4 * place;
     memory[start] = counter.item;
@@ -107,10 +111,12 @@ pub struct Counted {
     pub counter: StoredCounter,
 }
 
-// An item counted: in its own counter, in the next unused one, or in place of the least.
+// An item counted: in its own counter, in the next unused one, or in place of the least. Internal:
+// `site_memory_refusal` decides that there is a counter, that all lie within the memory, and that
+// no count is above the site's limit.
 pub fn count_item(memory: &mut [Word], capacity: usize, used: usize, item: Word) -> Counted
     requires { ⌜ CountAsks (now memory) capacity used ⌝ }
-    ensures { λ r. ⌜ CountSays (now (memory .entry)) (now (memory .exit)) capacity used item r ⌝ }
+    ensures { λ r. ⌜ CountSays (before memory) (after memory) capacity used item r ⌝ }
 {
     let found = find_counter(memory, used, item);
     if found < used {

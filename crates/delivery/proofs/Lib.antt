@@ -8,8 +8,10 @@ pub mod GoingLaws
 pub mod StepLaws
 pub mod DeliverLaws
 pub mod SendLaws
-pub mod BeginLaws
+pub mod SiteLaws
+pub mod TakenLaws
 pub mod HandLaws
 pub mod HandToCoordinator
 pub mod HandToSite
+pub mod HandSteps
 pub mod RestLaws

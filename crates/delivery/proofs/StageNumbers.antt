@@ -17,14 +17,13 @@ use Rattle.laws.proofs.Sums.{sumBelow-le, sumBelow-const}
 use Rattle.model.specs.declared.Settings.{Settings}
 use Rattle.model.specs.declared.Message.{Message}
 use Rattle.model.specs.declared.Phase.{Phase}
-use Rattle.model.specs.declared.Phase.the-variants.{Idle, Collecting, Probing, Announcing}
+use Rattle.model.specs.declared.Phase.the-variants.{Idle, Announcing}
 use Rattle.model.specs.Limits.{siteLimit}
 use Rattle.model.specs.Counters.{Counter}
 use Rattle.model.specs.Site.{Site, freshSite}
-use Rattle.model.specs.Coordinator.{Coordinator}
 use Rattle.model.specs.Network.{Network, siteAt}
 use Rattle.model.specs.NetworkMemory.{allArrivals}
-use Rattle.model.specs.SoundNetwork.{SoundCounter, SoundSite, SoundPhase, SoundCoordinator}
+use Rattle.model.specs.SoundNetwork.{SoundCounter, SoundSite, sumOfPhase}
 use Rattle.model.proofs.SettingsLaws.{Settled}
 use Rattle.model.proofs.SitesInvariant.{arrivalsAt}
 use Rattle.model.proofs.ClosedSites.{sumBelow-allArrivals}
@@ -32,7 +31,7 @@ use Rattle.model.proofs.Together.{Together, total-bounded}
 use Rattle.model.proofs.Stages.{Announces, Stage, reporting, polling, halving, announcing}
 use Rattle.model.proofs.StageFacts.{stage-coordinator}
 use Rattle.site_memory.specs.Ready.{CounterReady, SiteReady}
-use Rattle.coordinator_steps.specs.Ready.{PhaseShape, CoordinatorShape, CoordinatorReady, phaseSum}
+use Rattle.coordinator_steps.specs.Ready.{CoordinatorReady}
 use Rattle.delivery.specs.Bounded.{Bounded}
 
 -- ---- A site
@@ -89,11 +88,11 @@ module _ {settings : Settings} {network : Network} {waiting : List Message} {lef
       )
 
   announces-no-sum : Announces settings network waiting left
-      → phaseSum (network .coordinator .phase) ≡ 0
+      → sumOfPhase (network .coordinator .phase) ≡ 0
   announces-no-sum a = by-phase (ltb (a .j) (settings .sites)) refl
     where
       by-phase : (more : Bool) → ltb (a .j) (settings .sites) ≡ more
-          → phaseSum (network .coordinator .phase) ≡ 0
+          → sumOfPhase (network .coordinator .phase) ≡ 0
       by-phase true more =
           let announces : network .coordinator .phase ≡ Announcing (a .j) =
           rw more at (a .phase-is) in
@@ -103,7 +102,7 @@ module _ {settings : Settings} {network : Network} {waiting : List Message} {lef
           rw idle
 
   pub sum-small : Stage settings network waiting left
-      → phaseSum (network .coordinator .phase) ≤ settings .sites * siteLimit
+      → sumOfPhase (network .coordinator .phase) ≤ settings .sites * siteLimit
   sum-small (reporting r) = rw (r .idle) (omega arith)
   sum-small (polling p) = rw (p .phase-is) (omega arith)
   sum-small (halving p) =
@@ -114,34 +113,6 @@ module _ {settings : Settings} {network : Network} {waiting : List Message} {lef
 
 -- ---- The coordinator
 
-phase-shape : (settings : Settings) (signals : ℕ) (phase : Phase)
-    → SoundPhase settings signals phase
-    → PhaseShape settings signals phase
-phase-shape settings signals Idle sound = sound
-phase-shape settings signals (Collecting site) sound =
-    record { all-signalled = sound .all-signals; site-known = sound .site-known }
-phase-shape settings signals (Probing site low high sum) sound = record {
-  closing = record {
-    all-signalled = sound .closing .all-signals;
-    site-known = sound .closing .site-known;
-  };
-  interval = sound .interval .low-below;
-  values = sound .interval .high-within;
-}
-phase-shape settings signals (Announcing site) sound =
-    record { all-signalled = sound .all-signals; site-known = sound .site-known }
-
-pub coordinator-shape : {settings : Settings} {c : Coordinator}
-    → SoundCoordinator settings c
-    → CoordinatorShape settings c
-coordinator-shape {settings} {c} sound = record {
-  phase-shape = phase-shape settings (c .signals) (c .phase) (sound .phase-sound);
-  threshold-is = sound .numbers .threshold-of-base;
-  base-within = sound .numbers .base-within;
-  quantile-within = sound .numbers .quantile-within;
-  counted = sound .numbers .histogram-sum;
-}
-
 pub coordinator-ready : {settings : Settings} {network : Network} {waiting : List Message} {left : ℕ}
     → Settled settings
     → Stage settings network waiting left
@@ -151,7 +122,7 @@ coordinator-ready {settings} fit stage bounded =
     let few : settings .sites * siteLimit ≤ 32 * siteLimit =
     mul-le-mul-right siteLimit (fit .sites .at-most) in
     record {
-      shape = coordinator-shape (stage-coordinator fit stage);
+      sound = stage-coordinator fit stage;
       within = record {
         total-within = omega (arith, total-small stage);
         estimates-within = λ item.

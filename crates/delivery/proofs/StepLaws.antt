@@ -35,14 +35,14 @@ use Rattle.site_steps.specs.Steps.{ReceiveAsks, receivedIn, ReceiveStepSays}
 use Rattle.site_steps.proofs.ReceiveLaws.{Due, message-due}
 use Rattle.coordinator_steps.specs.declared.Answered as CoordinatorAnswer
 use Rattle.coordinator_steps.specs.Steps.{answerOf, Does}
-use Rattle.coordinator_steps.specs.Ready.{CoordinatorReady, StepAsks, AnnounceAsks, PhaseShape}
+use Rattle.coordinator_steps.specs.Ready.{CoordinatorReady, StepAsks, AnnounceAsks}
 use Rattle.network_memory.proofs.SitesMemoryLaws.{sitesMemory-kept}
 use Rattle.delivery.specs.declared.Queue.{Queue}
 use Rattle.delivery.specs.declared.Underway.{Underway}
 use Rattle.network_memory.specs.Records.{noRecord, withRecord}
 use Rattle.delivery.specs.Sending.{queueOf, withoutHead, sentIf, loggedIf, SendAsks}
 use Rattle.delivery.specs.Holding.{Given, State, state, Holds, Fits, Going, Delivering, goesOn}
-use Rattle.delivery.proofs.StageNumbers.{at-stage, site-ready, coordinator-shape, coordinator-ready}
+use Rattle.delivery.proofs.StageNumbers.{at-stage, site-ready, coordinator-ready}
 use Rattle.delivery.proofs.BoundedSteps.{answers-one, quiet-site, quiet-announced}
 use Rattle.delivery.proofs.LogLaws.{withoutHead-queueOf}
 use Rattle.delivery.proofs.HoldingLaws.{Stored, StoredCoordinator, record-read, part-long, part-starts, site-read, coordinator-read, coordinator-memory-length, send-asks, holds-answer, holds-coordinator, coordinator-again, holds-site}
@@ -181,11 +181,10 @@ module _ {settings : Settings} {held : State} (u : Delivering settings held)
   pub ask-asks : AnnounceAsks settings (held .underway .coordinator)
   ask-asks = record {
     settings-accepted = u .going .accepting .fits .settings-accepted;
-    phase-shape =
+    phase-sound =
         rw (ask .holds .coordinator)
-        (coordinator-shape
-        (stage-coordinator (going-fit (ask .going .accepting)) (going-stage (ask .going)))
-        .phase-shape);
+        (stage-coordinator (going-fit (ask .going .accepting)) (going-stage (ask .going))
+        .phase-sound);
   }
 
   module _ (answer : CoordinatorAnswer.Answered)

@@ -7,11 +7,8 @@
 --   Fits                   what was given has room for the settings' network
 --   Going                  a delivery that was reached from an accepted arrival at a sound network
 --   Delivering             some delivery goes on in a state: what a step of it requires
---   StepAsks, StepSays     a step of it
+--   StepSays               what a step of it comes to
 --   EndSays                all of it
---   ArrivalAsks            a network at rest in a state, and an arrival that it accepts
---   BeginAsks, BeginSays   the arrival at its site, its messages going out
---   ArrivalSays            the arrival with full delivery
 use mathlib.Core.Path.{_≡_}
 use mathlib.Core.Bool.{Bool, true, not, _||_}
 use mathlib.Core.List.{List, [], _++_}
@@ -125,13 +122,6 @@ pub record Delivering (settings : Settings) (held : State) : Type 0 where
   pub going : Going settings given earlier network arrival steps now
   pub holds : Holds settings given earlier now held
 
-pub record ArrivalAsks (settings : Settings) (arrival : Arrival) (held : State) : Type 0 where
-  pub given : Given
-  pub earlier : List Message
-  pub network : Network
-  pub accepting : Accepting settings given earlier network arrival
-  pub holds : Holds settings given earlier (delivery network [] []) held
-
 -- ---- What it promises
 
 -- A message waits, or the next kind 7 is to be asked for.
@@ -139,11 +129,7 @@ abbrev pub goesOn : Underway → Bool
 goesOn underway =
     not (isZero (underway .waiting .count)) || isAnnouncing (underway .coordinator .phase)
 
--- A step of a delivery that goes on, and what it comes to, whatever delivery the state holds.
-pub record StepAsks (settings : Settings) (held : State) : Type 0 where
-  pub delivering : Delivering settings held
-  pub goes-on : goesOn (held .underway) ≡ true
-
+-- What a step of a delivery comes to, whatever delivery the state holds.
 pub record StepSays (settings : Settings) (before after : State) : Type 0 where
   pub next : (u : Delivering settings before)
       → Holds settings (u .given) (u .earlier) (deliveryStep settings (u .now)) after
@@ -156,32 +142,3 @@ pub record EndSays (settings : Settings) (before after : State) : Type 0 where
   pub ends : (u : Delivering settings before)
       → Holds settings (u .given) (u .earlier)
       (rested (afterArrival settings (u .network) (u .arrival))) after
-
--- ---- An arrival
-
--- The coordinator's memory is not looked at while the site takes the arrival.
-pub record BeginAsks
-    (settings : Settings)
-    (arrival : Arrival)
-    (underway : Underway)
-    (siteMemory log : List ℕ) : Type 0 where
-  pub coordinatorMemory : List ℕ
-  pub asks : ArrivalAsks settings arrival (state underway siteMemory coordinatorMemory log)
-
-pub record BeginSays
-    (settings : Settings)
-    (arrival : Arrival)
-    (before : Underway)
-    (siteBefore logBefore : List ℕ)
-    (after : Underway)
-    (siteAfter logAfter : List ℕ) : Type 0 where
-  pub begins : (coordinatorMemory : List ℕ)
-      (u : ArrivalAsks settings arrival (state before siteBefore coordinatorMemory logBefore))
-      → Holds settings (u .given) (u .earlier) (deliveryOf settings (u .network) arrival)
-      (state after siteAfter coordinatorMemory logAfter)
-
--- An accepted arrival with full delivery, whatever network the state holds.
-pub record ArrivalSays (settings : Settings) (arrival : Arrival) (before after : State) : Type 0 where
-  pub delivers : (u : ArrivalAsks settings arrival before)
-      → Holds settings (u .given) (u .earlier)
-      (rested (afterArrival settings (u .network) arrival)) after

@@ -3,3 +3,5 @@ pub mod Log
 pub mod Sending
 pub mod Bounded
 pub mod Holding
+pub mod Handing
+pub mod Arriving

@@ -10,8 +10,11 @@ ghost use lib.ListN.{length, getD, set};
 ghost use Rattle.model.specs.Messages.{toCoordinator};
 ghost use Rattle.network_memory.specs.Records.{noRecord, withRecord};
 ghost use Rattle.delivery.specs.Log.{putRecord};
-ghost use Rattle.delivery.specs.Sending.{resting, joined, withoutHead, oneCounted, sent, sentIf, sentTwo, loggedIf, loggedTwo, SendAsks, SendTwoAsks};
-ghost use Rattle.delivery.specs.Holding.{state, goesOn, Delivering, StepAsks, StepSays, EndSays, ArrivalAsks, BeginAsks, BeginSays, ArrivalSays};
+ghost use Rattle.delivery.specs.Sending.{nothingWaits, resting, joined, withoutHead, oneCounted, sent, sentIf, sentTwo, loggedIf, loggedTwo, SendAsks, SendTwoAsks};
+ghost use Rattle.delivery.specs.Holding.{state, goesOn, Delivering, EndSays};
+ghost use Rattle.delivery.specs.Handing.{coordinatorChange, changed, HandAsks, HandSays};
+ghost use Rattle.delivery.specs.Arriving.{SiteAsks, SiteSays, MessagesAsk, MessagesSay};
+use coordinator_steps::Answered;
 use counters::Word;
 use model::Arrival;
 use model::CoordinatorRecord;
@@ -20,9 +23,10 @@ use model::Phase;
 use model::Settings;
 use model::SiteRecord;
 use model::Sites;
+use site_steps::Observed;
 
-// The messages that wait to be handed over: two at most, since every hand-over is answered by one at
-// most. An absent one is all zeros.
+// The messages that wait to be handed over, or are to go out: two at most, since an arrival sends
+// two at most, and every hand-over is answered by one at most. An absent one is all zeros.
 pub struct Queue {
     pub count: u32,
     pub first: Message,
@@ -61,20 +65,15 @@ pub fn join(queue: Queue, message: Message) -> Queue
 pub fn take_head(queue: Queue) -> Queue
     ensures { λ r. ⌜ r ≡ withoutHead queue ⌝ }
 {
-    let none = coordinator_steps::no_message();
     if queue.count == 2 {
         let second = queue.second;
         return Queue {
             count: 1,
             first: second,
-            second: none,
+            second: coordinator_steps::no_message(),
         };
     }
-    Queue {
-        count: 0,
-        first: none,
-        second: none,
-    }
+    empty_queue()
 }
 
 // A record of the log.
@@ -107,16 +106,23 @@ pub fn with_record(sites: Sites, which: usize, numbers: SiteRecord) -> Sites
     next
 }
 
+// No message waits.
+pub fn empty_queue() -> Queue
+    ensures { λ r. ⌜ r ≡ nothingWaits ⌝ }
+{
+    let none = coordinator_steps::no_message();
+    Queue {
+        count: 0,
+        first: none,
+        second: none,
+    }
+}
+
 // A network at rest, with so many messages written: nothing waits.
 pub fn at_rest(sites: Sites, coordinator: CoordinatorRecord, written: u64) -> Underway
     ensures { λ r. ⌜ r ≡ resting sites coordinator written ⌝ }
 {
-    let none = coordinator_steps::no_message();
-    let waiting = Queue {
-        count: 0,
-        first: none,
-        second: none,
-    };
+    let waiting = empty_queue();
     Underway {
         sites: sites,
         coordinator: coordinator,
@@ -204,44 +210,65 @@ fn goes_on(underway: Underway) -> bool
     }
 }
 
+// What a hand-over changes: the record of one site, the coordinator's and the messages that wait; and
+// the answer, if `count` is 1. Where the coordinator is handed a message no site's record changes, and
+// that of site 0 stands here as it is.
+pub struct Change {
+    pub which: usize,
+    pub site: SiteRecord,
+    pub coordinator: CoordinatorRecord,
+    pub waiting: Queue,
+    pub count: u32,
+    pub out: Message,
+}
+
+// The coordinator's answer, with so many messages waiting still.
+fn coordinator_change(sites: Sites, waiting: Queue, answer: Answered) -> Change
+    ensures { λ r. ⌜ r ≡ coordinatorChange sites waiting answer ⌝ }
+{
+    let site = record_of(sites, 0);
+    let coordinator = answer.coordinator;
+    let out = answer.out;
+    Change {
+        which: 0,
+        site: site,
+        coordinator: coordinator,
+        waiting: waiting,
+        count: answer.count,
+        out: out,
+    }
+}
+
 // One step of a delivery: the head of the messages that wait is handed over, or, where none waits, the
-// next announcement is asked for; the answer goes out.
-fn take_step(
+// next announcement is asked for. What is under way is only read, and only what changes is handed back:
+// the records of 32 sites are not copied for a message.
+fn hand_over(
     settings: Settings,
     underway: Underway,
     site_memory: &[Word],
     coordinator_memory: &mut [u64],
-    log: &mut [u64],
-) -> Underway
-    requires { ⌜ StepAsks settings (state underway (now «site_memory») (now «coordinator_memory») (now log)) ⌝ }
-    ensures { λ r. ⌜ StepSays settings (state underway (now («site_memory» .entry)) (now («coordinator_memory» .entry)) (now (log .entry))) (state r (now («site_memory» .entry)) (now («coordinator_memory» .exit)) (now (log .exit))) ⌝ }
+) -> Change
+    requires { ⌜ HandAsks settings underway (now «site_memory») (now «coordinator_memory») ⌝ }
+    ensures { λ r. ⌜ HandSays settings underway (now («site_memory» .entry)) (now («coordinator_memory» .entry)) (now («coordinator_memory» .exit)) r ⌝ }
 {
-    let mut next = underway;
+    let sites = underway.sites;
+    let coordinator = underway.coordinator;
     let waiting = underway.waiting;
     if waiting.count == 0 {
-        let coordinator = underway.coordinator;
         let answer = coordinator_steps::announce_step(settings, coordinator);
-        let after = answer.coordinator;
-        let out = answer.out;
-        next.coordinator = after;
-        return send_answer(next, answer.count, out, log);
+        return coordinator_change(sites, waiting, answer);
     }
     let message = waiting.first;
-    next.waiting = take_head(waiting);
+    let rest = take_head(waiting);
     if to_coordinator(message) {
-        let coordinator = underway.coordinator;
         let answer = coordinator_steps::receive_step(
             settings,
             coordinator,
             message,
             coordinator_memory,
         );
-        let after = answer.coordinator;
-        let out = answer.out;
-        next.coordinator = after;
-        return send_answer(next, answer.count, out, log);
+        return coordinator_change(sites, rest, answer);
     }
-    let sites = underway.sites;
     let which = message.site as usize;
     let start = which * site_memory::site_words(settings);
     let part = &site_memory[start..];
@@ -249,8 +276,30 @@ fn take_step(
     let answer = site_steps::receive_step(settings, numbers, message, part);
     let after = answer.site;
     let out = answer.reply;
-    next.sites = with_record(sites, which, after);
-    send_answer(next, answer.count, out, log)
+    Change {
+        which: which,
+        site: after,
+        coordinator: coordinator,
+        waiting: rest,
+        count: answer.count,
+        out: out,
+    }
+}
+
+// What is under way with a hand-over's changes.
+fn settle(underway: Underway, by: Change) -> Underway
+    requires { ⌜ by .which < 32 ⌝ }
+    ensures { λ r. ⌜ r ≡ changed underway by ⌝ }
+{
+    let sites = underway.sites;
+    let site = by.site;
+    let coordinator = by.coordinator;
+    let waiting = by.waiting;
+    let mut next = underway;
+    next.sites = with_record(sites, by.which, site);
+    next.coordinator = coordinator;
+    next.waiting = waiting;
+    next
 }
 
 // A delivery to its end.
@@ -266,47 +315,55 @@ fn deliver(
 {
     let mut underway = first;
     while goes_on(underway) {
-        underway = take_step(settings, underway, site_memory, coordinator_memory, log);
+        let by = hand_over(settings, underway, site_memory, coordinator_memory);
+        underway = settle(underway, by);
+        if by.count != 0 {
+            let out = by.out;
+            underway = send(underway, out, log);
+        }
     }
     underway
 }
 
-// An arrival at its site, and its messages go out.
-fn begin(
+// An arrival at its site, which stands there with the record `own` and a part of the memory: the
+// record then, and the messages that are to go out. Internal: what it requires is decided by the
+// batch call's tests, `network_tests::network_refusal` (1 to 4, 11) when it starts and the refusal
+// of each arrival (5 to 8, 14) before it calls this.
+pub fn observe(
     settings: Settings,
-    underway: Underway,
+    own: SiteRecord,
     arrival: Arrival,
     site_memory: &mut [Word],
-    log: &mut [u64],
-) -> Underway
-    requires { ⌜ BeginAsks settings arrival underway (now «site_memory») (now log) ⌝ }
-    ensures { λ r. ⌜ BeginSays settings arrival underway (now («site_memory» .entry)) (now (log .entry)) r (now («site_memory» .exit)) (now (log .exit)) ⌝ }
+) -> Observed
+    requires { ⌜ SiteAsks settings own arrival (now «site_memory») ⌝ }
+    ensures { λ r. ⌜ SiteSays settings own arrival
+        (now («site_memory» .entry)) (now («site_memory» .exit)) r ⌝ }
 {
-    let sites = underway.sites;
     let which = arrival.site as usize;
     let start = which * site_memory::site_words(settings);
-    let numbers = record_of(sites, which);
-    let observed = site_steps::observe_step(settings, numbers, arrival, &mut site_memory[start..]);
-    let after = observed.site;
-    let first = observed.first;
-    let second = observed.second;
-    let mut next = underway;
-    next.sites = with_record(sites, which, after);
-    send_two(next, observed.count, first, second, log)
+    site_steps::observe_step(settings, own, arrival, &mut site_memory[start..])
 }
 
-// An accepted arrival with full delivery. A record of the log is written and counted for each message.
-pub fn take_arrival(
+// The messages of an arrival that its site has taken go out, with full delivery. A record of the
+// log is written and counted for each message. Internal, as `observe` is.
+pub fn deliver_messages(
     settings: Settings,
     underway: Underway,
-    arrival: Arrival,
-    site_memory: &mut [Word],
+    out: Queue,
+    site_memory: &[Word],
     coordinator_memory: &mut [u64],
     log: &mut [u64],
 ) -> Underway
-    requires { ⌜ ArrivalAsks settings arrival (state underway (now «site_memory») (now «coordinator_memory») (now log)) ⌝ }
-    ensures { λ r. ⌜ ArrivalSays settings arrival (state underway (now («site_memory» .entry)) (now («coordinator_memory» .entry)) (now (log .entry))) (state r (now («site_memory» .exit)) (now («coordinator_memory» .exit)) (now (log .exit))) ⌝ }
+    requires { ⌜ MessagesAsk settings out
+        (state underway (now «site_memory») (now «coordinator_memory») (now log)) ⌝ }
+    ensures { λ r. ⌜ MessagesSay settings out
+        (state underway (now («site_memory» .entry))
+        (now («coordinator_memory» .entry)) (now (log .entry)))
+        (state r (now («site_memory» .entry))
+        (now («coordinator_memory» .exit)) (now (log .exit))) ⌝ }
 {
-    let begun = begin(settings, underway, arrival, site_memory, log);
+    let first = out.first;
+    let second = out.second;
+    let begun = send_two(underway, out.count, first, second, log);
     deliver(settings, begun, site_memory, coordinator_memory, log)
 }

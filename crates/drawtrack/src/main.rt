@@ -1,7 +1,10 @@
-// The program `drawtrack`: a line of settings and a worklist on standard input; the messages of each
-// draw, and then the results or the line of a refusal, on standard output. Thin over crate `session`:
-// it lends the memory, reads once, and writes what each call wrote.
+// The program `drawtrack`: a line of settings and a worklist on standard input; the messages of
+// each draw, and then the results or the line of a refusal, on standard output. Thin over crate
+// `session`: it lends the memory, reads once, and writes what each call wrote.
 
+ghost use mathlib.Core.Path.{_≡_};
+ghost use mathlib.Core.Bool.{false};
+ghost use Rattle.drawtrack.specs.Serving.{Lends};
 use libc::STDIN_FILENO;
 use libc::STDOUT_FILENO;
 
@@ -15,8 +18,9 @@ fn write_out(written: usize, out: &[u8]) {
     }
 }
 
-// A call for each line, until the session has ended. Each line after which it goes on takes six bytes
-// or more, so it ends long before the turns do.
+// A call for each line, until the session has ended. Each line after which it goes on takes six
+// bytes or more, so it ends long before the turns do. Answers whether the session still goes on:
+// it never does.
 fn serve(
     input: &[u8],
     site_memory: &mut [u32],
@@ -24,7 +28,10 @@ fn serve(
     log: &mut [u64],
     list: &mut [u32],
     out: &mut [u8],
-) {
+) -> bool
+    requires { ⌜ Lends (now input) (now «site_memory») (now «coordinator_memory») (now log) (now list) (now out) ⌝ }
+    ensures { λ r. ⌜ r ≡ false ⌝ }
+{
     let first = session::begin(input, site_memory, coordinator_memory, out);
     write_out(first.written, out);
     let mut session = first.session;
@@ -43,10 +50,12 @@ fn serve(
         session = turn.session;
         turns += 1;
     }
+    session.going
 }
 
-// The memory for the program's limits: 4 sites of 4 × 100 + 1024 numbers, 1000 + 1024 numbers of the
-// coordinator, a log of 94 messages, 1000 listed items, and the lines of 94 messages or the results.
+// The memory for the program's limits: 4 sites of 4 × 100 + 1024 numbers, 1000 + 1024 numbers of
+// the coordinator, a log of 94 messages, 1000 listed items, and the lines of 94 messages or the
+// results.
 fn main() {
     let mut input = [0u8; 8241];
     let mut site_memory = [0u32; 5696];

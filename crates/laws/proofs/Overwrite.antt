@@ -9,7 +9,7 @@ use mathlib.Core.Path.{_≡_, refl, ap, sym, _∙_}
 use mathlib.Core.List.{List, _++_, append-assoc}
 use Prim.Native.Nat.{ℕ, _+_, _≤_, _<_}
 use native.Mathlib.Omega.{arith}
-use lib.ListN.{length, set, take, drop, length-append, length-drop}
+use lib.ListN.{length, set, take, drop}
 use lib.Seq.{set-append-left, length-take-le, take-add, take-at, drop-at}
 use Rattle.laws.proofs.FlatMemory.{overwritten, overwritten-set, overwritten-take, set-append-add}
 

@@ -6,7 +6,6 @@
 --   true-of-not      and it holds
 --   ltb-is-not-leb   b < a is the negation of a ≤ b, as tests
 --   and-false, and-true, or-false   a joined test whose second part is known
---   first-fails, second-fails       a disjunction that fails, fails in both parts
 use mathlib.Core.Path.{_≡_, refl, sym, _∙_}
 use Prim.Native.Nat.{ℕ}
 use lib.Dec.{leb, ltb}
@@ -54,11 +53,3 @@ and-false false = refl
 pub and-true : (test : Bool) → (test && true) ≡ test
 and-true true = refl
 and-true false = refl
-
-pub first-fails : (first second : Bool) → (first || second) ≡ false → first ≡ false
-first-fails true second impossible = absurd (false≢true (sym impossible))
-first-fails false second fails = refl
-
-pub second-fails : (first second : Bool) → (first || second) ≡ false → second ≡ false
-second-fails true second impossible = absurd (false≢true (sym impossible))
-second-fails false second fails = fails

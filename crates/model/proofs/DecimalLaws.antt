@@ -5,7 +5,7 @@
 --                                   too many makes it no number
 --   decimal-small, decimal-large    the digits of a number below ten, and of another by its tenth
 --   length-decimal-large            how many they are
-use mathlib.Core.Path.{_≡_, refl, ap, _∙_}
+use mathlib.Core.Path.{_≡_, ap, _∙_}
 use mathlib.Core.Bool.{true, false}
 use mathlib.Core.List.{List, [], _∷_, _++_}
 use Prim.Native.Nat.{ℕ, zero, suc, _+_, _*_, _/_, _%_, _≤_, _<_}
@@ -13,7 +13,7 @@ use native.Mathlib.Omega.{arith}
 use native.Mathlib.Decide.{decLt}
 use lib.ListN.{length, length-append}
 use borrow.Author.Tests.{lt-ltb, le-ltb}
-use Rattle.model.specs.Decimal.{isDigit, digitValue, digitByte, Number, noNumber, number, moreDigits, decimalWithin, decimal}
+use Rattle.model.specs.Decimal.{isDigit, digitValue, digitByte, noNumber, number, moreDigits, decimalWithin, decimal}
 use Rattle.model.proofs.SettingsLaws.{Within, within-of-between}
 
 -- ---- Reading

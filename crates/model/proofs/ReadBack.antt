@@ -3,18 +3,18 @@
 --   length-decimal-le  how many digits a number has at most
 --   read-back          a number below ten million, before anything but another digit
 --   read-back-fields   a line of such numbers, before anything
-use mathlib.Core.Path.{_≡_, refl, sym, ap, _∙_, subst}
+use mathlib.Core.Path.{_≡_, refl, ap, _∙_}
 use mathlib.Core.Bool.{Bool, true, false, _&&_, not, and-false}
 use mathlib.Core.List.{List, [], _∷_, _++_, append-assoc}
-use Prim.Native.Nat.{ℕ, zero, suc, _+_, _-_, _*_, _/_, _%_, _^_, _≤_, _<_}
+use Prim.Native.Nat.{ℕ, zero, suc, _+_, _*_, _/_, _%_, _^_, _≤_, _<_}
 use native.Mathlib.Nat.{pow-suc}
 use native.Mathlib.Omega.{arith}
 use native.Mathlib.Decide.{decLt}
 use lib.Dec.{eqb, ltb}
-use lib.ListN.{length, length-append}
+use lib.ListN.{length}
 use borrow.Author.Tests.{le-leb, eq-eqb, eqb-true, ltb-true, not-true}
 use Rattle.laws.proofs.Tests.{both-true}
-use Rattle.model.specs.Decimal.{isDigit, digitValue, digitByte, noNumber, number, moreDigits, leadingZero, readNumber, decimal}
+use Rattle.model.specs.Decimal.{isDigit, digitValue, digitByte, number, moreDigits, leadingZero, readNumber, decimal}
 use Rattle.model.specs.Lines.{fields, semicolon, lineFeed, beforeMark, readField, withField, readFields, writeFields}
 use Rattle.model.specs.WorklistClaims.{allSmall}
 use Rattle.model.proofs.LineLaws.{fields-last, fields-more}

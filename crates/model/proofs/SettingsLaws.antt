@@ -3,7 +3,7 @@
 --   Settled settings     the record of those facts
 --   settled              accepted settings have them
 use mathlib.Core.Path.{_≡_}
-use mathlib.Core.Bool.{Bool, true, false, _&&_, not}
+use mathlib.Core.Bool.{true, not}
 use Prim.Native.Nat.{ℕ, _*_, _≤_}
 use lib.Dec.{leb, ltb}
 use native.Mathlib.Omega.{arith}
@@ -13,7 +13,7 @@ use Rattle.model.specs.declared.Settings.{Settings}
 use Rattle.model.specs.Choice.{between}
 use Rattle.model.specs.Refusals.{accepted}
 use Rattle.model.specs.Settings.{inRange, settingsRefusal}
-use Rattle.model.proofs.RefusalLaws.{Passed, passed}
+use Rattle.model.proofs.RefusalLaws.{passed}
 
 -- A number within a range.
 pub record Within (low x high : ℕ) : Type 0 where

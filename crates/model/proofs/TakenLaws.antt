@@ -10,7 +10,6 @@ use Prim.Native.Nat.{ℕ, zero, suc, _+_, _*_, _≤_}
 use native.Mathlib.Omega.{arith}
 use lib.Dec.{eqb}
 use lib.ListN.{length, length-append}
-use Rattle.model.specs.Choice.{if_then_else_}
 use Rattle.model.specs.Decimal.{isDigit, digitValue, leadingZero, Number, noNumber, number, moreDigits, readNumber}
 use Rattle.model.specs.Lines.{beforeMark, readField}
 use Rattle.model.proofs.DecimalLaws.{more-digits-on, more-digits-stop, more-digits-long}

@@ -7,13 +7,13 @@
 --   worklist-claims                      the theorem (specs/WorklistClaims.antt)
 use mathlib.Core.Path.{_≡_, refl, sym, ap, _∙_}
 use mathlib.Core.Bool.{true}
-use mathlib.Core.List.{List, [], _∷_, _++_}
+use mathlib.Core.List.{List, [], _∷_}
 use Prim.Native.Nat.{ℕ, zero, suc, _+_, _≤_}
 use native.Mathlib.Omega.{arith}
 use lib.ListN.{length, length-append}
 use Rattle.laws.proofs.Tests.{both-true}
 use Rattle.model.specs.declared.Arrival.{Arrival}
-use Rattle.model.specs.Lines.{Fields, malformed, fields, lineFeed, readFields, writeFields, arrivalOf, fieldsOf, Worklist, ended, malformedAt, next, readFrom, readWorklist, writeWorklist}
+use Rattle.model.specs.Lines.{Fields, malformed, fields, lineFeed, readFields, arrivalOf, fieldsOf, ended, malformedAt, next, readFrom, writeWorklist}
 use Rattle.model.specs.WorklistClaims.{allSmall, allWritable, worklistOf, LineLength, WorklistClaims}
 use Rattle.model.proofs.ReadBack.{read-back-fields}
 use Rattle.model.proofs.LineTaken.{fields-taken}

@@ -9,6 +9,7 @@ pub mod Lines
 pub mod Messages
 pub mod Counters
 pub mod Site
+pub mod Lent
 pub mod SiteMemory
 pub mod Coordinator
 pub mod CoordinatorMemory

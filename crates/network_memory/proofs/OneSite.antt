@@ -1,5 +1,5 @@
--- One site's part of a longer memory: reading looks at the part alone, writing changes the part alone,
--- and a site written twice is as if written the second time alone. Document 01, "Deck".
+-- One site's part of a longer memory: reading looks at the part alone, writing changes the part
+-- alone, and a site written twice is as if written the second time alone. Document 01, "Deck".
 --
 --   Storable                 a site that its part has room for
 --   overwritten-again        the front of a list overwritten twice
@@ -8,11 +8,11 @@
 --   siteMemory-again         written over another with no more counters
 use mathlib.Core.Path.{_≡_, refl, ap, sym, _∙_, subst⁻¹}
 use mathlib.Core.List.{List, [], _∷_, _++_, append-assoc}
-use Prim.Native.Nat.{ℕ, zero, suc, _+_, _-_, _*_, _<_, _≤_}
+use Prim.Native.Nat.{ℕ, zero, suc, _+_, _-_, _*_, _≤_}
 use native.Mathlib.Omega.{arith}
-use lib.ListN.{length, getD, take, drop, length-append, length-drop}
+use lib.ListN.{length, take, drop, length-drop}
 use lib.Seq.{length-take-le, take-append-le, drop-append-le, drop-append-add, take-take, drop-drop, take-add, take-at, drop-at}
-use Rattle.laws.proofs.FlatMemory.{Four, four, overwritten, length-overwritten, overwritten-front}
+use Rattle.laws.proofs.FlatMemory.{four, overwritten, length-overwritten, overwritten-front}
 use Rattle.model.specs.declared.Settings.{Settings}
 use Rattle.model.specs.declared.SiteRecord.{SiteRecord}
 use Rattle.model.specs.Limits.{valueCount}
@@ -72,7 +72,8 @@ siteIn-front settings numbers part rest few long =
     let words = counterWords settings in
     let counters = countersIn-front (numbers .used) part rest (omega arith) in
     let back : valueCount ≤ length (drop words part) = rw (length-drop words part) (omega arith) in
-    let histogram : take valueCount (drop words (part ++ rest)) ≡ take valueCount (drop words part) =
+    let histogram : take valueCount (drop words (part ++ rest))
+    ≡ take valueCount (drop words part) =
     ap (take valueCount) (drop-append-le words part rest (omega arith))
     ∙ take-append-le valueCount (drop words part) rest back in
     λ i. record {

@@ -1,6 +1,5 @@
--- The sites' memory: "In a bench the decks' memory stands one after another, deck 0 first." One site
--- written to it, the others as they were.
--- PROOF.md section 7, "Frame".
+-- The sites' memory: "In a bench the decks' memory stands one after another, deck 0 first." One
+-- site written to it, the others as they were. PROOF.md section 7, "Frame".
 --
 --   AllStorable                    every site fits its part
 --   length-sitesMemory             writing keeps the length
@@ -8,7 +7,7 @@
 --   sitesMemory-kept               a site set with the same counters and values: nothing is written
 --   siteRecords-set                the same of the records
 -- Letter: j a site.
-use mathlib.Core.Path.{_≡_, refl, ap, sym, _∙_}
+use mathlib.Core.Path.{_≡_, refl, ap, _∙_}
 use mathlib.Core.List.{List, [], _∷_, _++_, append-assoc}
 use Prim.Native.Nat.{ℕ, zero, suc, _+_, _*_, _<_, _≤_}
 use native.Mathlib.Omega.{arith}
@@ -126,7 +125,8 @@ drop-sitesMemory settings (site ∷ sites) memory (suc j) all long j< =
     ∙ rw (drop-drop (j * words) words memory, e′)
 
 -- Site j written to its part of a memory that holds all sites: the same as that site set.
-pub sitesMemory-set : (settings : Settings) (sites : List Site) (memory : List ℕ) (j : ℕ) (site : Site)
+pub sitesMemory-set : (settings : Settings) (sites : List Site) (memory : List ℕ) (j : ℕ)
+    (site : Site)
     → AllStorable settings sites
     → Storable settings site
     → length (getD sites j freshSite .counters) ≤ length (site .counters)
@@ -143,7 +143,8 @@ sitesMemory-set settings (first ∷ sites) memory zero site all fits grows long 
     let rest = sitesMemory settings sites (drop words memory) in
     let width : length old ≡ words =
     written-length settings (length sites) memory long first (all .at 0 (omega arith)) in
-    let enough : words ≤ length (old ++ rest) = rw (length-append old rest) (omega (arith, width)) in
+    let enough : words ≤ length (old ++ rest) =
+    rw (length-append old rest) (omega (arith, width)) in
     let e : 0 * words ≡ 0 = omega arith in
     rw e
     (siteMemory-front settings site (old ++ rest) fits enough
@@ -161,7 +162,8 @@ sitesMemory-set settings (first ∷ sites) memory (suc j) site all fits grows lo
     written-length settings (length sites) memory long first (all .at 0 (omega arith)) in
     let e : suc j * words ≡ length part + j * words = omega (arith, width) in
     ap (λ (n : ℕ). take n (part ++ rest) ++ siteMemory settings site (drop n (part ++ rest))) e
-    ∙ ap (λ (l : List ℕ). l ++ siteMemory settings site (drop (length part + j * words) (part ++ rest)))
+    ∙ ap (λ (l : List ℕ).
+    l ++ siteMemory settings site (drop (length part + j * words) (part ++ rest)))
     (take-append-add part rest (j * words))
     ∙ ap (λ (l : List ℕ). (part ++ take (j * words) rest) ++ siteMemory settings site l)
     (drop-append-add part rest (j * words))
@@ -171,7 +173,8 @@ sitesMemory-set settings (first ∷ sites) memory (suc j) site all fits grows lo
     (rest-long settings (length sites) memory long) (omega arith))
 
 -- Counters and values are all that stands in memory.
-pub sitesMemory-kept : (settings : Settings) (sites : List Site) (memory : List ℕ) (j : ℕ) (site : Site)
+pub sitesMemory-kept : (settings : Settings) (sites : List Site) (memory : List ℕ) (j : ℕ)
+    (site : Site)
     → site .counters ≡ getD sites j freshSite .counters
     → site .histogram ≡ getD sites j freshSite .histogram
     → sitesMemory settings (set sites j site) memory ≡ sitesMemory settings sites memory

@@ -1,12 +1,12 @@
--- The sites read from their records and memory: one of them, all of them back from what was written,
--- and written again what was read.
+-- The sites read from their records and memory: one of them, all of them back from what was
+-- written, and written again what was read.
 --
 --   siteIn-sitesMemory             site j read from a memory that holds all sites
 --   getD-sitesIn, length-sitesIn   one of the sites that were read, and how many they are
 --   sitesIn-sitesMemory            all sites read back
 --   sitesMemory-sitesIn, siteRecords-sitesIn   what was read, written again, changes nothing
 -- Letters: j a site, k how many sites.
-use mathlib.Core.Path.{_≡_, refl, ap, sym, _∙_, subst}
+use mathlib.Core.Path.{_≡_, refl, ap, sym, _∙_}
 use mathlib.Core.List.{List, [], _∷_, _++_}
 use Prim.Native.Nat.{ℕ, zero, suc, _+_, _*_, _<_, _≤_}
 use native.Mathlib.Nat.{mul-le-mul-right}
@@ -20,7 +20,7 @@ use Rattle.model.specs.SiteMemory.{siteWords, siteIn, siteRecord, siteMemory}
 use Rattle.model.specs.NetworkMemory.{sitesIn, sitesMemory, siteRecords}
 use Rattle.site_memory.proofs.SiteMemoryLaws.{siteIn-siteMemory, siteMemory-siteIn, siteRecord-siteIn}
 use Rattle.network_memory.proofs.OneSite.{Storable, siteIn-front, length-written}
-use Rattle.network_memory.proofs.SitesMemoryLaws.{AllStorable, later, part-long, part-length, rest-long, drop-sitesMemory, written-length}
+use Rattle.network_memory.proofs.SitesMemoryLaws.{AllStorable, later, part-length, rest-long, drop-sitesMemory, written-length}
 
 -- ---- Read back
 
@@ -30,7 +30,8 @@ part-read : (settings : Settings) (site : Site) (part rest : List ℕ)
     → siteWords settings ≤ length part
     → siteIn settings (siteRecord site) (siteMemory settings site part ++ rest) ≡ site
 part-read settings site part rest fits long =
-    siteIn-front settings (siteRecord site) (siteMemory settings site part) rest (fits .few-counters)
+    siteIn-front settings (siteRecord site) (siteMemory settings site part) rest
+    (fits .few-counters)
     (rw (length-written settings site part fits long) long)
     ∙ siteIn-siteMemory settings site part (fits .few-counters) (fits .all-values) long
 
@@ -59,7 +60,8 @@ pub sitesIn-sitesMemory : (settings : Settings) (sites : List Site) (numbers : L
     → AllStorable settings sites
     → length sites ≤ length numbers
     → length sites * siteWords settings ≤ length memory
-    → sitesIn (length sites) settings (siteRecords sites numbers) (sitesMemory settings sites memory)
+    → sitesIn (length sites) settings (siteRecords sites numbers)
+    (sitesMemory settings sites memory)
     ≡ sites
 sitesIn-sitesMemory settings [] numbers memory all enough long = refl
 sitesIn-sitesMemory settings (site ∷ sites) [] memory all enough long = absurd (omega arith)
@@ -110,7 +112,8 @@ getD-sitesIn default (suc k) settings (first ∷ others) memory (suc j) j< enoug
 
 -- ---- Written again
 
-pub siteRecords-sitesIn : (k : ℕ) (settings : Settings) (numbers : List SiteRecord) (memory : List ℕ)
+pub siteRecords-sitesIn : (k : ℕ) (settings : Settings) (numbers : List SiteRecord)
+    (memory : List ℕ)
     → siteRecords (sitesIn k settings numbers memory) numbers ≡ numbers
 siteRecords-sitesIn zero settings numbers memory = refl
 siteRecords-sitesIn (suc k) settings [] memory = refl

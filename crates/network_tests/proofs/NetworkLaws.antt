@@ -5,7 +5,7 @@
 --   count-refused .. sites-refused    the rows of the test
 --   refused-settings .. refused-not   the rows of the refusal
 --   fits-of-long                      memory that is not too short
-use mathlib.Core.Path.{_≡_, refl, sym, ap, _∙_}
+use mathlib.Core.Path.{_≡_, sym}
 use mathlib.Core.Bool.{Bool, true, false, _&&_, false≢true}
 use mathlib.Core.List.{List, [], _∷_}
 use Prim.Native.Nat.{ℕ, zero, suc, _+_, _*_, _≤_, _<_}
@@ -21,7 +21,7 @@ use Rattle.model.specs.declared.SiteRecord.{SiteRecord}
 use Rattle.model.specs.declared.Sites.{Sites}
 use Rattle.model.specs.declared.CoordinatorRecord.{CoordinatorRecord}
 use Rattle.model.specs.Refusals.{accepted, memoryTooShort, memoryInconsistent}
-use Rattle.model.specs.Limits.{siteLimit, coordinatorLimit, messageLimit}
+use Rattle.model.specs.Limits.{messageLimit}
 use Rattle.model.specs.Settings.{settingsRefusal}
 use Rattle.model.specs.SiteMemory.{siteWords, siteIn, siteConsistent}
 use Rattle.model.specs.CoordinatorMemory.{coordinatorIn, coordinatorConsistent}
@@ -30,9 +30,9 @@ use Rattle.model.specs.NetworkMemory.{sitesWords, networkIn, sitesConsistent, a
 use Rattle.model.proofs.RefusalLaws.{refused-same}
 use Rattle.site_memory.specs.Ready.{SiteReady}
 use Rattle.site_memory.proofs.ReadyLaws.{ready-of-consistent}
-use Rattle.coordinator_tests.proofs.ReadyLaws.{consistent-facts}
+use Rattle.model.proofs.ConsistentCoordinator.{coordinator-within-of}
 use Rattle.network_memory.specs.Records.{noRecord}
-use Rattle.network_tests.specs.Contracts.{SitesFit, NetworkFits, RecordsFit, CountsFit}
+use Rattle.network_tests.specs.Contracts.{SitesFit, NetworkFits, CountsFit}
 
 module _ (settings : Settings) where
   pub enough-records : (k : ℕ) (records : List SiteRecord) (memory : List ℕ)
@@ -83,7 +83,8 @@ pub counts-fit : {settings : Settings} {siteMemory : List ℕ}
     → sitesConsistent (settings .sites) settings (sites .records) siteMemory ≡ true
     → coordinatorConsistent settings (coordinatorIn settings coordinator coordinatorNumbers) ≡ true
     → CountsFit settings sites (coordinator .total)
-counts-fit {settings} {siteMemory} fits sites coordinator coordinatorNumbers sites-hold coordinator-holds =
+counts-fit {settings} {siteMemory} fits sites coordinator coordinatorNumbers sites-hold
+    coordinator-holds =
     let ready = ready-at fits (sites .records) sites-hold in
     record {
       records-fit = record {
@@ -94,9 +95,9 @@ counts-fit {settings} {siteMemory} fits sites coordinator coordinatorNumbers sit
             omega (arith, ready j j< .pending-within, ready j j< .threshold-within);
         arrivals-within = λ j j<. ready j j< .arrivals-within;
       };
-      total-within = consistent-facts settings
+      total-within = coordinator-within-of settings
           (coordinatorIn settings coordinator coordinatorNumbers) coordinator-holds
-          .within .total-within;
+          .total-within;
     }
 
 -- ---- The rows of the test

@@ -1,10 +1,8 @@
 -- Memory that is too short, or not: refusal 4 of a whole network.
-use mathlib.Core.Path.{_≡_, refl, sym, ap, _∙_}
-use mathlib.Core.Bool.{true, _||_}
+use mathlib.Core.Path.{_≡_}
+use mathlib.Core.Bool.{true}
 use mathlib.Core.List.{List}
 use Prim.Native.Nat.{ℕ, _+_, _*_, _≤_, _<_}
-use native.Mathlib.Nat.{mul-le-mul}
-use native.Mathlib.Omega.{arith}
 use lib.Dec.{ltb}
 use lib.ListN.{length}
 use borrow.Author.Tests.{lt-ltb, le-ltb}
@@ -15,15 +13,14 @@ use Rattle.model.specs.SiteMemory.{siteWords}
 use Rattle.model.specs.NetworkMemory.{sitesWords, networkTooShort}
 use Rattle.model.proofs.SettingsLaws.{settled}
 use Rattle.site_memory.proofs.ValueLaws.{valueCount-is}
+use Rattle.network_memory.proofs.SitePart.{all-small}
 
--- The numbers of all sites' memory are far from what a machine number holds.
-pub all-small : (settings : Settings)
+-- The words of all sites, with those of one that the code computed.
+pub all-words : (settings : Settings) (words : ℕ)
     → settingsRefusal settings ≡ accepted
-    → sitesWords settings ≤ 32 * 13024
-all-small settings none =
-    let fit = settled settings none in
-    let words : siteWords settings ≤ 13024 = omega (arith, fit .capacity .at-most, valueCount-is) in
-    mul-le-mul (fit .sites .at-most) words
+    → words ≡ siteWords settings
+    → settings .sites * words ≤ 32 * 13024
+all-words settings words none words-are = rw words-are (all-small (settled settings none))
 
 module _ (settings : Settings) (sites coordinator : List ℕ) where
   pub sites-short : length sites < sitesWords settings

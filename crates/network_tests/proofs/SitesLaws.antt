@@ -6,20 +6,19 @@
 --   Same, same-*                they have the threshold
 --   Counted, counted-*          their pendings and arrivals are added
 -- Letters: k the sites, j one of them.
-use mathlib.Core.Path.{_≡_, refl, sym, ap, _∙_}
+use mathlib.Core.Path.{_≡_, sym, ap, _∙_}
 use mathlib.Core.Bool.{Bool, true, false, _&&_}
 use mathlib.Core.List.{List, [], _∷_}
-use Prim.Native.Nat.{ℕ, zero, suc, _+_, _-_, _*_, _≤_, _<_}
+use Prim.Native.Nat.{ℕ, suc, _+_, _-_, _*_, _≤_, _<_}
 use native.Mathlib.Omega.{arith}
 use native.Mathlib.Decide.{decLt}
-use lib.Dec.{eqb, ltb, leb}
+use lib.Dec.{eqb}
 use lib.ListN.{length, getD, drop, drop-of-length-le, List·getD-eq-default}
 use lib.Seq.{drop-cons, drop-drop}
 use borrow.Author.Tests.{eq-eqb, ne-eqb}
 use Rattle.laws.proofs.Tests.{and-false}
 use Rattle.model.specs.declared.Settings.{Settings}
 use Rattle.model.specs.declared.SiteRecord.{SiteRecord}
-use Rattle.model.specs.Limits.{siteLimit}
 use Rattle.model.specs.Site.{Site}
 use Rattle.model.specs.SiteMemory.{siteWords, siteIn, siteConsistent}
 use Rattle.model.specs.NetworkMemory.{sitesIn, sitesConsistent, sameThreshold, allPending, allArrivals}

@@ -1,39 +1,38 @@
--- A network that passes the batch call's tests is sound, its numbers are within the limits, and what
--- was given has room for it: what deliveries in it require.
+-- A network that passes the batch call's tests is sound, its numbers are within the limits, and
+-- what was given has room for it: what deliveries in it require.
 --
---   sound-site, sound-coordinator     a ready site and a coordinator's shape, as soundness
+--   sound-site                        a ready site is sound
 --   Passing, passing                  what an accepted start is worth
-use mathlib.Core.Path.{_≡_, refl, sym, ap, _∙_, subst⁻¹}
-use mathlib.Core.Bool.{Bool, true, false, _&&_, not, false≢true}
+use mathlib.Core.Path.{_≡_, refl, subst⁻¹}
+use mathlib.Core.Bool.{Bool, true, _&&_, not, false≢true}
 use mathlib.Core.List.{List, [], _∷_}
 use Prim.Native.Nat.{ℕ, zero, suc, _+_, _*_, _≤_, _<_}
 use native.Mathlib.Omega.{arith}
 use lib.Dec.{eqb, ltb, leb}
-use lib.ListN.{length, getD, take, drop, length-drop}
-use lib.Seq.{length-take-le}
+use lib.ListN.{length, getD, drop}
 use borrow.Author.Tests.{leb-true, eqb-true, not-false}
-use Rattle.laws.proofs.Tests.{both-true}
+use Rattle.laws.proofs.Tests.{BothTrue, both-true}
 use Rattle.model.specs.declared.Settings.{Settings}
 use Rattle.model.specs.declared.Phase.{Phase}
 use Rattle.model.specs.declared.Phase.the-variants.{Idle, Collecting, Probing, Announcing}
 use Rattle.model.specs.declared.Sites.{Sites}
 use Rattle.model.specs.declared.CoordinatorRecord.{CoordinatorRecord}
 use Rattle.model.specs.Refusals.{accepted}
-use Rattle.model.specs.Limits.{valueCount, messageLimit}
+use Rattle.model.specs.Limits.{messageLimit}
 use Rattle.model.specs.Settings.{settingsRefusal}
 use Rattle.model.specs.Site.{Site, freshSite}
 use Rattle.model.specs.SiteMemory.{siteWords, siteIn}
-use Rattle.model.specs.Coordinator.{Coordinator, isIdle}
+use Rattle.model.specs.Coordinator.{isIdle}
 use Rattle.model.specs.CoordinatorMemory.{coordinatorConsistent}
 use Rattle.model.specs.Network.{Network, siteAt}
 use Rattle.model.specs.NetworkMemory.{networkIn, sitesConsistent, sameThreshold, allPending, allArrivals, atRestTogether, networkConsistent, networkTooShort, networkRefusal}
-use Rattle.model.specs.SoundNetwork.{SoundSite, SoundPhase, SoundCoordinator, Sound}
+use Rattle.model.specs.SoundNetwork.{SoundSite, Sound}
 use Rattle.model.proofs.RefusalLaws.{both-accepted, passed}
 use Rattle.model.proofs.SettingsLaws.{settled}
+use Rattle.model.proofs.ConsistentCoordinator.{CoordinatorWithin, coordinator-sound-of, coordinator-within-of}
 use Rattle.counters.proofs.CounterMemory.{length-countersIn}
 use Rattle.site_memory.specs.Ready.{SiteReady}
-use Rattle.coordinator_steps.specs.Ready.{PhaseShape, CoordinatorShape}
-use Rattle.coordinator_tests.proofs.ReadyLaws.{Consistent, consistent-facts}
+use Rattle.coordinator_steps.proofs.MemoryLaws.{estimates-long, histogram-long}
 use Rattle.network_memory.specs.Records.{noRecord}
 use Rattle.network_memory.proofs.SitesReading.{length-sitesIn, getD-sitesIn}
 use Rattle.delivery.specs.Bounded.{Bounded}
@@ -41,7 +40,7 @@ use Rattle.delivery.proofs.BoundedLaws.{bounded-start}
 use Rattle.network_tests.specs.Contracts.{NetworkFits}
 use Rattle.network_tests.proofs.NetworkLaws.{enough-records, ready-at, fits-of-long}
 
--- ---- A site and the coordinator
+-- ---- A site
 
 pub sound-site : {settings : Settings} {site : Site}
     → SiteReady settings site
@@ -62,39 +61,6 @@ sound-site ready = record {
   pending-below = ready .pending-within;
   threshold-positive = ready .threshold-positive;
   threshold-within = ready .threshold-within;
-}
-
-sound-phase : (settings : Settings) (signals : ℕ) (phase : Phase)
-    → PhaseShape settings signals phase
-    → SoundPhase settings signals phase
-sound-phase settings signals Idle shape = shape
-sound-phase settings signals (Collecting site) shape =
-    record { all-signals = shape .all-signalled; site-known = shape .site-known }
-sound-phase settings signals (Probing site low high sum) shape = record {
-  closing = record {
-    all-signals = shape .closing .all-signalled;
-    site-known = shape .closing .site-known;
-  };
-  interval = record { low-below = shape .interval; high-within = shape .values };
-}
-sound-phase settings signals (Announcing site) shape =
-    record { all-signals = shape .all-signalled; site-known = shape .site-known }
-
-pub sound-coordinator : {settings : Settings} {c : Coordinator}
-    → length (c .estimates) ≡ settings .universe
-    → length (c .histogram) ≡ valueCount
-    → CoordinatorShape settings c
-    → SoundCoordinator settings c
-sound-coordinator {settings} {c} estimates histogram shape = record {
-  numbers = record {
-    estimates-length = estimates;
-    histogram-length = histogram;
-    threshold-of-base = shape .threshold-is;
-    base-within = shape .base-within;
-    quantile-within = shape .quantile-within;
-    histogram-sum = shape .counted;
-  };
-  phase-sound = sound-phase settings (c .signals) (c .phase) (shape .phase-shape);
 }
 
 -- ---- At rest
@@ -147,22 +113,21 @@ module _ (settings : Settings) (sites : Sites) (coordinator : CoordinatorRecord)
   coordinator-test = coordinatorConsistent settings (network .coordinator)
 
   -- The four tests of `networkConsistent`, taken apart.
-  three-hold : (sites-test && coordinator-test && atRestTogether network) ≡ true
-  three-hold = both-true (sites-test && coordinator-test && atRestTogether network) (leb (sites .messages) messageLimit) holds .first-true
+  four : BothTrue (sites-test && coordinator-test && atRestTogether network)
+      (leb (sites .messages) messageLimit)
+  four = both-true _ _ holds
 
-  two-hold : (sites-test && coordinator-test) ≡ true
-  two-hold = both-true (sites-test && coordinator-test) (atRestTogether network) three-hold .first-true
+  three : BothTrue (sites-test && coordinator-test) (atRestTogether network)
+  three = both-true _ _ (four .first-true)
 
-  rest-holds : atRestTogether network ≡ true
-  rest-holds = both-true (sites-test && coordinator-test) (atRestTogether network) three-hold .second-true
+  two : BothTrue sites-test coordinator-test
+  two = both-true _ _ (three .first-true)
 
   sites-hold : sites-test ≡ true
-  sites-hold = both-true sites-test coordinator-test two-hold .first-true
+  sites-hold = two .first-true
 
-  facts : Consistent settings (network .coordinator)
-  facts =
-      consistent-facts settings (network .coordinator)
-      (both-true sites-test coordinator-test two-hold .second-true)
+  coordinator-holds : coordinator-test ≡ true
+  coordinator-holds = two .second-true
 
   -- The three tests of `atRestTogether`.
   abbrev same-test : Bool
@@ -172,8 +137,11 @@ module _ (settings : Settings) (sites : Sites) (coordinator : CoordinatorRecord)
   counted-test =
       eqb (network .coordinator .total + allPending (network .sites)) (allArrivals (network .sites))
 
-  idle-and-same : (isIdle (network .coordinator .phase) && same-test) ≡ true
-  idle-and-same = both-true (isIdle (network .coordinator .phase) && same-test) counted-test rest-holds .first-true
+  rest : BothTrue (isIdle (network .coordinator .phase) && same-test) counted-test
+  rest = both-true _ _ (three .second-true)
+
+  idle-and-same : BothTrue (isIdle (network .coordinator .phase)) same-test
+  idle-and-same = both-true _ _ (rest .first-true)
 
   records-enough : k ≤ length (sites .records)
   records-enough = enough-records settings k (sites .records) siteMemory sites-hold
@@ -183,7 +151,8 @@ module _ (settings : Settings) (sites : Sites) (coordinator : CoordinatorRecord)
 
   read-at : (j : ℕ) → j < k
       → siteAt network j
-      ≡ siteIn settings (getD (sites .records) j noRecord) (drop (j * siteWords settings) siteMemory)
+      ≡ siteIn settings (getD (sites .records) j noRecord)
+      (drop (j * siteWords settings) siteMemory)
   read-at j j< = getD-sitesIn noRecord k settings (sites .records) siteMemory j j< records-enough
 
   sound-at : (j : ℕ) → j < k → SoundSite settings (siteAt network j)
@@ -191,29 +160,23 @@ module _ (settings : Settings) (sites : Sites) (coordinator : CoordinatorRecord)
       subst⁻¹ (SoundSite settings) (read-at j j<)
       (sound-site (ready-at (fits .sites-fit) (sites .records) sites-hold j j<))
 
-  estimates-length : length (network .coordinator .estimates) ≡ settings .universe
-  estimates-length =
-      length-take-le (settings .universe) coordinatorMemory (omega (arith, fits .coordinator-long))
-
-  histogram-length : length (network .coordinator .histogram) ≡ valueCount
-  histogram-length =
-      length-take-le valueCount (drop (settings .universe) coordinatorMemory)
-      (rw (length-drop (settings .universe) coordinatorMemory)
-      (omega (arith, fits .coordinator-long)))
-
   network-sound : Sound settings network
   network-sound = record {
     all-sites = all-sites;
     sites-sound = sound-at;
-    coordinator-sound = sound-coordinator estimates-length histogram-length (facts .shape);
-    idle = idle-is (network .coordinator .phase)
-        (both-true (isIdle (network .coordinator .phase)) same-test idle-and-same .first-true);
+    coordinator-sound = coordinator-sound-of settings (network .coordinator)
+        (estimates-long settings coordinator coordinatorMemory (fits .coordinator-long))
+        (histogram-long settings coordinator coordinatorMemory (fits .coordinator-long))
+        coordinator-holds;
+    idle = idle-is (network .coordinator .phase) (idle-and-same .first-true);
     same-threshold = λ j j<.
         same-at (network .coordinator .threshold) (network .sites)
-        (both-true (isIdle (network .coordinator .phase)) same-test idle-and-same .second-true)
-        j (omega (arith, all-sites));
-    all-counted = eqb-true _ _ (both-true (isIdle (network .coordinator .phase) && same-test) counted-test rest-holds .second-true);
+        (idle-and-same .second-true) j (omega (arith, all-sites));
+    all-counted = eqb-true _ _ (rest .second-true);
   }
+
+  coordinator-within : CoordinatorWithin (network .coordinator)
+  coordinator-within = coordinator-within-of settings (network .coordinator) coordinator-holds
 
   consistent-passing : Passing settings sites coordinator siteMemory coordinatorMemory
   consistent-passing = record {
@@ -226,8 +189,8 @@ module _ (settings : Settings) (sites : Sites) (coordinator : CoordinatorRecord)
     sound = network-sound;
     bounded = bounded-start settings network
         (settled settings (fits .sites-fit .settings-accepted)) network-sound
-        (facts .within .estimates-within) (facts .within .histogram-within);
-    count-within = leb-true _ _ (both-true (sites-test && coordinator-test && atRestTogether network) (leb (sites .messages) messageLimit) holds .second-true);
+        (coordinator-within .estimates-within) (coordinator-within .values-within);
+    count-within = leb-true _ _ (four .second-true);
   }
 
 pub passing : (settings : Settings) (sites : Sites) (coordinator : CoordinatorRecord)

@@ -1,14 +1,9 @@
-// Whether the records and the lent memory of a whole network are consistent: what the batch call tests
-// once, when it starts (refusals 1 to 4 and 11). Functions with a `requires` are internal.
+// Whether the records and the lent memory of a whole network are consistent: what the batch call
+// tests once, when it starts (refusals 1 to 4 and 11). Functions with a `requires` are internal.
 
 ghost use mathlib.Core.Path.{_≡_};
-ghost use mathlib.Core.List.{List};
-ghost use Prim.Native.Nat.{ℕ, _+_};
-ghost use lib.Dec.{eqb};
-ghost use lib.ListN.{length};
-ghost use Rattle.model.specs.CoordinatorMemory.{coordinatorIn};
-ghost use Rattle.model.specs.NetworkMemory.{sitesIn, networkIn, sitesConsistent, sameThreshold, allPending, allArrivals, atRestTogether, networkConsistent, networkTooShort, networkRefusal};
-ghost use Rattle.network_tests.specs.Contracts.{SitesFit, NetworkFits, RecordsFit, CountsFit};
+ghost use Rattle.model.specs.NetworkMemory.{sitesConsistent, networkConsistent, networkRefusal};
+ghost use Rattle.network_tests.specs.Contracts.{SitesFit, NetworkFits, RecordsFit, CountsFit, SameSays, CountedSays, RestSays, ShortSays};
 ghost use Rattle.model.specs.Settings.{settingsRefusal};
 ghost use Rattle.model.specs.Refusals.{accepted};
 use counters::Word;
@@ -25,7 +20,8 @@ use model::VALUE_COUNT;
 // Whether each site is consistent by itself.
 fn sites_consistent(settings: Settings, sites: Sites, memory: &[Word]) -> bool
     requires { ⌜ SitesFit settings (now memory) ⌝ }
-    ensures { λ r. ⌜ r ≡ sitesConsistent (settings .sites) settings (sites .records) (now (memory .entry)) ⌝ }
+    ensures { λ r. ⌜ r
+        ≡ sitesConsistent (settings .sites) settings (sites .records) (now (memory .entry)) ⌝ }
 {
     let count = settings.sites as usize;
     let words = site_memory::site_words(settings);
@@ -45,7 +41,7 @@ fn sites_consistent(settings: Settings, sites: Sites, memory: &[Word]) -> bool
 // Whether each site has this threshold.
 fn same_thresholds(settings: Settings, sites: Sites, threshold: u64) -> bool
     requires { ⌜ RecordsFit settings sites ⌝ }
-    ensures { λ r. ⌜ ((memory : List ℕ) → r ≡ sameThreshold threshold (sitesIn (settings .sites) settings (sites .records) memory)) ⌝ }
+    ensures { λ r. ⌜ SameSays settings sites threshold r ⌝ }
 {
     let count = settings.sites as usize;
     let mut j = 0;
@@ -62,7 +58,7 @@ fn same_thresholds(settings: Settings, sites: Sites, threshold: u64) -> bool
 // Whether a total with all pendings is all arrivals.
 fn all_counted(settings: Settings, sites: Sites, total: u64) -> bool
     requires { ⌜ CountsFit settings sites total ⌝ }
-    ensures { λ r. ⌜ ((memory : List ℕ) → r ≡ eqb (total + allPending (sitesIn (settings .sites) settings (sites .records) memory)) (allArrivals (sitesIn (settings .sites) settings (sites .records) memory))) ⌝ }
+    ensures { λ r. ⌜ CountedSays settings sites total r ⌝ }
 {
     let count = settings.sites as usize;
     let mut counted = total;
@@ -80,7 +76,7 @@ fn all_counted(settings: Settings, sites: Sites, total: u64) -> bool
 // Whether the network is at rest: the coordinator idle, thresholds equal, all arrivals counted.
 fn at_rest(settings: Settings, sites: Sites, coordinator: CoordinatorRecord) -> bool
     requires { ⌜ CountsFit settings sites (coordinator .total) ⌝ }
-    ensures { λ r. ⌜ ((siteMemory : List ℕ) (coordinatorMemory : List ℕ) → r ≡ atRestTogether (networkIn settings sites coordinator siteMemory coordinatorMemory)) ⌝ }
+    ensures { λ r. ⌜ RestSays settings sites coordinator r ⌝ }
 {
     let phase = coordinator.phase;
     match phase {
@@ -105,7 +101,9 @@ fn network_consistent(
     coordinator_memory: &[u64],
 ) -> bool
     requires { ⌜ NetworkFits settings (now «site_memory») (now «coordinator_memory») ⌝ }
-    ensures { λ r. ⌜ r ≡ networkConsistent settings sites coordinator (now («site_memory» .entry)) (now («coordinator_memory» .entry)) ⌝ }
+    ensures { λ r. ⌜ r
+        ≡ networkConsistent settings sites coordinator
+        (now («site_memory» .entry)) (now («coordinator_memory» .entry)) ⌝ }
 {
     if MESSAGE_LIMIT < sites.messages {
         return false;
@@ -126,7 +124,7 @@ fn network_consistent(
 // Whether lent memory is shorter than the settings ask for.
 fn memory_short(settings: Settings, site_numbers: usize, coordinator_numbers: usize) -> bool
     requires { ⌜ settingsRefusal settings ≡ accepted ⌝ }
-    ensures { λ r. ⌜ ((siteMemory : List ℕ) (coordinatorMemory : List ℕ) → length siteMemory ≡ «site_numbers» → length coordinatorMemory ≡ «coordinator_numbers» → r ≡ networkTooShort settings siteMemory coordinatorMemory) ⌝ }
+    ensures { λ r. ⌜ ShortSays settings «site_numbers» «coordinator_numbers» r ⌝ }
 {
     let all = (settings.sites as usize) * site_memory::site_words(settings);
     if site_numbers < all {
@@ -143,7 +141,9 @@ pub fn network_refusal(
     site_memory: &[Word],
     coordinator_memory: &[u64],
 ) -> u32
-    ensures { λ r. ⌜ r ≡ networkRefusal settings sites coordinator (now («site_memory» .entry)) (now («coordinator_memory» .entry)) ⌝ }
+    ensures { λ r. ⌜ r
+        ≡ networkRefusal settings sites coordinator
+        (now («site_memory» .entry)) (now («coordinator_memory» .entry)) ⌝ }
 {
     let refusal = settings::test_settings(settings);
     if refusal != ACCEPTED {

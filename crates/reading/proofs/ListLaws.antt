@@ -2,19 +2,19 @@
 --
 --   listed-snoc                    one item more decides one place more
 --   Counting, counting-yes, counting-no, counting-end       the walk that counts
---   Writing, writing-start, writing-yes, writing-no, writing-end   the walk that writes
+--   Fitting, fitting-yes, fitting-no, fits-all, fits-not, fits-end   up to a number of places
 --   listed-few                     no more items are listed than there are
-use mathlib.Core.Path.{_≡_, refl, ap, sym, _∙_}
+use mathlib.Core.Path.{_≡_, ap, sym, _∙_}
 use mathlib.Core.Bool.{Bool, true, false}
 use mathlib.Core.List.{List, [], _∷_, _++_, append-assoc, append-nil}
 use Prim.Native.Nat.{ℕ, zero, suc, _+_, _-_, _≤_, _<_}
 use native.Mathlib.Numerals.{add-one}
 use native.Mathlib.Omega.{arith}
-use lib.ListN.{length, set, drop, length-append, length-set}
-use lib.Seq.{drop-cons, set-at, append-snoc}
+use lib.ListN.{length, length-append}
+use lib.Dec.{leb}
+use borrow.Author.Tests.{le-leb, lt-leb}
 use Rattle.model.specs.declared.Settings.{Settings}
 use Rattle.model.specs.Choice.{if_then_else_}
-use Rattle.model.specs.SiteMemory.{overwrite}
 use Rattle.model.specs.Coordinator.{Coordinator}
 use Rattle.model.specs.Reading.{isListed, listedFrom, heavyHitters}
 
@@ -142,28 +142,13 @@ module _ (settings : Settings) (c : Coordinator) where
       let last : item ≡ settings .universe = omega (arith, so-far .place) in
       so-far .counted ∙ ap (λ (n : ℕ). length (listedBelow n)) last
 
-  -- ---- Writing
-
-  pub record Writing (before now : List ℕ) (count item : ℕ) : Type 0 where
-    pub counting : Counting count item
-    pub same-length : length now ≡ length before
-    pub written : now ≡ listedBelow item ++ drop count before
-
-  pub writing-start : (before : List ℕ) → Writing before before 0 0
-  writing-start before = record {
-    counting = record { place = omega arith; counted = refl };
-    same-length = refl;
-    written = refl;
-  }
-
-  -- A listed item has a place, since all of them have.
-  pub place-left : (before : List ℕ) (count item : ℕ)
-      → length (heavyHitters settings c) ≤ length before
+  -- A listed item is not among those counted before it.
+  pub one-more-listed : (count item : ℕ)
       → Counting count item
       → item < settings .universe
       → isListed settings c item ≡ true
-      → count < length before
-  place-left before count item room so-far inside yes-listed =
+      → count < length (heavyHitters settings c)
+  one-more-listed count item so-far inside yes-listed =
       let next = counting-yes count item so-far inside yes-listed in
       let rest : item + 1 + (settings .universe - (item + 1)) ≡ settings .universe = omega arith in
       let bound = listed-le (item + 1) (settings .universe - (item + 1)) in
@@ -171,43 +156,56 @@ module _ (settings : Settings) (c : Coordinator) where
       bound in
       omega (arith, next .counted)
 
-  -- The item goes to the first place that is left.
-  pub writing-yes : (before now : List ℕ) (count item : ℕ)
-      → Writing before now count item
+  -- ---- Counting up to a number of places
+
+  pub record Fitting (places count item : ℕ) : Type 0 where
+    pub counting : Counting count item
+    pub within : count ≤ places
+
+  -- A place for every item is one for every listed item.
+  pub fits-all : (places : ℕ)
+      → settings .universe ≤ places
+      → leb (length (heavyHitters settings c)) places ≡ true
+  fits-all places long =
+      le-leb (length (heavyHitters settings c)) places
+      (omega (arith, listed-few (settings .universe)))
+
+  pub fitting-yes : (places count item : ℕ)
+      → Fitting places count item
       → item < settings .universe
       → isListed settings c item ≡ true
-      → count < length before
-      → Writing before (set now count item) (count + 1) (item + 1)
-  writing-yes before now count item so-far inside yes-listed left = record {
+      → count + 1 ≤ places
+      → Fitting places (count + 1) (item + 1)
+  fitting-yes places count item so-far inside yes-listed room = record {
     counting = counting-yes count item (so-far .counting) inside yes-listed;
-    same-length = length-set now count item ∙ so-far .same-length;
-    written = ap (λ (l : List ℕ). set l count item) (so-far .written)
-        ∙ ap (λ (l : List ℕ). set (listedBelow item ++ l) count item)
-        (drop-cons before count 0 left)
-        ∙ set-at (listedBelow item) _ _ item count (sym (so-far .counting .counted))
-        ∙ sym (append-snoc (listedBelow item) item (drop (suc count) before))
-        ∙ ap (λ (l : List ℕ). l ++ drop (suc count) before) (sym (listed-yes item yes-listed))
-        ∙ ap (λ (n : ℕ). listedBelow (item + 1) ++ drop n before) (sym (add-one count));
+    within = room;
   }
 
-  pub writing-no : (before now : List ℕ) (count item : ℕ)
-      → Writing before now count item
+  pub fitting-no : (places count item : ℕ)
+      → Fitting places count item
       → item < settings .universe
       → isListed settings c item ≡ false
-      → Writing before now count (item + 1)
-  writing-no before now count item so-far inside no-listed = record {
+      → Fitting places count (item + 1)
+  fitting-no places count item so-far inside no-listed = record {
     counting = counting-no count item (so-far .counting) inside no-listed;
-    same-length = so-far .same-length;
-    written = so-far .written
-        ∙ ap (λ (l : List ℕ). l ++ drop count before) (sym (listed-no item no-listed));
+    within = so-far .within;
   }
 
-  pub writing-end : (before now : List ℕ) (count item : ℕ)
-      → Writing before now count item
+  -- A listed item after as many as there are places has none.
+  pub fits-not : (places count item : ℕ)
+      → Fitting places count item
+      → item < settings .universe
+      → isListed settings c item ≡ true
+      → places < count + 1
+      → leb (length (heavyHitters settings c)) places ≡ false
+  fits-not places count item so-far inside yes-listed full =
+      lt-leb (length (heavyHitters settings c)) places
+      (omega (arith, one-more-listed count item (so-far .counting) inside yes-listed))
+
+  pub fits-end : (places count item : ℕ)
+      → Fitting places count item
       → settings .universe ≤ item
-      → now ≡ overwrite (heavyHitters settings c) before
-  writing-end before now count item so-far past =
-      let last : item ≡ settings .universe = omega (arith, so-far .counting .place) in
-      so-far .written
-      ∙ ap (λ (n : ℕ). listedBelow item ++ drop n before) (so-far .counting .counted)
-      ∙ ap (λ (n : ℕ). overwrite (listedBelow n) before) last
+      → leb (length (heavyHitters settings c)) places ≡ true
+  fits-end places count item so-far past =
+      le-leb (length (heavyHitters settings c)) places
+      (omega (arith, so-far .within, counting-end count item (so-far .counting) past))

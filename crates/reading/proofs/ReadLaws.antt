@@ -2,9 +2,10 @@
 -- for the least value.
 --
 --   read-asks, margin-tested        accepted tests give what reading asks
+--   list-accepted, list-too-short   the list's refusal, by the test of its places
 --   sides-ask, listed-is            the list rule of an item, by the number in memory
 --   values-ask                      the value counts, as the code cuts them out of the memory
---   Searching, searching-start, searching-found, searching-on, searching-end
+--   Searching, searching-start, searching-fits, searching-found, searching-on, searching-end
 --   quantile-none, quantile-counted, quantile-kept     the cases of `quantileOf`
 use mathlib.Core.Path.{_≡_, refl, ap, sym, _∙_}
 use mathlib.Core.Bool.{Bool, true, false}
@@ -14,21 +15,23 @@ use native.Mathlib.Numerals.{add-one}
 use native.Mathlib.Omega.{arith}
 use lib.ListN.{length, getD, take, drop, length-take, drop-of-length-le}
 use lib.Seq.{getD-take, drop-cons}
-use lib.Dec.{leb}
-use borrow.Author.Tests.{le-leb, lt-leb, leb-false, eq-eqb, ne-eqb}
+use lib.Dec.{leb, ltb}
+use borrow.Author.Tests.{le-leb, lt-leb, leb-true, leb-false, le-ltb, lt-ltb, eq-eqb, ne-eqb}
 use Rattle.model.specs.declared.Settings.{Settings}
 use Rattle.model.specs.declared.CoordinatorRecord.{CoordinatorRecord}
 use Rattle.model.specs.declared.Quantile.the-variants.{Nothing, Value}
-use Rattle.model.specs.Refusals.{accepted}
+use Rattle.model.specs.Refusals.{accepted, listTooShort}
 use Rattle.model.specs.Limits.{coordinatorLimit}
 use Rattle.model.specs.Coordinator.{Coordinator, enough}
 use Rattle.model.specs.CoordinatorMemory.{coordinatorIn, coordinatorMemoryRefusal}
 use Rattle.model.specs.Reading.{isListed, leastValue, leastValueFrom, quantileOf}
 use Rattle.model.proofs.RefusalLaws.{both-accepted, passed}
 use Rattle.model.proofs.SettingsLaws.{settled}
+use Rattle.coordinator_steps.proofs.StepLaws.{valueCount-is}
+use Rattle.coordinator_tests.proofs.Chains.{last-row}
 use Rattle.coordinator_tests.proofs.ConsistencyLaws.{histogram-part}
-use Rattle.coordinator_tests.proofs.ReadyLaws.{tested, consistent-facts}
-use Rattle.reading.specs.Contracts.{ReadAsks, SidesAsk, ValuesAsk, ruleHolds, marginRefusal}
+use Rattle.coordinator_tests.proofs.ReadyLaws.{tested, within-of-consistent}
+use Rattle.reading.specs.Contracts.{ReadAsks, SidesAsk, ValuesAsk, hittersIn, ruleHolds, listRefusal, marginRefusal}
 
 pub read-asks : (settings : Settings) (numbers : CoordinatorRecord) (memory : List ℕ)
     → coordinatorMemoryRefusal settings numbers memory ≡ accepted
@@ -60,6 +63,24 @@ margin-tested settings numbers item memory none =
       item-known = leb-false _ _ (item-row .test-failed);
     }
 
+-- ---- Row 12 of the list, by the test of its places
+
+module _ (settings : Settings) (numbers : CoordinatorRecord) (memory : List ℕ) (places : ℕ)
+    (none : coordinatorMemoryRefusal settings numbers memory ≡ accepted) where
+  pub list-accepted : leb (length (hittersIn settings numbers memory)) places ≡ true
+      → listRefusal settings numbers memory places ≡ accepted
+  list-accepted fits =
+      let hitters = length (hittersIn settings numbers memory) in
+      last-row _ listTooShort (ltb places hitters) false none
+      (le-ltb places hitters (leb-true hitters places fits))
+
+  pub list-too-short : leb (length (hittersIn settings numbers memory)) places ≡ false
+      → listRefusal settings numbers memory places ≡ listTooShort
+  list-too-short fits-not =
+      let hitters = length (hittersIn settings numbers memory) in
+      last-row _ listTooShort (ltb places hitters) true none
+      (lt-ltb places hitters (leb-false hitters places fits-not))
+
 -- ---- The list rule
 
 module _ (settings : Settings) (numbers : CoordinatorRecord) (memory : List ℕ)
@@ -72,13 +93,13 @@ module _ (settings : Settings) (numbers : CoordinatorRecord) (memory : List ℕ)
       → SidesAsk settings (numbers .total) (getD memory item 0)
   sides-ask item inside =
       let ranges = settled settings (asks .settings-accepted) in
-      let facts = consistent-facts settings here (asks .consistent) in
+      let within = within-of-consistent settings here (asks .consistent) in
       record {
         phi-small = ranges .phi .at-most;
         epsilon-within = ranges .phi-epsilon;
-        total-within = facts .within .total-within;
+        total-within = within .total-within;
         number-within = rw (getD-take (settings .universe) memory item 0 inside) at
-            (facts .within .estimates-within item);
+            (within .estimates-within item);
       }
 
   pub listed-is : (item : ℕ)
@@ -92,13 +113,13 @@ module _ (settings : Settings) (numbers : CoordinatorRecord) (memory : List ℕ)
       (take (settings .universe + 1024 - settings .universe) (drop (settings .universe) memory))
   values-ask =
       let ranges = settled settings (asks .settings-accepted) in
-      let facts = consistent-facts settings here (asks .consistent) in
+      let within = within-of-consistent settings here (asks .consistent) in
       let part = histogram-part settings memory in
       record {
         rank-small = ranges .rank .at-most;
-        total-within = facts .within .total-within;
+        total-within = within .total-within;
         few = rw (part, length-take) (omega arith);
-        counts-within = rw part (facts .histogram-all);
+        counts-within = rw part (within .histogram-within);
       }
 
 -- ---- The least value
@@ -113,6 +134,15 @@ pub record Searching (rank total : ℕ) (counts : List ℕ) (below value : ℕ) 
 module _ (rank total : ℕ) (counts : List ℕ) where
   pub searching-start : Searching rank total counts 0 0
   searching-start = record { place = omega arith; rest-decides = refl; small = omega arith }
+
+  -- The sum with the next count is at most 1024 times the limit.
+  pub searching-fits : (below value : ℕ)
+      → ValuesAsk rank total counts
+      → Searching rank total counts below value
+      → value < length counts
+      → below + getD counts value 0 ≤ 1024 * coordinatorLimit
+  searching-fits below value asks so-far inside =
+      omega (arith, asks .few, asks .counts-within value, so-far .small, valueCount-is)
 
   drop-on : (value : ℕ)
       → value < length counts

@@ -4,13 +4,14 @@
 --   listRefusal, marginRefusal        the chains of tests; the quantile has the memory tests alone
 --   Lists, ReadsMargin, ReadsQuantile the promises
 --   ReadAsks, SidesAsk, ValuesAsk     what is asked inside: a coordinator that passed its tests
+--   WriteAsks, Writes                 the pass that writes the list
 use mathlib.Core.Path.{_≡_}
 use mathlib.Core.Bool.{Bool, true, _&&_}
 use mathlib.Core.List.{List}
 use lib.IntN.{pos}
 use Prim.Native.Nat.{ℕ, _-_, _*_, _≤_}
 use lib.Dec.{leb, ltb}
-use lib.ListN.{length}
+use lib.ListN.{length, getD}
 use Rattle.model.specs.declared.Settings.{Settings}
 use Rattle.model.specs.declared.CoordinatorRecord.{CoordinatorRecord}
 use Rattle.model.specs.declared.Quantile.the-variants.{Nothing}
@@ -19,7 +20,7 @@ use Rattle.model.specs.Refusals.{when, _orElse_, accepted, unknownItem, listToo
 use Rattle.model.specs.Limits.{valueCount, coordinatorLimit}
 use Rattle.model.specs.Settings.{settingsRefusal}
 use Rattle.model.specs.SiteMemory.{overwrite}
-use Rattle.model.specs.CoordinatorMemory.{coordinatorIn, coordinatorWords, coordinatorConsistent, coordinatorMemoryRefusal, allWithin}
+use Rattle.model.specs.CoordinatorMemory.{coordinatorIn, coordinatorWords, coordinatorConsistent, coordinatorMemoryRefusal}
 use Rattle.model.specs.Reading.{heavyHitters, margin, quantileOf}
 use Rattle.reading.specs.declared.Listed.{Listed}
 use Rattle.reading.specs.declared.Margin.{Margin}
@@ -90,6 +91,22 @@ pub record ReadAsks (settings : Settings) (numbers : CoordinatorRecord) (memory 
     pub memory-long : coordinatorWords settings ≤ length memory
     pub consistent : coordinatorConsistent settings (coordinatorIn settings numbers memory) ≡ true
 
+-- The heavy hitters of the coordinator that record and memory hold.
+abbrev pub hittersIn : Settings → CoordinatorRecord → List ℕ → List ℕ
+hittersIn settings numbers memory = heavyHitters settings (coordinatorIn settings numbers memory)
+
+-- The same, and a list with a place for each item that is listed.
+pub record WriteAsks (settings : Settings) (numbers : CoordinatorRecord) (memory list : List ℕ)
+    : Type 0 where
+  pub reading : ReadAsks settings numbers memory
+  pub places : length (hittersIn settings numbers memory) ≤ length list
+
+-- The listed items at the front of the list, and their number.
+pub record Writes (settings : Settings) (numbers : CoordinatorRecord) (memory before after : List ℕ)
+    (r : ℕ) : Type 0 where
+  pub count : r ≡ length (hittersIn settings numbers memory)
+  pub list : after ≡ overwrite (hittersIn settings numbers memory) before
+
 -- Both sides of the list rule fit.
 pub record SidesAsk (settings : Settings) (total number : ℕ) : Type 0 where
   pub phi-small : settings .phi ≤ 1000
@@ -109,4 +126,4 @@ pub record ValuesAsk (rank total : ℕ) (counts : List ℕ) : Type 0 where
   pub rank-small : rank ≤ 1000
   pub total-within : total ≤ coordinatorLimit
   pub few : length counts ≤ valueCount
-  pub counts-within : allWithin coordinatorLimit counts ≡ true
+  pub counts-within : (value : ℕ) → getD counts value 0 ≤ coordinatorLimit

@@ -2,12 +2,12 @@
 // quantile. The record and the memory are not changed; the calls have no `requires` and test all
 // they are given.
 ghost use mathlib.Core.Path.{_≡_};
-ghost use Prim.Native.Nat.{_*_, _≤_, _<_};
+ghost use Prim.Native.Nat.{_*_, _<_};
 ghost use lib.ListN.{length};
-ghost use Rattle.model.specs.SiteMemory.{overwrite};
+ghost use lib.Dec.{leb};
 ghost use Rattle.model.specs.CoordinatorMemory.{coordinatorIn};
-ghost use Rattle.model.specs.Reading.{heavyHitters, difference, leastValue, quantileOf};
-ghost use Rattle.reading.specs.Contracts.{Lists, ReadsMargin, ReadsQuantile, ReadAsks, SidesAsk, ValuesAsk, marginRefusal, sideNeeded, ruleHolds};
+ghost use Rattle.model.specs.Reading.{difference, leastValue, quantileOf};
+ghost use Rattle.reading.specs.Contracts.{Lists, ReadsMargin, ReadsQuantile, ReadAsks, WriteAsks, Writes, SidesAsk, ValuesAsk, hittersIn, marginRefusal, sideNeeded, ruleHolds};
 use coordinator_tests::consistency::coordinator_memory_refusal;
 use model::ACCEPTED;
 use model::CoordinatorRecord;
@@ -55,37 +55,46 @@ fn is_listed(settings: Settings, total: u64, number: u64) -> bool
     side_needed(settings, total, number) <= 2000 * number
 }
 
-// How many items are listed.
-fn count_listed(settings: Settings, coordinator: CoordinatorRecord, memory: &[u64]) -> usize
+// Whether the listed items have places. All of them have where there is a place for every item;
+// only fewer places need a pass, which ends at the first listed item without one.
+fn list_fits(
+    settings: Settings,
+    coordinator: CoordinatorRecord,
+    memory: &[u64],
+    places: usize,
+) -> bool
     requires { ⌜ ReadAsks settings coordinator (now memory) ⌝ }
-    ensures { λ r. ⌜ r ≡ length (heavyHitters settings
-        (coordinatorIn settings coordinator (now (memory .entry)))) ⌝ }
+    ensures { λ r. ⌜ r ≡ leb (length (hittersIn settings coordinator (now (memory .entry))))
+        places ⌝ }
 {
     let items = settings.universe as usize;
+    if items <= places {
+        return true;
+    }
     let mut count = 0;
     let mut item = 0;
     while item < items {
         if is_listed(settings, coordinator.total, memory[item]) {
             count += 1;
+            if places < count {
+                return false;
+            }
         }
         item += 1;
     }
-    count
+    true
 }
 
-// Writes the listed items to the front of a list that has the places.
+// Writes the listed items to the front of a list that has the places, and says how many they are.
 fn write_listed(
     settings: Settings,
     coordinator: CoordinatorRecord,
     memory: &[u64],
     list: &mut [u32],
-)
-    requires { ⌜ ReadAsks settings coordinator (now memory) ×
-        (length (heavyHitters settings (coordinatorIn settings coordinator (now memory))) ≤ length
-        (now list)) ⌝ }
-    ensures { λ r. ⌜ now (list .exit) ≡ overwrite
-        (heavyHitters settings (coordinatorIn settings coordinator (now (memory .entry))))
-        (now (list .entry)) ⌝ }
+) -> u32
+    requires { ⌜ WriteAsks settings coordinator (now memory) (now list) ⌝ }
+    ensures { λ r. ⌜ Writes settings coordinator (now (memory .entry)) (now (list .entry))
+        (now (list .exit)) r ⌝ }
 {
     let items = settings.universe as usize;
     let mut count = 0;
@@ -97,10 +106,11 @@ fn write_listed(
         }
         next += 1;
     }
+    count as u32
 }
 
-// The items with a share of the arrivals, in rising order. They are counted first, so that a list
-// with too few places stays as it was.
+// The items with a share of the arrivals, in rising order: one pass, where the list has a place for
+// every item. With fewer places another goes before, so that a list with too few stays as it was.
 pub fn list_heavy_hitters(
     settings: Settings,
     coordinator: CoordinatorRecord,
@@ -117,17 +127,16 @@ pub fn list_heavy_hitters(
             count: 0,
         };
     }
-    let count = count_listed(settings, coordinator, memory);
-    if list.len() < count {
+    if list_fits(settings, coordinator, memory, list.len()) {
+        let count = write_listed(settings, coordinator, memory, list);
         return Listed {
-            refusal: LIST_TOO_SHORT,
-            count: 0,
+            refusal: ACCEPTED,
+            count: count,
         };
     }
-    write_listed(settings, coordinator, memory, list);
     Listed {
-        refusal: ACCEPTED,
-        count: count as u32,
+        refusal: LIST_TOO_SHORT,
+        count: 0,
     }
 }
 

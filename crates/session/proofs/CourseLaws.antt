@@ -1,23 +1,22 @@
 -- The calls of a session put together: the invariant of a course, and its theorem.
 --
 --   Goes, Stands      where a course stands: it goes on, or it has ended
---   session-claims    the theorem
-use mathlib.Core.Path.{_≡_, refl, sym, ap, _∙_, subst}
-use mathlib.Core.Bool.{Bool, true, false, _&&_, false≢true}
+--   stands-of         where the course of any calls stands
+use mathlib.Core.Path.{_≡_, refl, sym, ap, _∙_}
+use mathlib.Core.Bool.{Bool, true, false, false≢true}
 use mathlib.Core.List.{List, [], _∷_, _++_}
 use Prim.Native.Nat.{ℕ, suc, _+_, _*_, _≤_, _<_}
 use native.Mathlib.Omega.{arith}
 use lib.Dec.{leb}
 use lib.ListN.{length, take, drop}
-use borrow.Author.Tests.{eqb-true, lt-ltb}
+use borrow.Author.Tests.{lt-ltb}
 use Rattle.model.specs.declared.Settings.{Settings}
 use Rattle.model.specs.declared.Arrival.{Arrival}
 use Rattle.model.specs.Choice.{isZero}
-use Rattle.model.specs.Refusals.{accepted, malformedLine}
 use Rattle.model.specs.Network.{afterArrival}
-use Rattle.model.specs.Lines.{Fields, malformed, fields, readFields, settingsOf, Worklist, next, readFrom}
+use Rattle.model.specs.Lines.{Fields, malformed, fields, readFields, settingsOf, Worklist, readFrom}
 use Rattle.model.specs.Runs.{Run, runOf, withArrival, refusalIn}
-use Rattle.model.specs.Transcript.{messageLines, refusedLine, resultLines, programRefusal, transcriptFrom, transcriptWith, transcript}
+use Rattle.model.specs.Transcript.{messageLines, refusedLine, transcriptFrom, transcriptWith, transcript}
 use Rattle.model.proofs.RunLaws.{runFrom-append}
 use Rattle.transcript.proofs.LineBounds.{message-lines-append}
 use Rattle.reader.specs.declared.Step.{Step}
@@ -25,8 +24,11 @@ use Rattle.reader.specs.Walk.{lastLine, stepOf, stepAt, thenRead}
 use Rattle.reader.proofs.WalkLaws.{walk-claims}
 use Rattle.session.specs.declared.Session.{Session}
 use Rattle.session.specs.declared.Turn.{Turn}
-use Rattle.session.specs.Contracts.{Represents, Lent, linePiece, accepts, beginRefusal, beginPiece, BeginRight, LineRight, Follows}
-use Rattle.session.specs.Course.{Course, begun, advanced, SessionClaims}
+use Rattle.session.specs.Outcome.{Lent}
+use Rattle.session.specs.Course.{Represents, linePiece, accepts, beginRefusal, beginPiece, BeginRight, LineRight, Follows, Course, begun, advanced}
+use Rattle.session.proofs.BegunLaws.{begin-right}
+use Rattle.session.proofs.RefusalLaws.{malformed-refusal, step-small}
+use Rattle.session.proofs.LineRightLaws.{line-right}
 
 -- ---- Where a course stands
 
@@ -35,28 +37,29 @@ abbrev ahead : List ℕ → Session → Worklist
 ahead input session =
     readFrom (length (drop (session .at) input)) (session .line) (drop (session .at) input)
 
-record Goes (input : List ℕ) (n : ℕ) (session : Session)
+pub record Goes (input : List ℕ) (n : ℕ) (session : Session)
     (siteMemory coordinatorMemory bytes : List ℕ) : Type 0 where
-  arrivals : List Arrival
-  stands : Represents session siteMemory coordinatorMemory arrivals
-  bytes-are : bytes ≡ messageLines (runOf (session .settings) arrivals .messages)
-  rest-is : transcript input
-      ≡ transcriptFrom (session .settings) (runOf (session .settings) arrivals) (ahead input session)
-  far : 6 * n ≤ session .at
-  few : 6 * n ≤ length input
-  line-few : session .line ≤ n
+  pub arrivals : List Arrival
+  pub stands : Represents session siteMemory coordinatorMemory arrivals
+  pub bytes-are : bytes ≡ messageLines (runOf (session .settings) arrivals .messages)
+  pub rest-is : transcript input
+      ≡ transcriptFrom (session .settings) (runOf (session .settings) arrivals)
+      (ahead input session)
+  pub far : 6 * n ≤ session .at
+  pub few : 6 * n ≤ length input
+  pub line-few : session .line ≤ n
 
-record Stands (input : List ℕ) (n : ℕ) (session : Session)
+pub record Stands (input : List ℕ) (n : ℕ) (session : Session)
     (siteMemory coordinatorMemory bytes : List ℕ) : Type 0 where
-  goes : session .going ≡ true → Goes input n session siteMemory coordinatorMemory bytes
-  ended : session .going ≡ false → bytes ≡ transcript input
+  pub goes : session .going ≡ true → Goes input n session siteMemory coordinatorMemory bytes
+  pub ended : session .going ≡ false → bytes ≡ transcript input
 
 -- ---- The beginning
 
-module _ (input siteMemory coordinatorMemory out : List ℕ) (answer : Turn)
-    (right : BeginRight input siteMemory coordinatorMemory out answer) where
+module _ (input : List ℕ) (left : Lent) (answer : Turn)
+    (right : BeginRight input left answer) where
   abbrev at-start : List ℕ
-  at-start = take (answer .written) out
+  at-start = take (answer .written) (left .out)
 
   begin-ended : (found : Fields) → readFields 6 input ≡ found
       → isZero (beginRefusal input found) ≡ false
@@ -66,7 +69,7 @@ module _ (input siteMemory coordinatorMemory out : List ℕ) (answer : Turn)
 
   begin-goes : (found : Fields) → readFields 6 input ≡ found
       → isZero (beginRefusal input found) ≡ true
-      → Goes input 0 (answer .session) siteMemory coordinatorMemory at-start
+      → Goes input 0 (answer .session) (left .siteMemory) (left .coordinatorMemory) at-start
   begin-goes malformed is fine = absurd (false≢true fine)
   begin-goes (fields numbers worklist) is fine =
       let whole : isZero (beginRefusal input (readFields 6 input)) ≡ true = rw is fine in
@@ -90,7 +93,8 @@ module _ (input siteMemory coordinatorMemory out : List ℕ) (answer : Turn)
         line-few = omega (arith, start .first-line);
       }
 
-  begin-stands : Stands input 0 (answer .session) siteMemory coordinatorMemory at-start
+  begin-stands : Stands input 0 (answer .session) (left .siteMemory) (left .coordinatorMemory)
+      at-start
   begin-stands = record {
     goes = λ going. begin-goes (readFields 6 input) refl (sym (right .going) ∙ going);
     ended = λ over.
@@ -99,23 +103,6 @@ module _ (input siteMemory coordinatorMemory out : List ℕ) (answer : Turn)
   }
 
 -- ---- A line
-
--- A line that is no draw and refused is malformed.
-malformed-refusal : (input : List ℕ) (at line : ℕ)
-    → isZero (stepAt input at line .refusal) ≡ false
-    → stepAt input at line .refusal ≡ malformedLine
-malformed-refusal input at line = by-end (leb (length input) at) refl
-  where
-    by-fields : (found : Fields) → isZero (stepOf input at line found .refusal) ≡ false
-        → stepOf input at line found .refusal ≡ malformedLine
-    by-fields malformed some = refl
-    by-fields (fields numbers rest) some = absurd (false≢true (sym some))
-
-    by-end : (over : Bool) → leb (length input) at ≡ over
-        → isZero (stepAt input at line .refusal) ≡ false
-        → stepAt input at line .refusal ≡ malformedLine
-    by-end true over = rw over (λ some. absurd (false≢true (sym some)))
-    by-end false more = rw more (by-fields (readFields 3 (drop at input)))
 
 module _ (input : List ℕ) (n : ℕ) (session : Session)
     (siteMemory coordinatorMemory bytes : List ℕ)
@@ -153,12 +140,10 @@ module _ (input : List ℕ) (n : ℕ) (session : Session)
   bytes-then =
       (λ i. there .bytes-are i ++ right .bytes i)
 
-  refusal-here : ℕ
-  refusal-here = refusalIn settings (run .network) (step .arrival)
-
   -- ---- It has ended
 
-  ends-refused : step .found ≡ true → isZero (refusalIn settings (run .network) (step .arrival)) ≡ false
+  ends-refused : step .found ≡ true
+      → isZero (refusalIn settings (run .network) (step .arrival)) ≡ false
       → now-written ≡ transcript input
   ends-refused found refused =
       bytes-then ∙ rw (found, refused) (sym (rest-then ∙ rw (found, refused, transcriptFrom)))
@@ -180,7 +165,8 @@ module _ (input : List ℕ) (n : ℕ) (session : Session)
   goes-on : step .found ≡ true
       → isZero (refusalIn settings (run .network) (step .arrival)) ≡ true
       → Follows session step left (there .arrivals) (answer .session)
-      → Goes input (suc n) (answer .session) (left .siteMemory) (left .coordinatorMemory) now-written
+      → Goes input (suc n) (answer .session) (left .siteMemory) (left .coordinatorMemory)
+      now-written
   goes-on found fine follows =
       let arrivals-then = there .arrivals ++ (step .arrival ∷ []) in
       let sent = afterArrival settings (run .network) (step .arrival) .messages in
@@ -232,7 +218,7 @@ module _ (input : List ℕ) (n : ℕ) (session : Session)
       now-written
   line-stands true found true fine =
       let going : answer .session .going ≡ true = right .going ∙ rw (found, fine) in
-      let both : (step .found && accepts settings run (step .arrival)) ≡ true = rw (found, fine) in
+      let both : accepts settings run step ≡ true = rw (found, fine) in
       record {
         goes = λ _. goes-on found fine (right .follows both);
         ended = λ over. absurd (false≢true (sym over ∙ going));
@@ -252,29 +238,21 @@ module _ (input : List ℕ) (n : ℕ) (session : Session)
 
 -- ---- All calls
 
-stands-of : (input : List ℕ) (n : ℕ) (session : Session)
+pub stands-of : (input : List ℕ) (n : ℕ) (session : Session)
     (siteMemory coordinatorMemory bytes : List ℕ)
     → length input ≤ lastLine
     → Course input n session siteMemory coordinatorMemory bytes
     → Stands input n session siteMemory coordinatorMemory bytes
 stands-of input n session siteMemory coordinatorMemory bytes short
-    (begun siteBefore coordinatorBefore before siteAfter coordinatorAfter after answer sites-long
-    coordinator-long out-long says) =
-    begin-stands input siteAfter coordinatorAfter after answer
-    (says .right sites-long coordinator-long out-long)
+    (begun given left answer sites-long coordinator-long out-long says) =
+    begin-stands input left answer
+    (begin-right input given sites-long coordinator-long out-long left answer says)
 stands-of input n session siteMemory coordinatorMemory bytes short
-    (advanced n′ session′ siteMemory′ coordinatorMemory′ bytes′ list log out left answer earlier going
-    room list-long says) =
-    let there = stands-of input n′ session′ siteMemory′ coordinatorMemory′ bytes′ short earlier
-    .goes going in
-    let right = says .right (there .arrivals) (there .stands) room list-long in
-    line-stands input n′ session′ siteMemory′ coordinatorMemory′ bytes′ there short left answer right
-    _ refl _ refl
-
-pub session-claims : SessionClaims
-session-claims = record {
-  writes-transcript = λ input n session siteMemory coordinatorMemory bytes short course over.
-      stands-of input n session siteMemory coordinatorMemory bytes short course .ended over;
-  ends = λ input n session siteMemory coordinatorMemory bytes short course going.
-      stands-of input n session siteMemory coordinatorMemory bytes short course .goes going .few;
-}
+    (advanced n′ session′ bytes′ given left answer earlier going room says) =
+    let there = stands-of input n′ session′ (given .siteMemory) (given .coordinatorMemory) bytes′
+    short earlier .goes going in
+    let step = stepAt input (session′ .at) (session′ .line) in
+    let right = line-right (there .stands) room step left answer
+    (step-small input (session′ .at) (session′ .line)) (says .line) in
+    line-stands input n′ session′ (given .siteMemory) (given .coordinatorMemory) bytes′ there short
+    left answer right _ refl _ refl

@@ -1,8 +1,17 @@
 -- Laws of a session, and that its calls together write the program's transcript.
-pub mod WritingLaws
+pub mod OutputLaws
+pub mod MessageLaws
+pub mod BeginLaws
+pub mod FinishLaws
+pub mod TakeLaws
+pub mod LineLaws
 pub mod StateLaws
+pub mod RefusalLaws
+pub mod BatchLaws
 pub mod DrawLaws
 pub mod ResultLaws
-pub mod BeginLaws
-pub mod LineLaws
+pub mod LineRightLaws
+pub mod BegunLaws
 pub mod CourseLaws
+pub mod KeptLaws
+pub mod Theorem

@@ -1,55 +1,55 @@
--- A line of the worklist, by what it is: a draw, malformed, or the end.
+-- A line of the worklist, by what it is: the call `advance` does what its definition says.
 --
 --   line-draw, line-malformed, line-end     the three answers
-use mathlib.Core.Path.{_≡_, subst}
+use mathlib.Core.Path.{_≡_, sym, _∙_, subst}
 use mathlib.Core.Bool.{true, false, false≢true}
-use mathlib.Core.List.{List}
-use lib.ListN.{take}
+use mathlib.Core.List.{List, []}
+use Prim.Native.Nat.{ℕ}
 use borrow.Author.Tests.{eq-eqb, ne-eqb}
-use Rattle.model.specs.declared.Arrival.{Arrival}
-use Rattle.model.specs.Choice.{isZero}
 use Rattle.model.specs.Refusals.{accepted}
-use Rattle.model.specs.Runs.{runOf}
-use Rattle.model.specs.Transcript.{refusedLine, resultLines}
 use Rattle.reader.specs.declared.Step.{Step}
 use Rattle.session.specs.declared.Session.{Session}
 use Rattle.session.specs.declared.Turn.{Turn}
-use Rattle.session.specs.Contracts.{Lent, DrawRight, LineRight}
+use Rattle.session.specs.Outcome.{Lent, lent, withOut, withList, Refuses}
+use Rattle.session.specs.Advance.{DrawSays, Finishes, LineSays}
 
 -- `read` is the step that was read, and `step` the one that the definition gives.
-module _ (session : Session) (read step : Step) (is : read ≡ step) (left : Lent)
-    (arrivals : List Arrival) (turn : Turn) where
-  same-right : LineRight session read left arrivals turn → LineRight session step left arrivals turn
-  same-right = subst (λ (given : Step). LineRight session given left arrivals turn) is
+module _ (session : Session) (read step : Step) (is : read ≡ step) (given : Lent) (turn : Turn)
+  where
+    same-says : (left : Lent) → LineSays session read given left turn
+        → LineSays session step given left turn
+    same-says left = subst (λ (found : Step). LineSays session found given left turn) is
 
-  pub line-draw : read .found ≡ true
-      → DrawRight session read left arrivals turn
-      → LineRight session step left arrivals turn
-  line-draw found draw = same-right (record {
-    bytes = rw found (draw .bytes);
-    going = rw found (draw .going);
-    follows = λ both. draw .follows (rw found at both);
-  })
+    pub line-draw : (siteAfter coordinatorAfter logAfter after : List ℕ)
+        → read .found ≡ true
+        → DrawSays session read (withList given [])
+        (lent siteAfter coordinatorAfter logAfter [] after) turn
+        → LineSays session step given
+        (lent siteAfter coordinatorAfter logAfter (given .list) after) turn
+    line-draw siteAfter coordinatorAfter logAfter after found draw = same-says _ (record {
+      is = draw .is (given .list) ∙ sym (rw found);
+      few-bytes = λ _. draw .few-bytes;
+    })
 
-  pub line-malformed : read .found ≡ false
-      → (read .refusal ≡ accepted → ⊥)
-      → take (turn .written) (left .out) ≡ refusedLine (read .refusal)
-      → turn .session .going ≡ false
-      → LineRight session step left arrivals turn
-  line-malformed none refused bytes ended = same-right (record {
-    bytes = rw (none, ne-eqb (read .refusal) 0 refused) bytes;
-    going = rw none ended;
-    follows = λ both. absurd (false≢true (rw none at both));
-  })
+    pub line-malformed : (after : List ℕ)
+        → read .found ≡ false
+        → (read .refusal ≡ accepted → ⊥)
+        → Refuses session (read .refusal) (given .out) after turn
+        → LineSays session step given (withOut given after) turn
+    line-malformed after none refused refuses = same-says _ (record {
+      is = refuses .is given ∙ sym (rw (none, ne-eqb (read .refusal) 0 refused));
+      few-bytes = λ found. absurd (false≢true (sym none ∙ found));
+    })
 
-  pub line-end : read .found ≡ false
-      → read .refusal ≡ accepted
-      → take (turn .written) (left .out)
-      ≡ resultLines (session .settings) (runOf (session .settings) arrivals)
-      → turn .session .going ≡ false
-      → LineRight session step left arrivals turn
-  line-end none fine bytes ended = same-right (record {
-    bytes = rw (none, eq-eqb (read .refusal) 0 fine) bytes;
-    going = rw none ended;
-    follows = λ both. absurd (false≢true (rw none at both));
-  })
+    pub line-end : (listAfter after : List ℕ)
+        → read .found ≡ false
+        → read .refusal ≡ accepted
+        → Finishes session (given .coordinatorMemory) (given .list) (given .out) listAfter after turn
+        → LineSays session step given
+        (lent (given .siteMemory) (given .coordinatorMemory) (given .log) listAfter after) turn
+    line-end listAfter after none fine ends = same-says _ (record {
+      is =
+          ends .is (given .siteMemory) (given .log)
+          ∙ sym (rw (none, eq-eqb (read .refusal) 0 fine));
+      few-bytes = λ found. absurd (false≢true (sym none ∙ found));
+    })

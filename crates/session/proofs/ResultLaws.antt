@@ -2,35 +2,38 @@
 --
 --   listed-few, listed-below    how many items are listed, and that each is below the universe
 --   class-few                   the line of the class is short
+--   results-fine                the list is not refused
 --   results-right               the three lines
 use mathlib.Core.Path.{_≡_, refl, sym, ap, _∙_}
 use mathlib.Core.Bool.{Bool, true, false}
-use mathlib.Core.List.{List, [], _∷_, _++_, append-assoc}
+use mathlib.Core.List.{List, [], _∷_, _++_, append-assoc, append-nil}
 use Prim.Native.Nat.{ℕ, zero, suc, _+_, _≤_, _<_}
 use native.Mathlib.Omega.{arith}
 use lib.Dec.{eqb}
 use lib.ListN.{length, getD, take, length-append}
+use borrow.Author.Tests.{eq-eqb, le-ltb}
 use Rattle.model.specs.declared.Settings.{Settings}
 use Rattle.model.specs.declared.Arrival.{Arrival}
-use Rattle.model.specs.declared.Quantile.the-variants.{Value}
 use Rattle.model.specs.Choice.{isZero}
+use Rattle.model.specs.Refusals.{accepted}
 use Rattle.model.specs.Coordinator.{Coordinator, enough}
+use Rattle.model.specs.Network.{Network}
 use Rattle.model.specs.Reading.{isListed, listedFrom, heavyHitters, leastValueFrom, quantileOf}
-use Rattle.model.specs.Runs.{Run, runOf}
+use Rattle.model.specs.Runs.{Run}
 use Rattle.model.specs.Transcript.{endLine, classWord, messagesWord, quantileWord, resultLines}
 use Rattle.coordinator_steps.proofs.StepLaws.{valueCount-is}
-use Rattle.transcript.specs.Contracts.{countedLine, listedLine, LineWritten}
+use Rattle.transcript.specs.Contracts.{countedLine, listedLine}
 use Rattle.transcript.proofs.LineBounds.{line-claims}
-use Rattle.reading.specs.declared.Listed.{Listed}
-use Rattle.reading.specs.declared.QuantileRead.{QuantileRead}
-use Rattle.reading.specs.Contracts.{Lists, ReadsQuantile}
-use Rattle.history.specs.Reading.{ListRight, QuantileRight}
+use Rattle.reading.specs.Contracts.{listRefusal}
 use Rattle.history.proofs.RunSound.{sound-run, messages-within}
-use Rattle.history.proofs.Readings.{reads-right}
+use Rattle.history.proofs.Accepted.{memory-accepted}
 use Rattle.session.specs.declared.Session.{Session}
-use Rattle.session.specs.Contracts.{Represents}
-use Rattle.session.proofs.WritingLaws.{line-added}
-use Rattle.session.proofs.StateLaws.{runAfter, state, state-rest, state-ok}
+use Rattle.session.specs.Output.{atStart, linesAfter}
+use Rattle.session.specs.Outcome.{Lent}
+use Rattle.session.specs.Advance.{sessionCoordinator, resultLinesOf, listedOf, resultsOf}
+use Rattle.session.specs.Course.{Represents, Room}
+use Rattle.session.proofs.OutputLaws.{joined, Fitted, fits-all}
+use Rattle.session.proofs.StateLaws.{runAfter, state-ok}
 
 -- ---- How long the list is
 
@@ -60,13 +63,16 @@ module _ (settings : Settings) (c : Coordinator) where
       by-test true is-so zero inside′ later = rw is-so (omega arith)
       by-test true is-so (suc j) inside′ later =
           rw is-so (omega (arith, later j (omega (arith, rw is-so at inside′))))
-      by-test false is-not j inside′ later = rw is-not (omega (arith, later j (rw is-not at inside′)))
+      by-test false is-not j inside′ later =
+          rw is-not (omega (arith, later j (rw is-not at inside′)))
 
 -- ---- How long the line of the class is
 
 least-few : (rank total value below : ℕ) (counts : List ℕ)
     → value + length counts ≤ 1024
-    → length (endLine (classWord ++ quantileWord (leastValueFrom rank total value below counts))) ≤ 17
+    → length (endLine (classWord
+    ++ quantileWord (leastValueFrom rank total value below counts)))
+    ≤ 17
 least-few rank total value below [] few = omega (arith, line-claims .class-none)
 least-few rank total value below (count ∷ counts) few =
     by-test (enough rank total (below + count)) refl
@@ -79,7 +85,8 @@ least-few rank total value below (count ∷ counts) few =
         → length (endLine (classWord
         ++ quantileWord (leastValueFrom rank total value below (count ∷ counts))))
         ≤ 17
-    by-test true is-so later = rw (is-so, leastValueFrom) (line-claims .class-value value (omega arith))
+    by-test true is-so later =
+        rw (is-so, leastValueFrom) (line-claims .class-value value (omega arith))
     by-test false is-not later = rw (is-not, leastValueFrom) later
 
 pub class-few : (settings : Settings) (c : Coordinator)
@@ -101,8 +108,9 @@ class-few settings c values within = by-threshold (eqb (c .threshold) 1) refl
 
 -- ---- The three lines
 
-module _ {session : Session} {siteMemory memory : List ℕ} {arrivals : List Arrival}
-    (stands : Represents session siteMemory memory arrivals) where
+module _ {session : Session} {given : Lent} {arrivals : List Arrival}
+    (stands : Represents session (given .siteMemory) (given .coordinatorMemory) arrivals)
+    (room : Room given) where
   abbrev settings : Settings
   settings = session .settings
 
@@ -121,9 +129,35 @@ module _ {session : Session} {siteMemory memory : List ℕ} {arrivals : List Arr
   abbrev countLine : List ℕ
   countLine = countedLine messagesWord (length (run .messages))
 
+  -- The coordinator that the session holds is the run's.
+  coordinator-is : sessionCoordinator session given ≡ c
+  coordinator-is = ap (λ (network : Network). network .coordinator) (stands .network-is)
+
   list-few : length (heavyHitters settings c) ≤ 1000
   list-few =
       omega (arith, listed-few settings c (settings .universe) 0, stands .few-items)
+
+  pub results-fine : resultsOf session given ≡ listedOf session given
+  results-fine =
+      let rule = listRefusal settings (session .coordinator) (given .coordinatorMemory)
+      (length (given .list)) in
+      let held = sessionCoordinator session given in
+      let items : length (heavyHitters settings held) ≤ length (given .list) =
+      omega (
+        arith,
+        ap (λ (coordinator : Coordinator). length (heavyHitters settings coordinator))
+            coordinator-is,
+        list-few,
+        room .list-long,
+      ) in
+      let none : rule ≡ accepted =
+      rw (
+        memory-accepted (stands .settings-accepted) (state-ok stands) .of-coordinator,
+        le-ltb (length (given .list)) (length (heavyHitters settings held)) items,
+      ) in
+      rw (eq-eqb rule 0 none)
+
+  -- ---- How long the lines are
 
   -- 4 * 1000 + 7
   list-line-few : length listLine ≤ 4007
@@ -146,47 +180,40 @@ module _ {session : Session} {siteMemory memory : List ℕ} {arrivals : List Arr
       line-claims .count (length (run .messages))
       (omega (arith, messages-within settings (stands .settings-accepted) arrivals))
 
-  module _ (before after : List ℕ) (listed : Listed)
-      (lists : Lists settings (session .coordinator) memory before after listed)
-      (read : QuantileRead) (reads : ReadsQuantile settings (session .coordinator) memory read)
-      (list-long : 1000 ≤ length before) where
-    list-right : ListRight settings (state session siteMemory memory arrivals) before after listed
-    list-right =
-        reads-right (stands .settings-accepted) (state-ok stands) (state-rest stands) .list before
-        after listed lists
+  abbrev lines : List (List ℕ)
+  lines = listLine ∷ (classLine ∷ (countLine ∷ []))
 
-    list-is : take (listed .count) after ≡ heavyHitters settings c
-    list-is = list-right .list-is (list-right .enough-places (omega (arith, list-few)))
+  lines-are : resultLinesOf session (sessionCoordinator session given) ≡ lines
+  lines-are = (λ i.
+      listedLine (heavyHitters settings (coordinator-is i))
+      ∷ (endLine (classWord ++ quantileWord (quantileOf settings (coordinator-is i)))
+      ∷ (countedLine messagesWord (stands .count-is i) ∷ [])))
 
-    quantile-is : read .quantile ≡ quantileOf settings c
-    quantile-is =
-        reads-right (stands .settings-accepted) (state-ok stands) (state-rest stands) .quantile read
-        reads .quantile-is
+  joined-lines : joined lines ≡ resultLines settings run
+  joined-lines =
+      ap (λ (last : List ℕ). listLine ++ (classLine ++ last)) (append-nil countLine)
+      ∙ sym (append-assoc listLine classLine countLine)
 
-    pub results-right : (out₀ out₁ out₂ out₃ : List ℕ) (p₁ p₂ p₃ : ℕ)
-        → 8192 ≤ length out₀
-        → LineWritten (listedLine (take (listed .count) after)) 0 out₀ out₁ p₁
-        → LineWritten (endLine (classWord ++ quantileWord (read .quantile))) p₁ out₁ out₂ p₂
-        → LineWritten (countedLine messagesWord (session .sites .messages)) p₂ out₂ out₃ p₃
-        → take p₃ out₃ ≡ resultLines settings run
-    results-right out₀ out₁ out₂ out₃ p₁ p₂ p₃ long first second third =
-        let one = line-added listLine 0 out₀ out₁ p₁ (omega (arith, list-line-few))
-        (rw list-is at first) in
-        let two = line-added classLine p₁ out₁ out₂ p₂
-        (omega (arith, one .place-after, one .length-same, list-line-few, class-line-few))
-        (rw quantile-is at second) in
-        let three = line-added countLine p₂ out₂ out₃ p₃
-        (omega (
-          arith,
-          one .place-after,
-          one .length-same,
-          two .place-after,
-          two .length-same,
-          list-line-few,
-          class-line-few,
-          count-line-few,
-        ))
-        (rw (stands .count-is) at third) in
-        three .bytes
-        ∙ ap (λ (front : List ℕ). front ++ countLine)
-        (two .bytes ∙ ap (λ (front : List ℕ). front ++ classLine) (one .bytes))
+  -- 4007 + 17 + 30
+  fitted : Fitted (atStart (given .out)) (joined lines) (linesAfter (atStart (given .out)) lines)
+  fitted =
+      fits-all lines (atStart (given .out))
+      (omega (
+        arith,
+        length-append listLine (classLine ++ (countLine ++ [])),
+        length-append classLine (countLine ++ []),
+        length-append countLine [],
+        list-line-few,
+        class-line-few,
+        count-line-few,
+        room .out-long,
+      ))
+
+  pub results-right : let there = listedOf session given in
+      take (there .turn .written) (there .left .out) ≡ resultLines settings run
+  results-right =
+      (λ i.
+      let written = linesAfter (atStart (given .out)) (lines-are i) in
+      take (written .place) (written .out))
+      ∙ fitted .bytes-are
+      ∙ joined-lines

@@ -1,8 +1,8 @@
--- A session that stands for a run is a state of a history, at rest: what the histories' laws say holds
--- of it.
+-- A session that stands for a run is a state of a history, at rest: what the histories' laws say
+-- holds of it.
 --
 --   state, state-rest, state-ok, state-at-rest   the state, and that it is one of a history
-use mathlib.Core.Path.{_≡_, refl, ap, _∙_}
+use mathlib.Core.Path.{refl, ap, _∙_}
 use mathlib.Core.List.{List, []}
 use Prim.Native.Nat.{ℕ}
 use native.Mathlib.Omega.{arith}
@@ -14,7 +14,7 @@ use Rattle.history.specs.State.{State, AtRest}
 use Rattle.history.proofs.RunSound.{sound-run}
 use Rattle.history.proofs.Invariant.{StateOk, Resting, resting}
 use Rattle.session.specs.declared.Session.{Session}
-use Rattle.session.specs.Contracts.{Represents}
+use Rattle.session.specs.Course.{Represents}
 
 abbrev pub runAfter : Session → List Arrival → Run
 runAfter session arrivals = runOf (session .settings) arrivals

@@ -7,6 +7,7 @@ ghost use mathlib.Core.Bool.{not, _&&_};
 ghost use Prim.Native.Nat.{_≤_};
 ghost use lib.Dec.{ltb};
 ghost use lib.ListN.{length, replicate};
+ghost use Rattle.model.specs.Lent.{before, after};
 ghost use Rattle.model.specs.Limits.{topValue};
 ghost use Rattle.model.specs.Messages.{isProbe};
 ghost use Rattle.model.specs.Site.{addressRefusal, arrivalRefusal, dueAtSite, wrongAtSite, siteMessageRefusal};
@@ -89,7 +90,7 @@ pub fn observe(
     arrival: Arrival,
     memory: &mut [Word],
 ) -> Observed
-    ensures { λ r. ⌜ ObserveSays settings site arrival (now (memory .entry)) (now (memory .exit)) r ⌝ }
+    ensures { λ r. ⌜ ObserveSays settings site arrival (before memory) (after memory) r ⌝ }
 {
     let refusal = observe_refusal(settings, site, arrival, memory);
     if refusal != ACCEPTED {
@@ -234,7 +235,7 @@ fn fresh_sites() -> Sites
 // The first numbers of a memory set to 0.
 fn clear(memory: &mut [Word], words: usize)
     requires { ⌜ words ≤ length (now memory) ⌝ }
-    ensures { λ r. ⌜ now (memory .exit) ≡ overwrite (replicate words 0) (now (memory .entry)) ⌝ }
+    ensures { λ r. ⌜ after memory ≡ overwrite (replicate words 0) (before memory) ⌝ }
 {
     let mut i = 0;
     while i < words {
@@ -245,7 +246,7 @@ fn clear(memory: &mut [Word], words: usize)
 
 // All sites started fresh, their memory one after another.
 pub fn start_sites(settings: Settings, memory: &mut [Word]) -> StartedSites
-    ensures { λ r. ⌜ StartSays settings (now (memory .entry)) (now (memory .exit)) r ⌝ }
+    ensures { λ r. ⌜ StartSays settings (before memory) (after memory) r ⌝ }
 {
     let fresh = fresh_sites();
     let refusal = settings::test_settings(settings);

@@ -2,18 +2,19 @@
 --
 --   counterPasses, countersPass     whether counters in memory are consistent
 --   MemoryFits settings memory      settings that pass, and memory that is long enough
+--   CountsFit memory from places    places of a histogram in memory
 --   ValuesFit memory from value     a histogram in memory, and a value of it
 use mathlib.Core.Path.{_≡_}
 use mathlib.Core.Bool.{Bool}
 use mathlib.Core.List.{List}
 use Prim.Native.Nat.{ℕ, _+_, _≤_, _<_}
-use lib.ListN.{length, take, drop}
+use lib.ListN.{length}
 use Rattle.model.specs.declared.Settings.{Settings}
 use Rattle.model.specs.declared.SiteRecord.{SiteRecord}
 use Rattle.model.specs.Refusals.{accepted}
-use Rattle.model.specs.Limits.{valueCount, siteLimit}
+use Rattle.model.specs.Limits.{valueCount}
 use Rattle.model.specs.Settings.{settingsRefusal}
-use Rattle.model.specs.SiteMemory.{siteWords, siteIn, countersIn, sum, counterConsistent, countersConsistent}
+use Rattle.model.specs.SiteMemory.{siteWords, siteIn, countersIn, counterConsistent, countersConsistent}
 use Rattle.counters.specs.Stored.{storedAt}
 
 -- Whether the counter at a place, and whether each of the counters in use, is consistent.
@@ -30,8 +31,12 @@ pub record MemoryFits (settings : Settings) (memory : List ℕ) : Type 0 where
   pub settings-accepted : settingsRefusal settings ≡ accepted
   pub long-enough : siteWords settings ≤ length memory
 
--- A histogram within the memory, from a place on, with a sum that fits.
+-- Places of a histogram within the memory, from a place on.
+pub record CountsFit (memory : List ℕ) (from places : ℕ) : Type 0 where
+  pub long-enough : from + places ≤ length memory
+  pub few : places ≤ valueCount
+
+-- A histogram within the memory, from a place on, and a value of it.
 pub record ValuesFit (memory : List ℕ) (from value : ℕ) : Type 0 where
   pub long-enough : from + valueCount ≤ length memory
   pub value-within : value < valueCount
-  pub small-sum : sum (take valueCount (drop from memory)) ≤ siteLimit

@@ -1,6 +1,5 @@
 // A site's record and lent memory: how long it is, and whether it is consistent (refusals 4 and
-// 11). The entry points of crate `site` and the batch call test by these functions; those with a
-// `requires` are internal.
+// 11). The entry points of crate `site` and the batch call test by these functions.
 
 ghost use mathlib.Core.Path.{_≡_};
 ghost use Prim.Native.Nat.{_+_, _*_, _≤_};
@@ -11,7 +10,7 @@ ghost use Rattle.model.specs.Limits.{valueCount};
 ghost use Rattle.model.specs.Settings.{settingsRefusal};
 ghost use Rattle.model.specs.Site.{upTo};
 ghost use Rattle.model.specs.SiteMemory.{siteWords, sum, siteConsistent, siteMemoryRefusal};
-ghost use Rattle.site_memory.specs.Contracts.{counterPasses, countersPass, MemoryFits, ValuesFit};
+ghost use Rattle.site_memory.specs.Contracts.{counterPasses, countersPass, MemoryFits, CountsFit, ValuesFit};
 use counters::StoredCounter;
 use counters::Word;
 use model::ACCEPTED;
@@ -22,7 +21,8 @@ use model::Settings;
 use model::SiteRecord;
 use model::VALUE_COUNT;
 
-// The numbers of one site's memory: four for each counter, and the histogram.
+// The numbers of one site's memory: four for each counter, and the histogram. Internal:
+// `settings::test_settings` decides what it requires.
 pub fn site_words(settings: Settings) -> usize
     requires { ⌜ settingsRefusal settings ≡ accepted ⌝ }
     ensures { λ r. ⌜ r ≡ siteWords settings ⌝ }
@@ -68,26 +68,32 @@ fn counters_consistent(settings: Settings, site: SiteRecord, memory: &[Word], us
     true
 }
 
-// Whether the histogram that starts at `from` sums to `total`: each count is taken off what is left
-// of the total, so that no sum is formed.
+// The sum of the first counts of the histogram that starts at `from`. No test stands among the
+// additions, so that the compiler can make several at once: 1024 numbers of 4 bytes sum to less
+// than 8 bytes hold, whatever the memory holds.
+fn sum_of_counts(memory: &[Word], from: usize, places: usize) -> u64
+    requires { ⌜ CountsFit (now memory) from places ⌝ }
+    ensures { λ r. ⌜ r ≡ sum (take places (drop from (now (memory .entry)))) ⌝ }
+{
+    let mut counted: u64 = 0;
+    let mut i = 0;
+    while i < places {
+        counted += memory[from + i] as u64;
+        i += 1;
+    }
+    counted
+}
+
+// Whether the histogram that starts at `from` sums to `total`.
 fn values_sum_to(memory: &[Word], from: usize, total: u64) -> bool
     requires { ⌜ from + valueCount ≤ length (now memory) ⌝ }
     ensures { λ r. ⌜ r ≡ eqb (sum (take valueCount (drop from (now (memory .entry))))) total ⌝ }
 {
-    let mut left = total;
-    let mut i = 0;
-    while i < VALUE_COUNT {
-        let count = memory[from + i] as u64;
-        if left < count {
-            return false;
-        }
-        left = left - count;
-        i += 1;
-    }
-    left == 0
+    sum_of_counts(memory, from, VALUE_COUNT) == total
 }
 
-// Whether a site's record and memory are consistent.
+// Whether a site's record and memory are consistent (refusal 11). Internal: the rows before it in
+// `site_memory_refusal`, and in the batch call's start test, decide what it requires.
 pub fn site_consistent(settings: Settings, site: SiteRecord, memory: &[Word]) -> bool
     requires { ⌜ MemoryFits settings (now memory) ⌝ }
     ensures { λ r. ⌜ r ≡ siteConsistent settings site (now (memory .entry)) ⌝ }
@@ -130,16 +136,11 @@ pub fn site_memory_refusal(settings: Settings, site: SiteRecord, memory: &[Word]
     MEMORY_INCONSISTENT
 }
 
-// The arrivals of a histogram at or below a value.
+// The arrivals of a histogram at or below a value. Internal: `site_memory_refusal` decides that the
+// histogram lies within the memory, `site::message_refusal` that the value is one.
 pub fn count_up_to(memory: &[Word], from: usize, value: usize) -> u64
     requires { ⌜ ValuesFit (now memory) from value ⌝ }
     ensures { λ r. ⌜ r ≡ upTo value (take valueCount (drop from (now (memory .entry)))) ⌝ }
 {
-    let mut count: u64 = 0;
-    let mut i = 0;
-    while i <= value {
-        count += memory[from + i] as u64;
-        i += 1;
-    }
-    count
+    sum_of_counts(memory, from, value + 1)
 }

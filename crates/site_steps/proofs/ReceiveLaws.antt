@@ -13,7 +13,7 @@ use native.Mathlib.Omega.{arith}
 use lib.Dec.{leb, ltb}
 use lib.ListN.{length}
 use borrow.Author.Tests.{leb-false, ltb-false, not-false}
-use Rattle.laws.proofs.Tests.{first-fails, second-fails}
+use Rattle.laws.proofs.Tests.{neither-of-or}
 use Rattle.model.specs.declared.Settings.{Settings}
 use Rattle.model.specs.declared.SiteRecord.{SiteRecord}
 use Rattle.model.specs.declared.Message.{Message}
@@ -72,9 +72,10 @@ announced settings site which m due-is not-poll not-probe =
     let above = ltb siteLimit (m .a) in
     let right : (below || above) ≡ false =
     rw (not-poll, not-probe, kind) at (due-is .not-wrong) in
+    let neither = neither-of-or below above right in
     record {
-      not-below = ltb-false (m .a) (site .threshold) (first-fails below above right);
-      not-above = ltb-false siteLimit (m .a) (second-fails below above right);
+      not-below = ltb-false (m .a) (site .threshold) (neither .first-false);
+      not-above = ltb-false siteLimit (m .a) (neither .second-false);
     }
   where
     is-announcement : (test : Bool) → isAnnouncement m ≡ test → isAnnouncement m ≡ true

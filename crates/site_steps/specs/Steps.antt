@@ -1,7 +1,7 @@
 -- The contracts of the internal steps on a site: what each requires, and what it promises.
 --
---   ReportSays      a counter reported if it is due
---   GatherSays      the messages that are due, in order
+--   ReportSays, StoredReportSays    a counter reported if it is due
+--   DueSays, GatherSays             the messages that are due, in order
 --   ObserveAsks, StoreSays, ObserveStepSays   an arrival
 --   ReceiveAsks, ReceiveStepSays    a message
 use mathlib.Core.Path.{_≡_}
@@ -21,6 +21,8 @@ use Rattle.model.specs.Messages.{noMessage, isProbe}
 use Rattle.model.specs.Counters.{Counter, unreported}
 use Rattle.model.specs.Site.{SiteStep, arrivalRefusal, reportsItem, observed, siteReceives}
 use Rattle.model.specs.SiteMemory.{siteIn, siteRecord, siteMemory}
+use Rattle.counters.specs.declared.StoredCounter.{StoredCounter}
+use Rattle.counters.specs.Stored.{counterOf}
 use Rattle.site_memory.specs.Ready.{StepReady}
 use Rattle.site_steps.specs.declared.Observed.{Observed}
 use Rattle.site_steps.specs.declared.Answered.{Answered}
@@ -46,11 +48,17 @@ pub record ReportSays
       then set before (4 * place + 3) (counter .reported + threshold)
       else before)
 
+-- The same of a counter as memory holds it.
+abbrev pub StoredReportSays : List ℕ → List ℕ → ℕ → StoredCounter → ℕ → Bool → Type 0
+StoredReportSays before after place counter threshold due =
+    ReportSays before after place (counterOf counter) threshold due
+
 -- Kind 1 if it is due, then kind 2 if it is due.
 abbrev pub messagesDue : Bool → Message → Bool → Message → List Message
 messagesDue itemDue itemReport countDue countReport =
     (if itemDue then itemReport ∷ [] else []) ++ (if countDue then countReport ∷ [] else [])
 
+-- The site's record, and these messages in order.
 pub record GatherSays
     (numbers : SiteRecord)
     (messages : List Message)
@@ -60,6 +68,11 @@ pub record GatherSays
   pub count : answer .count ≡ length messages
   pub first : answer .first ≡ getD messages 0 noMessage
   pub second : answer .second ≡ getD messages 1 noMessage
+
+-- The same of the reports that are due.
+abbrev pub DueSays : SiteRecord → Bool → Message → Bool → Message → Observed → Type 0
+DueSays numbers itemDue itemReport countDue countReport answer =
+    GatherSays numbers (messagesDue itemDue itemReport countDue countReport) answer
 
 -- ---- An arrival
 

@@ -1,17 +1,17 @@
-// The steps of a site: what an arrival and what a message do to its record and memory. They are
-// internal: they test nothing, and require what the entry points of crate `site`, and the batch
-// call, have tested. A site's memory is handed over as a slice that may be longer than it needs.
+// The steps of a site: what an arrival and what a message do to its record and memory. They test
+// nothing. A site's memory is handed over as a slice that may be longer than it needs.
 
 ghost use mathlib.Core.Path.{_≡_};
 ghost use Prim.Native.Nat.{_+_, _<_};
 ghost use lib.Dec.{leb, eqb};
 ghost use lib.ListN.{length, getD};
 ghost use Rattle.model.specs.Choice.{if_then_else_};
+ghost use Rattle.model.specs.Lent.{before, after};
 ghost use Rattle.model.specs.Messages.{message};
 ghost use Rattle.model.specs.Site.{oneMoreAt};
 ghost use Rattle.counters.specs.Count.{greatestWord};
 ghost use Rattle.counters.specs.Stored.{counterOf};
-ghost use Rattle.site_steps.specs.Steps.{ReportAsks, ReportSays, messagesDue, GatherSays, ObserveAsks, StoreSays, ObserveStepSays, ReceiveAsks, ReceiveStepSays};
+ghost use Rattle.site_steps.specs.Steps.{ReportAsks, StoredReportSays, DueSays, ObserveAsks, StoreSays, ObserveStepSays, ReceiveAsks, ReceiveStepSays};
 use counters::StoredCounter;
 use counters::Word;
 use model::ACCEPTED;
@@ -68,7 +68,7 @@ pub fn make_message(kind: u32, site: u32, a: u64, b: u64) -> Message
 // A counter reported if its unreported arrivals reach the threshold, and whether they do.
 fn report_counter(memory: &mut [Word], place: usize, counter: StoredCounter, threshold: u64) -> bool
     requires { ⌜ ReportAsks (now memory) place (counterOf counter) ⌝ }
-    ensures { λ r. ⌜ ReportSays (now (memory .entry)) (now (memory .exit)) place (counterOf counter) threshold r ⌝ }
+    ensures { λ r. ⌜ StoredReportSays (before memory) (after memory) place counter threshold r ⌝ }
 {
     let unreported = counter.count - counter.overestimate - counter.reported;
     if threshold <= unreported as u64 {
@@ -83,7 +83,7 @@ fn report_counter(memory: &mut [Word], place: usize, counter: StoredCounter, thr
 // One more arrival of the value that stands at a place of the memory.
 fn count_value(memory: &mut [Word], place: usize)
     requires { ⌜ (place < length (now memory)) × (getD (now memory) place 0 < greatestWord) ⌝ }
-    ensures { λ r. ⌜ now (memory .exit) ≡ oneMoreAt (now (memory .entry)) place ⌝ }
+    ensures { λ r. ⌜ after memory ≡ oneMoreAt (before memory) place ⌝ }
 {
     memory[place] = memory[place] + 1;
 }
@@ -116,7 +116,7 @@ fn gather(
     count_due: bool,
     count_report: Message,
 ) -> Observed
-    ensures { λ r. ⌜ GatherSays site (messagesDue «item_due» «item_report» «count_due» «count_report») r ⌝ }
+    ensures { λ r. ⌜ DueSays site «item_due» «item_report» «count_due» «count_report» r ⌝ }
 {
     let none = make_message(0, 0, 0, 0);
     if item_due {
@@ -170,7 +170,7 @@ fn store_arrival(
     memory: &mut [Word],
 ) -> StoredArrival
     requires { ⌜ ObserveAsks settings site arrival (now memory) ⌝ }
-    ensures { λ r. ⌜ StoreSays settings site arrival (now (memory .entry)) (now (memory .exit)) r ⌝ }
+    ensures { λ r. ⌜ StoreSays settings site arrival (before memory) (after memory) r ⌝ }
 {
     let capacity = settings.capacity as usize;
     let used = site.used as usize;
@@ -185,7 +185,9 @@ fn store_arrival(
     }
 }
 
-// An arrival at a site: stored, and then the messages that go out.
+// An arrival at a site: stored, and then the messages that go out. Internal: what it requires is
+// decided by `site_memory::site_memory_refusal` and `site::arrival_refusal`, or by the tests of the
+// batch call.
 pub fn observe_step(
     settings: Settings,
     site: SiteRecord,
@@ -193,7 +195,7 @@ pub fn observe_step(
     memory: &mut [Word],
 ) -> Observed
     requires { ⌜ ObserveAsks settings site arrival (now memory) ⌝ }
-    ensures { λ r. ⌜ ObserveStepSays settings site arrival (now (memory .entry)) (now (memory .exit)) r ⌝ }
+    ensures { λ r. ⌜ ObserveStepSays settings site arrival (before memory) (after memory) r ⌝ }
 {
     let stored = store_arrival(settings, site, arrival, memory);
     let pending = site.pending + 1;
@@ -212,7 +214,9 @@ pub fn observe_step(
 }
 
 // A message at a site: a poll is answered by what is pending, a probe by the arrivals at or below
-// its value, and an announcement sets the threshold. The memory is only read.
+// its value, and an announcement sets the threshold. The memory is only read. Internal: what it
+// requires is decided by `site_memory::site_memory_refusal` and `site::message_refusal`, or by the
+// tests of the batch call.
 pub fn receive_step(
     settings: Settings,
     site: SiteRecord,

@@ -1,9 +1,10 @@
 -- What the boundary's tests show, and its two cases.
 --
---   PlacesLent, places-are      the settings and enough places
---   SiteLent, site-is           the same with a site's record
---   CoordinatorLent, coordinator-is
---   exported-handed, exported-kept
+--   PlacesLent, places-are             the settings and enough places
+--   SiteLent, site-is                  the same with a site's record
+--   CoordinatorLent, coordinator-is    the same with the coordinator's record
+--   places-room, site-room, ..         the same of an opening that fits
+--   exported-handed, exported-kept     both cases of a promise
 use Prim.Native.Nat.{ℕ, _≤_}
 use mathlib.Core.Path.{_≡_, sym, _∙_}
 use mathlib.Core.Bool.{Bool, true, false, _&&_, false≢true}
@@ -13,7 +14,11 @@ use lib.Dec.{leb}
 use borrow.Author.Tests.{leb-true}
 use Rattle.laws.proofs.Tests.{both-true}
 use Rattle.testing.specs.Numbers.{coordinatorFits, greatestHeld, greatestNarrow}
-use Rattle.testing.specs.Calls.{placesLent, siteLent, coordinatorLent, Exported}
+use Rattle.testing.specs.declared.openings.PlacesOpened.{PlacesOpened}
+use Rattle.testing.specs.declared.openings.SiteOpened.{SiteOpened}
+use Rattle.testing.specs.declared.openings.CoordinatorOpened.{CoordinatorOpened}
+use Rattle.testing.specs.Openings.{placesLent, siteLent, coordinatorLent, OpensPlaces, OpensSite, OpensCoordinator}
+use Rattle.testing.specs.Calls.{Exported}
 
 pub record PlacesLent (settings : List ℕ) (places least : ℕ) : Type 0 where
   pub settings-long : 6 ≤ length settings
@@ -61,6 +66,30 @@ coordinator-is settings numbers places least fits =
       numbers-long = leb-true _ _ (first .first-true);
       held = leb-true _ _ (last .second-true);
     }
+
+-- ---- Openings that fit
+
+pub places-room : {settings : List ℕ} {places least : ℕ} {opened : PlacesOpened}
+    → OpensPlaces settings places least opened
+    → opened .fits ≡ true
+    → PlacesLent settings places least
+places-room {settings} {places} {least} opens fit =
+    places-are settings places least (sym (opens .fits-is) ∙ fit)
+
+pub site-room : {settings site : List ℕ} {places least : ℕ} {opened : SiteOpened}
+    → OpensSite settings site places least opened
+    → opened .fits ≡ true
+    → SiteLent settings site places least
+site-room {settings} {site} {places} {least} opens fit =
+    site-is settings site places least (sym (opens .fits-is) ∙ fit)
+
+pub coordinator-room : {settings numbers : List ℕ} {places least : ℕ}
+    {opened : CoordinatorOpened}
+    → OpensCoordinator settings numbers places least opened
+    → opened .fits ≡ true
+    → CoordinatorLent settings numbers places least
+coordinator-room {settings} {numbers} {places} {least} opens fit =
+    coordinator-is settings numbers places least (sym (opens .fits-is) ∙ fit)
 
 -- ---- The two cases
 

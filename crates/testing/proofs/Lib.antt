@@ -1,3 +1,5 @@
 -- Laws that the proofs of the boundary share.
+pub mod Reading
 pub mod Writing
 pub mod Lending
+pub mod Batching

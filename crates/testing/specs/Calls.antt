@@ -2,16 +2,13 @@
 -- nothing is changed; else the answer is the refusal of the call behind it, whose own promise holds
 -- of the records that the numbers stand for, and the lent numbers are those of what it hands back.
 --
---   Lent                          lent numbers, before the call and after it
---   siteLent, coordinatorLent     whether what is lent fits
---   Exported fits Handed Kept     Handed where it fits, else Kept
+--   Exported fits Handed Kept     Handed where what is lent fits, else Kept
 --   HandsObserved ..              what each call hands back
 use mathlib.Core.Path.{_≡_}
-use mathlib.Core.Bool.{Bool, true, false, _&&_}
+use mathlib.Core.Bool.{Bool, true, false}
 use mathlib.Core.List.{List, [], _∷_, map}
 use Prim.Native.Nat.{ℕ}
 use lib.IntN.{ℤ, pos}
-use lib.Dec.{leb}
 use lib.ListN.{length}
 use Rattle.model.specs.declared.Settings.{Settings}
 use Rattle.model.specs.declared.Arrival.{Arrival}
@@ -19,7 +16,6 @@ use Rattle.model.specs.declared.Message.{Message}
 use Rattle.model.specs.declared.CoordinatorRecord.{CoordinatorRecord}
 use Rattle.model.specs.Choice.{if_then_else_, isZero}
 use Rattle.model.specs.Reading.{margin}
-use Rattle.model.specs.SiteMemory.{overwrite}
 use Rattle.model.specs.CoordinatorMemory.{coordinatorIn, coordinatorMemoryRefusal}
 use Rattle.site_steps.specs.declared.Observed.{Observed}
 use Rattle.site_steps.specs.declared.Answered.{Answered}
@@ -29,33 +25,13 @@ use Rattle.coordinator.specs.declared.StartedCoordinator.{StartedCoordinator}
 use Rattle.coordinator.specs.declared.Received.{Received}
 use Rattle.coordinator.specs.Calls as coordinator
 use Rattle.reading.specs.declared.Listed.{Listed}
+use Rattle.reading.specs.declared.Margin.{Margin}
 use Rattle.reading.specs.declared.QuantileRead.{QuantileRead}
 use Rattle.reading.specs.Contracts.{listRefusal, marginRefusal, Lists, ReadsQuantile}
-use Rattle.testing.specs.Numbers.{settingsFrom, siteFrom, siteNumbers, sitesNumbers, oneMessage, twoMessages, coordinatorFits, coordinatorFrom, coordinatorNumbers, quantileNumbers}
+use Rattle.testing.specs.Numbers.{settingsFrom, siteFrom, siteNumbers, sitesNumbers, oneMessage, twoMessages, coordinatorFrom, coordinatorNumbers, quantileNumbers}
+use Rattle.testing.specs.Openings.{Slice, given, Lent, lent, placesLent, siteLent, coordinatorLent, Writes}
 
--- ---- What is lent
-
--- Lent numbers, before the call and after it.
-pub record Lent : Type 0 where
-  pub before : List ℕ
-  pub after : List ℕ
-
--- The numbers before, and those after.
-abbrev pub lent : List ℕ → List ℕ → Lent
-lent before after = record { before = before; after = after }
-
--- The settings' numbers, and so many places for an answer of the least number.
-abbrev pub placesLent : List ℕ → ℕ → ℕ → Bool
-placesLent settings places least = leb 6 (length settings) && leb least places
-
--- The same with the four numbers of a site's record.
-abbrev pub siteLent : List ℕ → List ℕ → ℕ → ℕ → Bool
-siteLent settings site places least = placesLent settings places least && leb 4 (length site)
-
--- The same with numbers that are a coordinator's record.
-abbrev pub coordinatorLent : List ℕ → List ℕ → ℕ → ℕ → Bool
-coordinatorLent settings numbers places least =
-    placesLent settings places least && coordinatorFits numbers
+-- ---- Both cases
 
 -- The answer where what is lent does not fit the boundary.
 abbrev pub unfit : ℕ
@@ -78,14 +54,14 @@ pub record HandsSites (settings : Settings) (memory sites : Lent) (answer : ℕ)
   pub refusal : answer ≡ startRefusal settings (memory .before)
   pub started : StartedSites
   pub says : StartSays settings (memory .before) (memory .after) started
-  pub sites-are : sites .after ≡ overwrite (sitesNumbers (started .sites)) (sites .before)
+  pub sites-are : Writes (sitesNumbers (started .sites)) sites
 
-abbrev pub StartSitesExported : List ℕ → Lent → Lent → ℕ → Type 0
+abbrev pub StartSitesExported : Slice → Slice → Slice → ℕ → Type 0
 StartSitesExported settings memory sites answer =
     Exported
-    (placesLent settings (length (sites .before)) 129)
-    (HandsSites (settingsFrom settings) memory sites answer)
-    (Kept (memory ∷ (sites ∷ [])) answer)
+    (placesLent (given settings) (length (given sites)) 129)
+    (HandsSites (settingsFrom (given settings)) (lent memory) (lent sites) answer)
+    (Kept (lent memory ∷ (lent sites ∷ [])) answer)
 
 -- An arrival at a site: 9 numbers for two messages and how many there are.
 pub record HandsObserved (settings : Settings) (arrival : Arrival)
@@ -94,16 +70,16 @@ pub record HandsObserved (settings : Settings) (arrival : Arrival)
   pub observed : Observed
   pub says : ObserveSays settings (siteFrom (site .before)) arrival
       (memory .before) (memory .after) observed
-  pub site-is : site .after ≡ overwrite (siteNumbers (observed .site)) (site .before)
-  pub out-is : out .after
-      ≡ overwrite (twoMessages (observed .count) (observed .first) (observed .second)) (out .before)
+  pub site-is : Writes (siteNumbers (observed .site)) site
+  pub out-is : Writes (twoMessages (observed .count) (observed .first) (observed .second)) out
 
-abbrev pub ObserveExported : List ℕ → Arrival → Lent → Lent → Lent → ℕ → Type 0
+abbrev pub ObserveExported : Slice → Arrival → Slice → Slice → Slice → ℕ → Type 0
 ObserveExported settings arrival site memory out answer =
     Exported
-    (siteLent settings (site .before) (length (out .before)) 9)
-    (HandsObserved (settingsFrom settings) arrival site memory out answer)
-    (Kept (site ∷ (memory ∷ (out ∷ []))) answer)
+    (siteLent (given settings) (given site) (length (given out)) 9)
+    (HandsObserved (settingsFrom (given settings)) arrival (lent site) (lent memory) (lent out)
+    answer)
+    (Kept (lent site ∷ (lent memory ∷ (lent out ∷ []))) answer)
 
 -- A message at a site: 5 numbers for the reply and how many there are.
 pub record HandsAnswered (settings : Settings) (which : ℕ) (m : Message) (memory : List ℕ)
@@ -111,15 +87,16 @@ pub record HandsAnswered (settings : Settings) (which : ℕ) (m : Message) (memo
   pub refusal : answer ≡ receiveRefusal settings (siteFrom (site .before)) which m memory
   pub answered : Answered
   pub says : ReceiveSays settings (siteFrom (site .before)) which m memory answered
-  pub site-is : site .after ≡ overwrite (siteNumbers (answered .site)) (site .before)
-  pub out-is : out .after ≡ overwrite (oneMessage (answered .count) (answered .reply)) (out .before)
+  pub site-is : Writes (siteNumbers (answered .site)) site
+  pub out-is : Writes (oneMessage (answered .count) (answered .reply)) out
 
-abbrev pub SiteReceiveExported : List ℕ → ℕ → Message → List ℕ → Lent → Lent → ℕ → Type 0
-SiteReceiveExported settings which m memory site out answer =
+abbrev pub ReplyExported : Slice → ℕ → Message → Slice → Slice → Slice → ℕ → Type 0
+ReplyExported settings which m memory site out answer =
     Exported
-    (siteLent settings (site .before) (length (out .before)) 5)
-    (HandsAnswered (settingsFrom settings) which m memory site out answer)
-    (Kept (site ∷ (out ∷ [])) answer)
+    (siteLent (given settings) (given site) (length (given out)) 5)
+    (HandsAnswered (settingsFrom (given settings)) which m (given memory) (lent site) (lent out)
+    answer)
+    (Kept (lent site ∷ (lent out ∷ [])) answer)
 
 -- ---- The coordinator
 
@@ -129,21 +106,19 @@ pub record HandsCoordinator (settings : Settings) (memory numbers : Lent) (answe
   pub refusal : answer ≡ coordinator.startRefusal settings (length (memory .before))
   pub started : StartedCoordinator
   pub says : coordinator.Starts settings (memory .before) (memory .after) started
-  pub numbers-are : numbers .after
-      ≡ overwrite (coordinatorNumbers (started .coordinator)) (numbers .before)
+  pub numbers-are : Writes (coordinatorNumbers (started .coordinator)) numbers
 
-abbrev pub StartCoordinatorExported : List ℕ → Lent → Lent → ℕ → Type 0
+abbrev pub StartCoordinatorExported : Slice → Slice → Slice → ℕ → Type 0
 StartCoordinatorExported settings memory numbers answer =
     Exported
-    (placesLent settings (length (numbers .before)) 10)
-    (HandsCoordinator (settingsFrom settings) memory numbers answer)
-    (Kept (memory ∷ (numbers ∷ [])) answer)
+    (placesLent (given settings) (length (given numbers)) 10)
+    (HandsCoordinator (settingsFrom (given settings)) (lent memory) (lent numbers) answer)
+    (Kept (lent memory ∷ (lent numbers ∷ [])) answer)
 
 -- What a step hands back: the record's numbers and 5 numbers for a message.
 pub record HandsReceived (received : Received) (numbers out : Lent) : Type 0 where
-  pub numbers-are : numbers .after
-      ≡ overwrite (coordinatorNumbers (received .coordinator)) (numbers .before)
-  pub out-is : out .after ≡ overwrite (oneMessage (received .count) (received .out)) (out .before)
+  pub numbers-are : Writes (coordinatorNumbers (received .coordinator)) numbers
+  pub out-is : Writes (oneMessage (received .count) (received .out)) out
 
 -- A message at the coordinator.
 pub record HandsReceipt (settings : Settings) (c : CoordinatorRecord) (m : Message)
@@ -153,13 +128,13 @@ pub record HandsReceipt (settings : Settings) (c : CoordinatorRecord) (m : Messa
   pub says : coordinator.Receives settings c m (memory .before) (memory .after) received
   pub hands : HandsReceived received numbers out
 
-abbrev pub CoordinatorReceiveExported : List ℕ → Message → Lent → Lent → Lent → ℕ → Type 0
-CoordinatorReceiveExported settings m numbers memory out answer =
+abbrev pub ReceiptExported : Slice → Message → Slice → Slice → Slice → ℕ → Type 0
+ReceiptExported settings m numbers memory out answer =
     Exported
-    (coordinatorLent settings (numbers .before) (length (out .before)) 5)
-    (HandsReceipt (settingsFrom settings) (coordinatorFrom (numbers .before)) m
-    numbers memory out answer)
-    (Kept (numbers ∷ (memory ∷ (out ∷ []))) answer)
+    (coordinatorLent (given settings) (given numbers) (length (given out)) 5)
+    (HandsReceipt (settingsFrom (given settings)) (coordinatorFrom (given numbers)) m
+    (lent numbers) (lent memory) (lent out) answer)
+    (Kept (lent numbers ∷ (lent memory ∷ (lent out ∷ []))) answer)
 
 -- The next kind 7.
 pub record HandsAnnouncement (settings : Settings) (c : CoordinatorRecord) (memory : List ℕ)
@@ -169,13 +144,13 @@ pub record HandsAnnouncement (settings : Settings) (c : CoordinatorRecord) (memo
   pub says : coordinator.Announces settings c memory received
   pub hands : HandsReceived received numbers out
 
-abbrev pub AnnouncementExported : List ℕ → List ℕ → Lent → Lent → ℕ → Type 0
+abbrev pub AnnouncementExported : Slice → Slice → Slice → Slice → ℕ → Type 0
 AnnouncementExported settings memory numbers out answer =
     Exported
-    (coordinatorLent settings (numbers .before) (length (out .before)) 5)
-    (HandsAnnouncement (settingsFrom settings) (coordinatorFrom (numbers .before)) memory
-    numbers out answer)
-    (Kept (numbers ∷ (out ∷ [])) answer)
+    (coordinatorLent (given settings) (given numbers) (length (given out)) 5)
+    (HandsAnnouncement (settingsFrom (given settings)) (coordinatorFrom (given numbers))
+    (given memory) (lent numbers) (lent out) answer)
+    (Kept (lent numbers ∷ (lent out ∷ [])) answer)
 
 -- ---- Reading
 
@@ -185,21 +160,23 @@ pub record HandsList (settings : Settings) (c : CoordinatorRecord) (memory : Lis
   pub refusal : answer ≡ listRefusal settings c memory (length (list .before))
   pub listed : Listed
   pub says : Lists settings c memory (list .before) (list .after) listed
-  pub out-is : out .after ≡ overwrite (listed .count ∷ []) (out .before)
+  pub out-is : Writes (listed .count ∷ []) out
 
-abbrev pub ListExported : List ℕ → List ℕ → List ℕ → Lent → Lent → ℕ → Type 0
+abbrev pub ListExported : Slice → Slice → Slice → Slice → Slice → ℕ → Type 0
 ListExported settings numbers memory list out answer =
     Exported
-    (coordinatorLent settings numbers (length (out .before)) 1)
-    (HandsList (settingsFrom settings) (coordinatorFrom numbers) memory list out answer)
-    (Kept (list ∷ (out ∷ [])) answer)
+    (coordinatorLent (given settings) (given numbers) (length (given out)) 1)
+    (HandsList (settingsFrom (given settings)) (coordinatorFrom (given numbers)) (given memory)
+    (lent list) (lent out) answer)
+    (Kept (lent list ∷ (lent out ∷ [])) answer)
 
 -- The refusal of the margin, and the margin with its sign: two calls, each with one answer.
-abbrev pub MarginRefusalExported : List ℕ → List ℕ → ℕ → List ℕ → ℕ → Type 0
+abbrev pub MarginRefusalExported : Slice → Slice → ℕ → Slice → ℕ → Type 0
 MarginRefusalExported settings numbers item memory answer =
     Exported
-    (coordinatorLent settings numbers 0 0)
-    (answer ≡ marginRefusal (settingsFrom settings) (coordinatorFrom numbers) item memory)
+    (coordinatorLent (given settings) (given numbers) 0 0)
+    (answer ≡ marginRefusal (settingsFrom (given settings)) (coordinatorFrom (given numbers)) item
+    (given memory))
     (answer ≡ unfit)
 
 -- The margin, 0 where it is refused.
@@ -209,12 +186,19 @@ marginRead settings c item memory =
     then margin settings (coordinatorIn settings c memory) item
     else pos 0
 
-abbrev pub MarginExported : List ℕ → List ℕ → ℕ → List ℕ → ℤ → Type 0
+abbrev pub MarginExported : Slice → Slice → ℕ → Slice → ℤ → Type 0
 MarginExported settings numbers item memory answer =
     Exported
-    (coordinatorLent settings numbers 0 0)
-    (answer ≡ marginRead (settingsFrom settings) (coordinatorFrom numbers) item memory)
+    (coordinatorLent (given settings) (given numbers) 0 0)
+    (answer ≡ marginRead (settingsFrom (given settings)) (coordinatorFrom (given numbers)) item
+    (given memory))
     (answer ≡ pos 0)
+
+-- What both calls hand on.
+pub record MarginExports (settings numbers : Slice) (item : ℕ) (memory : Slice) (read : Margin)
+    : Type 0 where
+  pub refusal : MarginRefusalExported settings numbers item memory (read .refusal)
+  pub margin-is : MarginExported settings numbers item memory (read .margin)
 
 -- The quantile: two numbers.
 pub record HandsQuantile (settings : Settings) (c : CoordinatorRecord) (memory : List ℕ)
@@ -222,11 +206,12 @@ pub record HandsQuantile (settings : Settings) (c : CoordinatorRecord) (memory :
   pub refusal : answer ≡ coordinatorMemoryRefusal settings c memory
   pub read : QuantileRead
   pub says : ReadsQuantile settings c memory read
-  pub out-is : out .after ≡ overwrite (quantileNumbers (read .quantile)) (out .before)
+  pub out-is : Writes (quantileNumbers (read .quantile)) out
 
-abbrev pub QuantileExported : List ℕ → List ℕ → List ℕ → Lent → ℕ → Type 0
+abbrev pub QuantileExported : Slice → Slice → Slice → Slice → ℕ → Type 0
 QuantileExported settings numbers memory out answer =
     Exported
-    (coordinatorLent settings numbers (length (out .before)) 2)
-    (HandsQuantile (settingsFrom settings) (coordinatorFrom numbers) memory out answer)
-    (Kept (out ∷ []) answer)
+    (coordinatorLent (given settings) (given numbers) (length (given out)) 2)
+    (HandsQuantile (settingsFrom (given settings)) (coordinatorFrom (given numbers))
+    (given memory) (lent out) answer)
+    (Kept (lent out ∷ []) answer)

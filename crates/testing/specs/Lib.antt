@@ -1,3 +1,5 @@
 -- The boundary's numbers, and what its calls promise.
 pub mod Numbers
+pub mod Openings
 pub mod Calls
+pub mod Batch

@@ -1,15 +1,15 @@
 -- Records as plain numbers: how the tests hand them over and get them back. Every list of numbers
 -- may be longer than the record; the rest is not looked at, and stays.
 --
---   settingsFrom, siteFrom, coordinatorFrom           the record of a list's first numbers
+--   settingsFrom, siteFrom, sitesFrom, coordinatorFrom  the record of a list's first numbers
 --   siteNumbers, sitesNumbers, coordinatorNumbers     the numbers of a record, in its order
 --   messageNumbers, quantileNumbers                   the numbers of an answer
 --   coordinatorFits numbers                           whether they are a coordinator's record
 use mathlib.Core.Bool.{Bool, _&&_}
 use mathlib.Core.List.{List, [], _∷_, _++_}
-use Prim.Native.Nat.{ℕ, zero, suc, max}
+use Prim.Native.Nat.{ℕ, zero, suc, max, _+_, _*_}
 use lib.Dec.{leb, eqb}
-use lib.ListN.{length, getD}
+use lib.ListN.{length, getD, replicate}
 use Rattle.model.specs.declared.Settings.{Settings}
 use Rattle.model.specs.declared.Message.{Message}
 use Rattle.model.specs.declared.SiteRecord.{SiteRecord}
@@ -38,6 +38,10 @@ settingsFrom numbers =
     (getD numbers 4 0)
     (getD numbers 5 0)
 
+-- Settings that every call refuses.
+abbrev pub zeroSettings : Settings
+zeroSettings = settingsWith 0 0 0 0 0 0
+
 -- Kind, site, a, b.
 abbrev pub messageNumbers : Message → List ℕ
 messageNumbers m = m .kind ∷ (m .site ∷ (m .a ∷ (m .b ∷ [])))
@@ -52,29 +56,47 @@ twoMessages count first second = count ∷ (messageNumbers first ++ messageNumbe
 
 -- ---- Sites
 
--- Arrivals, pending, threshold, used.
-abbrev pub siteFrom : List ℕ → SiteRecord
-siteFrom numbers = record {
-  arrivals = getD numbers 0 0;
-  pending = getD numbers 1 0;
-  threshold = getD numbers 2 0;
-  used = getD numbers 3 0;
+-- Arrivals, pending, threshold, used: the record whose numbers begin at a place.
+abbrev pub siteAt : List ℕ → ℕ → SiteRecord
+siteAt numbers at = record {
+  arrivals = getD numbers at 0;
+  pending = getD numbers (at + 1) 0;
+  threshold = getD numbers (at + 2) 0;
+  used = getD numbers (at + 3) 0;
 }
+
+abbrev pub siteFrom : List ℕ → SiteRecord
+siteFrom numbers = siteAt numbers 0
 
 -- The same four, in the same order.
 abbrev pub siteNumbers : SiteRecord → List ℕ
 siteNumbers site = site .arrivals ∷ (site .pending ∷ (site .threshold ∷ (site .used ∷ [])))
 
+-- The first n records of the numbers, four numbers each.
+abbrev pub recordsFrom : ℕ → List ℕ → List SiteRecord
+recordsFrom zero numbers = []
+recordsFrom (suc n) numbers = recordsFrom n numbers ++ (siteAt numbers (4 * n) ∷ [])
+
+-- All 32 records, then the count of messages.
+abbrev pub sitesFrom : List ℕ → Sites
+sitesFrom numbers = record {
+  records = recordsFrom mostSites numbers;
+  messages = getD numbers 128 0;
+}
+
 -- The record that stands for one past the end: all numbers 0.
 abbrev pub zeroSite : SiteRecord
 zeroSite = record { arrivals = 0; pending = 0; threshold = 0; used = 0 }
+
+abbrev pub zeroSites : Sites
+zeroSites = record { records = replicate mostSites zeroSite; messages = 0 }
 
 -- The first n records, four numbers each.
 abbrev pub recordsNumbers : ℕ → List SiteRecord → List ℕ
 recordsNumbers zero records = []
 recordsNumbers (suc n) records = recordsNumbers n records ++ siteNumbers (getD records n zeroSite)
 
--- All 32 records, then the count of messages.
+-- Those of all 32, then the count of messages.
 abbrev pub sitesNumbers : Sites → List ℕ
 sitesNumbers sites = recordsNumbers mostSites (sites .records) ++ (sites .messages ∷ [])
 
@@ -108,6 +130,17 @@ coordinatorFrom numbers = record {
       (getD numbers 7 0)
       (getD numbers 8 0)
       (getD numbers 9 0);
+}
+
+-- All numbers 0.
+abbrev pub zeroCoordinator : CoordinatorRecord
+zeroCoordinator = record {
+  total = 0;
+  base = 0;
+  threshold = 0;
+  signals = 0;
+  quantile = 0;
+  phase = Idle;
 }
 
 -- The greatest of the numbers that the record holds in four bytes.

@@ -2,18 +2,20 @@
 ghost use mathlib.Core.Path.{_≡_};
 ghost use lib.ListN.{length};
 ghost use Rattle.model.specs.Messages.{message};
-ghost use Rattle.testing.specs.Calls.{lent, StartCoordinatorExported, CoordinatorReceiveExported, AnnouncementExported, ListExported, MarginRefusalExported, MarginExported, QuantileExported};
-use crate::lends::UNFIT;
-use crate::lends::coordinator_lent;
-use crate::lends::places_lent;
+ghost use Prim.Native.Nat.{_≤_};
+ghost use Rattle.testing.specs.Openings.{lent};
+ghost use Rattle.testing.specs.Calls.{HandsReceived, StartCoordinatorExported, ReceiptExported, AnnouncementExported, ListExported, MarginExports, MarginRefusalExported, MarginExported, QuantileExported};
 use crate::numbers::COORDINATOR_NUMBERS;
 use crate::numbers::ONE_MESSAGE;
-use crate::numbers::coordinator_from;
-use crate::numbers::settings_from;
 use crate::numbers::write_coordinator;
 use crate::numbers::write_message;
 use crate::numbers::write_quantile;
+use crate::openings::UNFIT;
+use crate::openings::open_coordinator;
+use crate::openings::open_places;
+use coordinator::Received;
 use model::Message;
+use reading::Margin;
 
 // `coordinator::start_coordinator`: the record goes to `numbers`.
 #[no_mangle]
@@ -22,15 +24,26 @@ pub extern "C" fn testing_start_coordinator(
     memory: &mut [u64],
     numbers: &mut [u64],
 ) -> u32
-    ensures { λ r. ⌜ StartCoordinatorExported (now (settings .entry)) (lent (now (memory .entry)) (now (memory .exit))) (lent (now (numbers .entry)) (now (numbers .exit))) r ⌝ }
+    ensures { λ r. ⌜ StartCoordinatorExported settings memory numbers r ⌝ }
 {
-    if places_lent(settings, numbers.len(), COORDINATOR_NUMBERS) {
-        let started = coordinator::start_coordinator(settings_from(settings), memory);
+    let opened = open_places(settings, numbers.len(), COORDINATOR_NUMBERS);
+    if opened.fits {
+        let started = coordinator::start_coordinator(opened.settings, memory);
         let fresh = started.coordinator;
         write_coordinator(numbers, fresh);
         return started.refusal;
     }
     UNFIT
+}
+
+// The record and the message that a step hands back.
+fn write_received(numbers: &mut [u64], out: &mut [u64], received: Received)
+    requires { ⌜ (10 ≤ length (now numbers)) × (5 ≤ length (now out)) ⌝ }
+    ensures { λ r. ⌜ HandsReceived received (lent numbers) (lent out) ⌝ }
+{
+    let next = received.coordinator;
+    write_coordinator(numbers, next);
+    write_message(out, received.count, received.out);
 }
 
 // `coordinator::receive`: the record goes back to `numbers`, count and message to `out`.
@@ -45,20 +58,18 @@ pub extern "C" fn testing_receive_at_coordinator(
     memory: &mut [u64],
     out: &mut [u64],
 ) -> u32
-    ensures { λ r. ⌜ CoordinatorReceiveExported (now (settings .entry)) (message kind named a b) (lent (now (numbers .entry)) (now (numbers .exit))) (lent (now (memory .entry)) (now (memory .exit))) (lent (now (out .entry)) (now (out .exit))) r ⌝ }
+    ensures { λ r. ⌜ ReceiptExported settings (message kind named a b) numbers memory out r ⌝ }
 {
-    if coordinator_lent(settings, numbers, out.len(), ONE_MESSAGE) {
+    let opened = open_coordinator(settings, numbers, out.len(), ONE_MESSAGE);
+    if opened.fits {
         let message = Message {
             kind: kind,
             site: named,
             a: a,
             b: b,
         };
-        let before = coordinator_from(numbers);
-        let received = coordinator::receive(settings_from(settings), before, message, memory);
-        let next = received.coordinator;
-        write_coordinator(numbers, next);
-        write_message(out, received.count, received.out);
+        let received = coordinator::receive(opened.settings, opened.coordinator, message, memory);
+        write_received(numbers, out, received);
         return received.refusal;
     }
     UNFIT
@@ -72,14 +83,12 @@ pub extern "C" fn testing_next_announcement(
     memory: &[u64],
     out: &mut [u64],
 ) -> u32
-    ensures { λ r. ⌜ AnnouncementExported (now (settings .entry)) (now (memory .entry)) (lent (now (numbers .entry)) (now (numbers .exit))) (lent (now (out .entry)) (now (out .exit))) r ⌝ }
+    ensures { λ r. ⌜ AnnouncementExported settings memory numbers out r ⌝ }
 {
-    if coordinator_lent(settings, numbers, out.len(), ONE_MESSAGE) {
-        let before = coordinator_from(numbers);
-        let received = coordinator::next_announcement(settings_from(settings), before, memory);
-        let next = received.coordinator;
-        write_coordinator(numbers, next);
-        write_message(out, received.count, received.out);
+    let opened = open_coordinator(settings, numbers, out.len(), ONE_MESSAGE);
+    if opened.fits {
+        let received = coordinator::next_announcement(opened.settings, opened.coordinator, memory);
+        write_received(numbers, out, received);
         return received.refusal;
     }
     UNFIT
@@ -94,18 +103,32 @@ pub extern "C" fn testing_list_heavy_hitters(
     list: &mut [u32],
     out: &mut [u64],
 ) -> u32
-    ensures { λ r. ⌜ ListExported (now (settings .entry)) (now (numbers .entry)) (now (memory .entry)) (lent (now (list .entry)) (now (list .exit))) (lent (now (out .entry)) (now (out .exit))) r ⌝ }
+    ensures { λ r. ⌜ ListExported settings numbers memory list out r ⌝ }
 {
-    if coordinator_lent(settings, numbers, out.len(), 1) {
-        let before = coordinator_from(numbers);
-        let listed = reading::list_heavy_hitters(settings_from(settings), before, memory, list);
+    let opened = open_coordinator(settings, numbers, out.len(), 1);
+    if opened.fits {
+        let listed = reading::list_heavy_hitters(opened.settings, opened.coordinator, memory, list);
         out[0] = listed.count as u64;
         return listed.refusal;
     }
     UNFIT
 }
 
-// The refusal of `reading::read_margin`.
+// `reading::read_margin`; margin 0 where what is lent does not fit.
+fn margin_lent(settings: &[u32], numbers: &[u64], item: u32, memory: &[u64]) -> Margin
+    ensures { λ r. ⌜ MarginExports settings numbers item memory r ⌝ }
+{
+    let opened = open_coordinator(settings, numbers, 0, 0);
+    if opened.fits {
+        return reading::read_margin(opened.settings, opened.coordinator, item, memory);
+    }
+    Margin {
+        refusal: UNFIT,
+        margin: 0,
+    }
+}
+
+// The refusal of the margin.
 #[no_mangle]
 pub extern "C" fn testing_read_margin(
     settings: &[u32],
@@ -113,17 +136,13 @@ pub extern "C" fn testing_read_margin(
     item: u32,
     memory: &[u64],
 ) -> u32
-    ensures { λ r. ⌜ MarginRefusalExported (now (settings .entry)) (now (numbers .entry)) item (now (memory .entry)) r ⌝ }
+    ensures { λ r. ⌜ MarginRefusalExported settings numbers item memory r ⌝ }
 {
-    if coordinator_lent(settings, numbers, 0, 0) {
-        let before = coordinator_from(numbers);
-        let read = reading::read_margin(settings_from(settings), before, item, memory);
-        return read.refusal;
-    }
-    UNFIT
+    let read = margin_lent(settings, numbers, item, memory);
+    read.refusal
 }
 
-// The margin of `reading::read_margin`; 0 where what is lent does not fit.
+// The margin itself.
 #[no_mangle]
 pub extern "C" fn testing_margin(
     settings: &[u32],
@@ -131,14 +150,10 @@ pub extern "C" fn testing_margin(
     item: u32,
     memory: &[u64],
 ) -> i64
-    ensures { λ r. ⌜ MarginExported (now (settings .entry)) (now (numbers .entry)) item (now (memory .entry)) r ⌝ }
+    ensures { λ r. ⌜ MarginExported settings numbers item memory r ⌝ }
 {
-    if coordinator_lent(settings, numbers, 0, 0) {
-        let before = coordinator_from(numbers);
-        let read = reading::read_margin(settings_from(settings), before, item, memory);
-        return read.margin;
-    }
-    0
+    let read = margin_lent(settings, numbers, item, memory);
+    read.margin
 }
 
 // `reading::read_quantile`: whether there is one, and its value, go to `out`.
@@ -149,11 +164,11 @@ pub extern "C" fn testing_read_quantile(
     memory: &[u64],
     out: &mut [u64],
 ) -> u32
-    ensures { λ r. ⌜ QuantileExported (now (settings .entry)) (now (numbers .entry)) (now (memory .entry)) (lent (now (out .entry)) (now (out .exit))) r ⌝ }
+    ensures { λ r. ⌜ QuantileExported settings numbers memory out r ⌝ }
 {
-    if coordinator_lent(settings, numbers, out.len(), 2) {
-        let before = coordinator_from(numbers);
-        let read = reading::read_quantile(settings_from(settings), before, memory);
+    let opened = open_coordinator(settings, numbers, out.len(), 2);
+    if opened.fits {
+        let read = reading::read_quantile(opened.settings, opened.coordinator, memory);
         let quantile = read.quantile;
         write_quantile(out, quantile);
         return read.refusal;

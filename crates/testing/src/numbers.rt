@@ -2,8 +2,8 @@
 ghost use mathlib.Core.Path.{_≡_};
 ghost use Prim.Native.Nat.{_≤_, max};
 ghost use lib.ListN.{length};
-ghost use Rattle.model.specs.SiteMemory.{overwrite};
-ghost use Rattle.testing.specs.Numbers.{settingsFrom, siteFrom, siteNumbers, sitesNumbers, oneMessage, twoMessages, phaseFrom, phaseNumbers, foundNumbers, greatestHeld, coordinatorFits, coordinatorFrom, coordinatorNumbers, quantileNumbers};
+ghost use Rattle.testing.specs.Openings.{given, lent, Writes};
+ghost use Rattle.testing.specs.Numbers.{zeroSettings, zeroSite, zeroSites, zeroCoordinator, settingsFrom, siteFrom, siteNumbers, sitesFrom, sitesNumbers, oneMessage, twoMessages, phaseFrom, phaseNumbers, foundNumbers, greatestHeld, coordinatorFits, coordinatorFrom, coordinatorNumbers, quantileNumbers};
 use model::CoordinatorRecord;
 use model::Message;
 use model::Phase;
@@ -26,10 +26,24 @@ pub const ONE_MESSAGE: usize = 5;
 
 pub const TWO_MESSAGES: usize = 9;
 
+// Settings that every call refuses.
+pub fn zero_settings() -> Settings
+    ensures { λ r. ⌜ r ≡ zeroSettings ⌝ }
+{
+    Settings {
+        sites: 0,
+        epsilon: 0,
+        phi: 0,
+        rank: 0,
+        capacity: 0,
+        universe: 0,
+    }
+}
+
 // The settings of six numbers.
 pub fn settings_from(numbers: &[u32]) -> Settings
     requires { ⌜ 6 ≤ length (now numbers) ⌝ }
-    ensures { λ r. ⌜ r ≡ settingsFrom (now (numbers .entry)) ⌝ }
+    ensures { λ r. ⌜ r ≡ settingsFrom (given numbers) ⌝ }
 {
     Settings {
         sites: numbers[0],
@@ -41,10 +55,38 @@ pub fn settings_from(numbers: &[u32]) -> Settings
     }
 }
 
+// A site's record of zeros.
+pub fn zero_site() -> SiteRecord
+    ensures { λ r. ⌜ r ≡ zeroSite ⌝ }
+{
+    SiteRecord {
+        arrivals: 0,
+        pending: 0,
+        threshold: 0,
+        used: 0,
+    }
+}
+
+// All sites' records so.
+pub fn zero_sites() -> Sites
+    ensures { λ r. ⌜ r ≡ zeroSites ⌝ }
+{
+    let zero = SiteRecord {
+        arrivals: 0,
+        pending: 0,
+        threshold: 0,
+        used: 0,
+    };
+    Sites {
+        records: [zero; 32],
+        messages: 0,
+    }
+}
+
 // The site's record of four numbers.
 pub fn site_from(numbers: &[u64]) -> SiteRecord
     requires { ⌜ 4 ≤ length (now numbers) ⌝ }
-    ensures { λ r. ⌜ r ≡ siteFrom (now (numbers .entry)) ⌝ }
+    ensures { λ r. ⌜ r ≡ siteFrom (given numbers) ⌝ }
 {
     SiteRecord {
         arrivals: numbers[0],
@@ -57,7 +99,7 @@ pub fn site_from(numbers: &[u64]) -> SiteRecord
 // The four numbers of a site's record.
 pub fn write_site(numbers: &mut [u64], site: SiteRecord)
     requires { ⌜ 4 ≤ length (now numbers) ⌝ }
-    ensures { λ r. ⌜ now (numbers .exit) ≡ overwrite (siteNumbers site) (now (numbers .entry)) ⌝ }
+    ensures { λ r. ⌜ Writes (siteNumbers site) (lent numbers) ⌝ }
 {
     numbers[0] = site.arrivals;
     numbers[1] = site.pending;
@@ -66,9 +108,38 @@ pub fn write_site(numbers: &mut [u64], site: SiteRecord)
 }
 
 // All records and the count of messages.
+pub fn sites_from(numbers: &[u64]) -> Sites
+    requires { ⌜ 129 ≤ length (now numbers) ⌝ }
+    ensures { λ r. ⌜ r ≡ sitesFrom (given numbers) ⌝ }
+{
+    let zero = SiteRecord {
+        arrivals: 0,
+        pending: 0,
+        threshold: 0,
+        used: 0,
+    };
+    let mut records = [zero; 32];
+    let mut i = 0;
+    while i < 32 {
+        let at = 4 * i;
+        records[i] = SiteRecord {
+            arrivals: numbers[at],
+            pending: numbers[at + 1],
+            threshold: numbers[at + 2],
+            used: numbers[at + 3],
+        };
+        i += 1;
+    }
+    Sites {
+        records: records,
+        messages: numbers[128],
+    }
+}
+
+// Their numbers.
 pub fn write_sites(numbers: &mut [u64], sites: Sites)
     requires { ⌜ 129 ≤ length (now numbers) ⌝ }
-    ensures { λ r. ⌜ now (numbers .exit) ≡ overwrite (sitesNumbers sites) (now (numbers .entry)) ⌝ }
+    ensures { λ r. ⌜ Writes (sitesNumbers sites) (lent numbers) ⌝ }
 {
     let mut i = 0;
     while i < 32 {
@@ -86,7 +157,7 @@ pub fn write_sites(numbers: &mut [u64], sites: Sites)
 // One message and how many there are.
 pub fn write_message(numbers: &mut [u64], count: u32, message: Message)
     requires { ⌜ 5 ≤ length (now numbers) ⌝ }
-    ensures { λ r. ⌜ now (numbers .exit) ≡ overwrite (oneMessage count message) (now (numbers .entry)) ⌝ }
+    ensures { λ r. ⌜ Writes (oneMessage count message) (lent numbers) ⌝ }
 {
     numbers[0] = count as u64;
     numbers[1] = message.kind as u64;
@@ -98,7 +169,7 @@ pub fn write_message(numbers: &mut [u64], count: u32, message: Message)
 // Two messages and how many there are.
 pub fn write_messages(numbers: &mut [u64], count: u32, first: Message, second: Message)
     requires { ⌜ 9 ≤ length (now numbers) ⌝ }
-    ensures { λ r. ⌜ now (numbers .exit) ≡ overwrite (twoMessages count first second) (now (numbers .entry)) ⌝ }
+    ensures { λ r. ⌜ Writes (twoMessages count first second) (lent numbers) ⌝ }
 {
     numbers[0] = count as u64;
     numbers[1] = first.kind as u64;
@@ -132,7 +203,7 @@ fn larger(x: u64, y: u64) -> u64
 
 // Whether the numbers are a coordinator's record.
 pub fn coordinator_fits(numbers: &[u64]) -> bool
-    ensures { λ r. ⌜ r ≡ coordinatorFits (now (numbers .entry)) ⌝ }
+    ensures { λ r. ⌜ r ≡ coordinatorFits (given numbers) ⌝ }
 {
     if numbers.len() < COORDINATOR_NUMBERS {
         return false;
@@ -162,10 +233,24 @@ fn phase_from(which: u64, site: u32, low: u32, high: u32, sum: u64) -> Phase
     Phase::Announcing(site)
 }
 
+// A coordinator's record of zeros.
+pub fn zero_coordinator() -> CoordinatorRecord
+    ensures { λ r. ⌜ r ≡ zeroCoordinator ⌝ }
+{
+    CoordinatorRecord {
+        total: 0,
+        base: 0,
+        threshold: 0,
+        signals: 0,
+        quantile: 0,
+        phase: Phase::Idle,
+    }
+}
+
 // The coordinator's record of ten numbers.
 pub fn coordinator_from(numbers: &[u64]) -> CoordinatorRecord
     requires { ⌜ (10 ≤ length (now numbers)) × (greatestHeld (now numbers) ≤ 4294967295) ⌝ }
-    ensures { λ r. ⌜ r ≡ coordinatorFrom (now (numbers .entry)) ⌝ }
+    ensures { λ r. ⌜ r ≡ coordinatorFrom (given numbers) ⌝ }
 {
     let site = numbers[6] as u32;
     let low = numbers[7] as u32;
@@ -220,7 +305,7 @@ fn phase_numbers(phase: Phase) -> PhaseNumbers
 // The ten numbers of the coordinator's record.
 pub fn write_coordinator(numbers: &mut [u64], coordinator: CoordinatorRecord)
     requires { ⌜ 10 ≤ length (now numbers) ⌝ }
-    ensures { λ r. ⌜ now (numbers .exit) ≡ overwrite (coordinatorNumbers coordinator) (now (numbers .entry)) ⌝ }
+    ensures { λ r. ⌜ Writes (coordinatorNumbers coordinator) (lent numbers) ⌝ }
 {
     let now_in = coordinator.phase;
     let phase = phase_numbers(now_in);
@@ -258,7 +343,7 @@ fn found_numbers(quantile: Quantile) -> FoundNumbers
 // The two numbers of a quantile, written.
 pub fn write_quantile(numbers: &mut [u64], quantile: Quantile)
     requires { ⌜ 2 ≤ length (now numbers) ⌝ }
-    ensures { λ r. ⌜ now (numbers .exit) ≡ overwrite (quantileNumbers quantile) (now (numbers .entry)) ⌝ }
+    ensures { λ r. ⌜ Writes (quantileNumbers quantile) (lent numbers) ⌝ }
 {
     let found = found_numbers(quantile);
     numbers[0] = found.found;

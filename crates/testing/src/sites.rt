@@ -1,21 +1,18 @@
 // The calls on sites.
 ghost use mathlib.Core.Path.{_≡_};
-ghost use lib.ListN.{length};
 ghost use Rattle.model.specs.Instances.{arrivalWith};
 ghost use Rattle.model.specs.Messages.{message};
-ghost use Rattle.testing.specs.Calls.{lent, StartSitesExported, ObserveExported, SiteReceiveExported};
-use crate::lends::UNFIT;
-use crate::lends::places_lent;
-use crate::lends::site_lent;
+ghost use Rattle.testing.specs.Calls.{StartSitesExported, ObserveExported, ReplyExported};
 use crate::numbers::ONE_MESSAGE;
 use crate::numbers::SITES_NUMBERS;
 use crate::numbers::TWO_MESSAGES;
-use crate::numbers::settings_from;
-use crate::numbers::site_from;
 use crate::numbers::write_message;
 use crate::numbers::write_messages;
 use crate::numbers::write_site;
 use crate::numbers::write_sites;
+use crate::openings::UNFIT;
+use crate::openings::open_places;
+use crate::openings::open_site;
 use model::Arrival;
 use model::Message;
 
@@ -26,10 +23,11 @@ pub extern "C" fn testing_start_sites(
     memory: &mut [u32],
     sites: &mut [u64],
 ) -> u32
-    ensures { λ r. ⌜ StartSitesExported (now (settings .entry)) (lent (now (memory .entry)) (now (memory .exit))) (lent (now (sites .entry)) (now (sites .exit))) r ⌝ }
+    ensures { λ r. ⌜ StartSitesExported settings memory sites r ⌝ }
 {
-    if places_lent(settings, sites.len(), SITES_NUMBERS) {
-        let started = site::start_sites(settings_from(settings), memory);
+    let opened = open_places(settings, sites.len(), SITES_NUMBERS);
+    if opened.fits {
+        let started = site::start_sites(opened.settings, memory);
         let records = started.sites;
         write_sites(sites, records);
         return started.refusal;
@@ -48,15 +46,16 @@ pub extern "C" fn testing_observe(
     memory: &mut [u32],
     out: &mut [u64],
 ) -> u32
-    ensures { λ r. ⌜ ObserveExported (now (settings .entry)) (arrivalWith at item value) (lent (now (site .entry)) (now (site .exit))) (lent (now (memory .entry)) (now (memory .exit))) (lent (now (out .entry)) (now (out .exit))) r ⌝ }
+    ensures { λ r. ⌜ ObserveExported settings (arrivalWith at item value) site memory out r ⌝ }
 {
-    if site_lent(settings, site, out.len(), TWO_MESSAGES) {
+    let opened = open_site(settings, site, out.len(), TWO_MESSAGES);
+    if opened.fits {
         let arrival = Arrival {
             site: at,
             item: item,
             value: value,
         };
-        let observed = site::observe(settings_from(settings), site_from(site), arrival, memory);
+        let observed = site::observe(opened.settings, opened.site, arrival, memory);
         write_site(site, observed.site);
         write_messages(out, observed.count, observed.first, observed.second);
         return observed.refusal;
@@ -77,22 +76,17 @@ pub extern "C" fn testing_receive_at_site(
     memory: &[u32],
     out: &mut [u64],
 ) -> u32
-    ensures { λ r. ⌜ SiteReceiveExported (now (settings .entry)) which (message kind named a b) (now (memory .entry)) (lent (now (site .entry)) (now (site .exit))) (lent (now (out .entry)) (now (out .exit))) r ⌝ }
+    ensures { λ r. ⌜ ReplyExported settings which (message kind named a b) memory site out r ⌝ }
 {
-    if site_lent(settings, site, out.len(), ONE_MESSAGE) {
+    let opened = open_site(settings, site, out.len(), ONE_MESSAGE);
+    if opened.fits {
         let message = Message {
             kind: kind,
             site: named,
             a: a,
             b: b,
         };
-        let answered = site::receive(
-            settings_from(settings),
-            site_from(site),
-            which,
-            message,
-            memory,
-        );
+        let answered = site::receive(opened.settings, opened.site, which, message, memory);
         write_site(site, answered.site);
         write_message(out, answered.count, answered.reply);
         return answered.refusal;

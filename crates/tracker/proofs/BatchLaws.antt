@@ -1,11 +1,10 @@
--- One arrival of a batch: what the code finds and does is the model's, and a batch that took it may take
--- another.
+-- One arrival of a batch: what the code finds and does is the model's, and a batch that took it may
+-- take another.
 --
 --   one-places, refusal-is      what the refusal's test asks, and that it is the model's
---   one-accepting               what delivering an accepted arrival asks
---   holds-stopped, holds-taken  answer and lent memory then
+--   one-asks                    what an accepted arrival asks
+--   holds-stopped, holds-delivered   answer and lent memory then
 --   ready-next                  a batch that took an arrival may take another
---   batchFrom-on                the model's batch, arrival by arrival
 use mathlib.Core.Path.{_≡_, refl, sym, ap, _∙_, subst}
 use mathlib.Core.Bool.{Bool, true, false}
 use mathlib.Core.List.{List, [], _∷_, _++_, append-nil}
@@ -21,7 +20,7 @@ use Rattle.model.specs.declared.Message.{Message}
 use Rattle.model.specs.declared.SiteRecord.{SiteRecord}
 use Rattle.model.specs.Choice.{if_then_else_, isZero}
 use Rattle.model.specs.Refusals.{when, _orElse_, accepted, logTooShort}
-use Rattle.model.specs.Limits.{siteLimit, mostMessages}
+use Rattle.model.specs.Limits.{mostSites, siteLimit, mostMessages}
 use Rattle.model.specs.Network.{Network, siteAt, afterArrival}
 use Rattle.model.specs.NetworkMemory.{allArrivals}
 use Rattle.model.specs.Runs.{Batch, refusalIn, batchRefusal, batchFrom}
@@ -36,7 +35,9 @@ use Rattle.laws.proofs.Sums.{sumBelow-le, sumBelow-const}
 use Rattle.network_memory.specs.Records.{noRecord}
 use Rattle.delivery.specs.declared.Underway.{Underway}
 use Rattle.delivery.specs.Log.{logRoom}
-use Rattle.delivery.specs.Holding.{Given, state, Holds, Accepting, ArrivalAsks, ArrivalSays, rested}
+use Rattle.delivery.specs.Sending.{resting}
+use Rattle.delivery.specs.Holding.{Given, state, Holds, Accepting, rested}
+use Rattle.delivery.specs.Arriving.{ArrivalAsks}
 use Rattle.delivery.proofs.HoldingLaws.{Stored, record-read, log-length}
 use Rattle.delivery.proofs.GoingLaws.{stored-of-sound}
 use Rattle.delivery.proofs.RestLaws.{sound-then, bounded-then, arrivals-then, holds-rested}
@@ -44,6 +45,36 @@ use Rattle.tracker.specs.declared.BatchAnswer.{BatchAnswer}
 use Rattle.tracker.specs.Batch.{BatchLent}
 use Rattle.tracker.specs.Steps.{placesRefusal, PlacesAsk, withOne, stoppedBy, oneRefusal, batchOne, underwayOf, BatchHolds, BatchReady, OneAsks, lentOf}
 use Rattle.tracker.proofs.RefusalLaws.{placesRefusal-is}
+
+-- ---- An arrival with full delivery
+
+pub holds-delivered : {settings : Settings} {given : Given} (batch : Batch) (arrival : Arrival)
+    (after : Underway) (next : BatchAnswer) (memory coordinator log : List ℕ)
+    → Holds settings given (batch .messages)
+    (rested (afterArrival settings (batch .network) arrival)) (state after memory coordinator log)
+    → next .refusal ≡ accepted
+    → next .accepted ≡ batch .accepted + 1
+    → underwayOf next ≡ resting (after .sites) (after .coordinator) (after .written)
+    → BatchHolds settings given (withOne settings batch arrival) next
+    (lentOf memory coordinator log)
+holds-delivered {settings} batch arrival after next memory coordinator log holds
+    refusal-none accepted-more same =
+    let done = afterArrival settings (batch .network) arrival in
+    let held = holds-rested (done .network) (done .messages) holds in
+    record {
+      refusal = refusal-none;
+      accepted = accepted-more;
+      holds = rw same (record {
+        records = held .records;
+        counted = held .counted;
+        coordinator = held .coordinator;
+        written = held .written;
+        waiting = refl;
+        site-memory = held .site-memory;
+        coordinator-memory = held .coordinator-memory;
+        log = held .log;
+      });
+    }
 
 -- ---- A batch that is held
 
@@ -86,6 +117,22 @@ module _ {settings : Settings} {answer : BatchAnswer} {lent : BatchLent}
       (record-read (u .ready .fits) stored (u .holds .holds) (arrival .site) known))
       (rw (written-is, log-same))
 
+  -- All arrivals fit a machine number, so the accepted ones do.
+  pub accepted-small : u .batch .accepted ≤ mostSites * siteLimit
+  accepted-small =
+      let sound = u .ready .sound in
+      let few : settings .sites * siteLimit ≤ mostSites * siteLimit =
+      mul-le-mul-right siteLimit
+      (settled settings (u .ready .fits .settings-accepted) .sites .at-most) in
+      omega (
+        arith,
+        u .ready .accepted-within,
+        sumBelow-allArrivals settings (network .sites) (sound .all-sites),
+        sumBelow-le (arrivalsAt (network .sites)) (λ j. siteLimit) (settings .sites)
+            (λ j j<. sound .sites-sound j j< .arrivals-within),
+        sumBelow-const siteLimit (settings .sites),
+      )
+
   -- ---- An accepted arrival
 
   module _ (arrival : Arrival)
@@ -116,57 +163,8 @@ module _ {settings : Settings} {answer : BatchAnswer} {lent : BatchLent}
       holds = u .holds .holds;
     }
 
-    taken-is : batchOne settings room (u .batch) arrival ≡ withOne settings (u .batch) arrival
+    pub taken-is : batchOne settings room (u .batch) arrival ≡ withOne settings (u .batch) arrival
     taken-is = rw (eq-eqb (oneRefusal settings room (u .batch) arrival) 0 none)
-
-    -- All arrivals fit a machine number, so the accepted ones do.
-    pub accepted-small : u .batch .accepted ≤ 32 * siteLimit
-    accepted-small =
-        let sound = u .ready .sound in
-        let few : settings .sites * siteLimit ≤ 32 * siteLimit =
-        mul-le-mul-right siteLimit
-        (settled settings (u .ready .fits .settings-accepted) .sites .at-most) in
-        omega (
-          arith,
-          u .ready .accepted-within,
-          sumBelow-allArrivals settings (network .sites) (sound .all-sites),
-          sumBelow-le (arrivalsAt (network .sites)) (λ j. siteLimit) (settings .sites)
-              (λ j j<. sound .sites-sound j j< .arrivals-within),
-          sumBelow-const siteLimit (settings .sites),
-        )
-
-    pub holds-taken : (after : Underway) (next : BatchAnswer) (memory coordinator log : List ℕ)
-        → ArrivalSays settings arrival
-        (state (underwayOf answer) (lent .siteMemory) (lent .coordinatorMemory) (lent .log))
-        (state after memory coordinator log)
-        → next .refusal ≡ accepted
-        → next .accepted ≡ answer .accepted + 1
-        → next .written ≡ after .written
-        → next .sites ≡ after .sites
-        → next .coordinator ≡ after .coordinator
-        → BatchHolds settings (u .given) (batchOne settings room (u .batch) arrival) next
-        (lentOf memory coordinator log)
-    holds-taken after next memory coordinator log says refusal-none accepted-more written-then
-        sites-then coordinator-then =
-        let done = afterArrival settings network arrival in
-        let held = holds-rested (done .network) (done .messages) (says .delivers one-asks) in
-        subst (λ (b : Batch).
-        BatchHolds settings (u .given) b next (lentOf memory coordinator log))
-        (sym taken-is)
-        (record {
-          refusal = refusal-none;
-          accepted = accepted-more ∙ ap (λ (n : ℕ). n + 1) (u .holds .accepted);
-          holds = record {
-            records = rw sites-then (held .records);
-            counted = rw sites-then (held .counted);
-            coordinator = coordinator-then ∙ held .coordinator;
-            written = written-then ∙ held .written;
-            waiting = refl;
-            site-memory = held .site-memory;
-            coordinator-memory = held .coordinator-memory;
-            log = held .log;
-          };
-        })
 
     pub ready-next : BatchReady settings (u .given) (batchOne settings room (u .batch) arrival)
     ready-next =

@@ -1,7 +1,10 @@
 -- The laws of the batch call.
 pub mod RefusalLaws
 pub mod BatchLaws
+pub mod TurnLaws
 pub mod WalkLaws
+pub mod Lending
 pub mod Again
+pub mod Promised
 pub mod Elem
 pub mod Tail

@@ -1,6 +1,7 @@
 -- Refusals of an arrival in a batch: what the code finds from records and the log's length is the
 -- model's refusal in the network that they hold.
 --
+--   site-known, own-refusal                                      the site is known; its own record
 --   address-refused, arrival-refused, log-refused, not-refused   the rows, as the code has them
 --   placesRefusal-is                                             the model's refusal
 use mathlib.Core.Path.{_≡_, refl, sym, ap, _∙_}
@@ -15,6 +16,7 @@ use borrow.Author.Tests.{lt-ltb, le-ltb, le-leb, leb-false}
 use Rattle.model.specs.declared.Settings.{Settings}
 use Rattle.model.specs.declared.Arrival.{Arrival}
 use Rattle.model.specs.declared.Sites.{Sites}
+use Rattle.model.specs.declared.SiteRecord.{SiteRecord}
 use Rattle.model.specs.Refusals.{when, _orElse_, accepted, logTooShort, unknownSite}
 use Rattle.model.specs.Limits.{mostMessages}
 use Rattle.model.specs.Site.{Site, addressRefusal, arrivalRefusal}
@@ -33,6 +35,14 @@ module _ (settings : Settings) (sites : Sites) (arrival : Arrival) (numbers writ
   site-known none =
       leb-false _ _
       (passed (leb (settings .sites) (arrival .site)) unknownSite _ (omega arith) none .test-failed)
+
+  -- The refusal is that of the record that was read.
+  pub own-refusal : {number : ℕ} {numbers-read : SiteRecord}
+      → number ≡ arrivalRefusal settings (bareSite numbers-read) arrival
+      → numbers-read ≡ getD (sites .records) (arrival .site) noRecord
+      → number ≡ arrivalRefusal settings own arrival
+  own-refusal is read =
+      is ∙ ap (λ (r : SiteRecord). arrivalRefusal settings (bareSite r) arrival) read
 
   -- An address that is refused is so before the site's own number is looked at.
   pub address-refused : (number : ℕ)
@@ -53,7 +63,8 @@ module _ (settings : Settings) (sites : Sites) (arrival : Arrival) (numbers writ
   pub log-refused : arrivalRefusal settings own arrival ≡ accepted
       → numbers / 4 - written < mostMessages (settings .sites)
       → logTooShort ≡ placesRefusal settings sites arrival numbers written
-  log-refused none few = rw (none, lt-ltb (numbers / 4 - written) (mostMessages (settings .sites)) few)
+  log-refused none few =
+      rw (none, lt-ltb (numbers / 4 - written) (mostMessages (settings .sites)) few)
 
   pub not-refused : arrivalRefusal settings own arrival ≡ accepted
       → mostMessages (settings .sites) ≤ numbers / 4 - written
@@ -73,8 +84,8 @@ same-refusal settings own site arrival same =
     by-site (yes known) = rw (same known)
     by-site (no past) = rw (le-leb (settings .sites) (arrival .site) (omega arith))
 
-pub placesRefusal-is : (settings : Settings) (sites : Sites) (arrival : Arrival) (numbers written : ℕ)
-    (network : Network) (free : ℕ)
+pub placesRefusal-is : (settings : Settings) (sites : Sites) (arrival : Arrival)
+    (numbers written : ℕ) (network : Network) (free : ℕ)
     → (arrival .site < settings .sites
     → getD (sites .records) (arrival .site) noRecord .arrivals
     ≡ siteAt network (arrival .site) .arrivals)

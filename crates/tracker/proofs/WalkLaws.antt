@@ -1,5 +1,5 @@
--- The batch call arrival by arrival: what holds of answer and lent memory when some arrivals are still to
--- come, from the start of the call to its end.
+-- The batch call arrival by arrival: what holds of answer and lent memory when some arrivals are
+-- still to come, from the start of the call to its end.
 --
 --   givenOf call                     what the call was given
 --   batchRest, batchRest-on          the batch with the arrivals still to come
@@ -34,7 +34,7 @@ use Rattle.delivery.specs.Holding.{Given, state, Holds}
 use Rattle.network_tests.proofs.SoundLaws.{Passing, passing}
 use Rattle.tracker.specs.declared.BatchAnswer.{BatchAnswer}
 use Rattle.tracker.specs.Batch.{BatchCall, BatchLent, startRefusal, batchIn, BatchSays}
-use Rattle.tracker.specs.Steps.{opened, withOne, stoppedBy, oneRefusal, batchOne, underwayOf, BatchHolds, BatchReady, OneAsks, OneSays, lentOf}
+use Rattle.tracker.specs.Steps.{opened, OpenSays, withOne, stoppedBy, oneRefusal, batchOne, underwayOf, BatchHolds, BatchReady, OneAsks, OneSays, lentOf}
 use Rattle.tracker.proofs.BatchLaws.{ready-next}
 
 -- ---- The batch with the arrivals still to come
@@ -73,11 +73,6 @@ batchRest-on settings room batch arrival rest goes =
         rw (goes, stops, batchFrom, stops)
 
 -- ---- The call so far
-
--- Where the call stands: its answer so far, and lent memory and log.
-pub record Stand : Type 0 where
-  pub answer : BatchAnswer
-  pub lent : BatchLent
 
 pub record Goes (call : BatchCall) (rest : List Arrival) (answer : BatchAnswer) (lent : BatchLent)
     : Type 0 where
@@ -168,12 +163,12 @@ walked-start call answer is = by-refusal (ℕ-discrete (startRefusal call) 0)
 
 -- The memory as the start's tests left it, which only read it.
 pub walked-open : (call : BatchCall) (answer : BatchAnswer) (siteMemory coordinatorMemory : List ℕ)
-    → answer ≡ opened (startRefusal call) (call .sites) (call .coordinator)
-    → siteMemory ≡ call .siteMemory
-    → coordinatorMemory ≡ call .coordinatorMemory
+    → OpenSays (call .settings) (call .sites) (call .coordinator) (call .siteMemory)
+    (call .coordinatorMemory) answer siteMemory coordinatorMemory
     → Walked call (call .arrivals) answer (lentOf siteMemory coordinatorMemory (call .log))
-walked-open call answer siteMemory coordinatorMemory is sites-kept coordinator-kept =
-    rw (sites-kept, coordinator-kept) (walked-start call answer is)
+walked-open call answer siteMemory coordinatorMemory says =
+    rw (says .site-memory-kept, says .coordinator-memory-kept)
+    (walked-start call answer (says .answered))
 
 -- ---- Arrival by arrival
 

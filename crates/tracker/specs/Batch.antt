@@ -1,5 +1,5 @@
--- The contract of the batch call, document 01's call over many draws: by the model's `batchOf`, what
--- number, records and every place of lent memory and log equal, refused or not.
+-- The contract of the batch call, document 01's call over many draws: by the model's `batchOf`,
+-- what number, records and every place of lent memory and log equal, refused or not.
 --
 --   BatchSays ..                  the promise
 -- Passed on: logRoom, messageNumbers and messagesIn, the log as crate `delivery` has it.

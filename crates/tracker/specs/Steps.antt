@@ -1,6 +1,7 @@
 -- The parts of the batch call: its start, and one arrival of it.
 --
 --   opened refusal sites coordinator   the answer before the first arrival
+--   OpenSays                           the start's promise
 --   placesRefusal ..                   5, 6, 7, 8, 14 from records and the log's length
 --   batchOne settings room batch a     one arrival of the model's batch
 --   BatchHolds                         answer and lent memory hold a batch
@@ -20,7 +21,7 @@ use Rattle.model.specs.Refusals.{when, _orElse_, accepted, logTooShort}
 use Rattle.model.specs.Limits.{mostSites, mostMessages}
 use Rattle.model.specs.Site.{arrivalRefusal}
 use Rattle.model.specs.Network.{Network, afterArrival}
-use Rattle.model.specs.NetworkMemory.{allArrivals}
+use Rattle.model.specs.NetworkMemory.{allArrivals, networkRefusal}
 use Rattle.model.specs.Runs.{Batch, batchRefusal}
 use Rattle.model.specs.SoundNetwork.{Sound}
 use Rattle.model.specs.DeliveryClaims.{delivery}
@@ -44,6 +45,20 @@ opened refusal sites coordinator = record {
   sites = sites;
   coordinator = coordinator;
 }
+
+-- What the start answers; the memory is only read.
+pub record OpenSays
+    (settings : Settings)
+    (sites : Sites)
+    (coordinator : CoordinatorRecord)
+    (siteBefore coordinatorBefore : List ℕ)
+    (answer : BatchAnswer)
+    (siteAfter coordinatorAfter : List ℕ) : Type 0 where
+  pub answered : answer
+      ≡ opened (networkRefusal settings sites coordinator siteBefore coordinatorBefore) sites
+      coordinator
+  pub site-memory-kept : siteAfter ≡ siteBefore
+  pub coordinator-memory-kept : coordinatorAfter ≡ coordinatorBefore
 
 -- ---- One arrival
 

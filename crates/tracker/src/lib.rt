@@ -1,21 +1,25 @@
-// The batch call: document 01's call over many draws. Refusals 1 to 4 and 11 are tested once, when the
-// call starts; then each arrival is tested and delivered, until one is refused.
+// The batch call: document 01's call over many draws. Refusals 1 to 4 and 11 are tested once, when
+// the call starts; then each arrival is tested and delivered, until one is refused. The functions
+// that require something are internal: what they require is decided by `open_batch` and holds after
+// each accepted arrival.
 
 ghost use mathlib.Core.Path.{_≡_};
 ghost use mathlib.Core.List.{[], _∷_};
-ghost use Rattle.model.specs.NetworkMemory.{networkRefusal};
 ghost use Rattle.tracker.specs.Batch.{BatchSays};
-ghost use Rattle.tracker.specs.Steps.{opened, placesRefusal, PlacesAsk, OneAsks, OneSays, lentOf};
+ghost use Rattle.tracker.specs.Steps.{OpenSays, placesRefusal, PlacesAsk, lentOf};
+ghost use Rattle.tracker.specs.Turns.{refusedTurn, counted, TurnAsks, TurnSays, CountAsks, DeliverAsks, DeliverSays};
 use counters::Word;
+use delivery::Queue;
 use model::ACCEPTED;
 use model::Arrival;
 use model::CoordinatorRecord;
 use model::LOG_TOO_SHORT;
 use model::Settings;
+use model::SiteRecord;
 use model::Sites;
 
-// What the batch call answers: the refusal that stopped it or 0, the arrivals accepted, the messages
-// written to the log, and both records as they are then.
+// What the batch call answers: the refusal that stopped it or 0, the arrivals accepted, the
+// messages written to the log, and both records as they are then.
 pub struct BatchAnswer {
     pub refusal: u32,
     pub accepted: u64,
@@ -24,8 +28,17 @@ pub struct BatchAnswer {
     pub coordinator: CoordinatorRecord,
 }
 
-// The answer before the first arrival: why the call is refused when it starts, if it is. The memory is
-// only read.
+// The turn of an arrival: why it is refused, or the number and the record of the site that took it,
+// and the messages that are to go out. A refused one leaves the rest all zeros.
+pub struct Turn {
+    pub refusal: u32,
+    pub which: usize,
+    pub site: SiteRecord,
+    pub out: Queue,
+}
+
+// The answer before the first arrival: why the call is refused when it starts, if it is. The memory
+// is only read.
 fn open_batch(
     settings: Settings,
     sites: Sites,
@@ -33,7 +46,9 @@ fn open_batch(
     site_memory: &mut [Word],
     coordinator_memory: &mut [u64],
 ) -> BatchAnswer
-    ensures { λ r. ⌜ (r ≡ opened (networkRefusal settings sites coordinator (now («site_memory» .entry)) (now («coordinator_memory» .entry))) sites coordinator) × (now («site_memory» .exit) ≡ now («site_memory» .entry)) × (now («coordinator_memory» .exit) ≡ now («coordinator_memory» .entry)) ⌝ }
+    ensures { λ r. ⌜ OpenSays settings sites coordinator
+        (now («site_memory» .entry)) (now («coordinator_memory» .entry)) r
+        (now («site_memory» .exit)) (now («coordinator_memory» .exit)) ⌝ }
 {
     let refusal = network_tests::network_refusal(
         settings,
@@ -79,31 +94,104 @@ fn one_refusal(
     ACCEPTED
 }
 
-// One arrival of a batch: refused, or taken with full delivery.
-fn batch_one(
+// The turn of an arrival that is refused with this number.
+fn refused_turn(number: u32) -> Turn
+    ensures { λ r. ⌜ r ≡ refusedTurn number ⌝ }
+{
+    let none = SiteRecord {
+        arrivals: 0,
+        pending: 0,
+        threshold: 0,
+        used: 0,
+    };
+    let out = delivery::empty_queue();
+    Turn {
+        refusal: number,
+        which: 0,
+        site: none,
+        out: out,
+    }
+}
+
+// An arrival is refused, or its site takes it. The answer is only read here, and what changes is
+// handed back: the records of 32 sites are not copied for an arrival. `numbers` is the log's length.
+fn take_turn(
     settings: Settings,
     answer: BatchAnswer,
     arrival: Arrival,
+    numbers: usize,
+    site_memory: &mut [Word],
+) -> Turn
+    requires { ⌜ TurnAsks settings answer numbers (now «site_memory») ⌝ }
+    ensures { λ r. ⌜ TurnSays settings arrival answer numbers
+        (now («site_memory» .entry)) r (now («site_memory» .exit)) ⌝ }
+{
+    let sites = answer.sites;
+    let refusal = one_refusal(settings, sites, arrival, numbers, answer.written);
+    if refusal != ACCEPTED {
+        return refused_turn(refusal);
+    }
+    let which = arrival.site as usize;
+    let own = delivery::record_of(sites, which);
+    let observed = delivery::observe(settings, own, arrival, site_memory);
+    let site = observed.site;
+    let first = observed.first;
+    let second = observed.second;
+    let out = Queue {
+        count: observed.count,
+        first: first,
+        second: second,
+    };
+    Turn {
+        refusal: ACCEPTED,
+        which: which,
+        site: site,
+        out: out,
+    }
+}
+
+// The answer with a turn in it: the refusal, or one arrival more and the record of its site.
+fn count_turn(answer: BatchAnswer, turn: Turn) -> BatchAnswer
+    requires { ⌜ CountAsks answer turn ⌝ }
+    ensures { λ r. ⌜ r ≡ counted answer turn ⌝ }
+{
+    let mut next = answer;
+    next.refusal = turn.refusal;
+    if turn.refusal != ACCEPTED {
+        return next;
+    }
+    let sites = answer.sites;
+    let site = turn.site;
+    next.accepted = answer.accepted + 1;
+    next.sites = delivery::with_record(sites, turn.which, site);
+    next
+}
+
+// The messages of a turn, with full delivery.
+fn deliver_turn(
+    settings: Settings,
+    answer: BatchAnswer,
+    turn: Turn,
     site_memory: &mut [Word],
     coordinator_memory: &mut [u64],
     log: &mut [u64],
 ) -> BatchAnswer
-    requires { ⌜ OneAsks settings answer (lentOf (now «site_memory») (now «coordinator_memory») (now log)) ⌝ }
-    ensures { λ r. ⌜ OneSays settings arrival answer (lentOf (now («site_memory» .entry)) (now («coordinator_memory» .entry)) (now (log .entry))) r (lentOf (now («site_memory» .exit)) (now («coordinator_memory» .exit)) (now (log .exit))) ⌝ }
+    requires { ⌜ DeliverAsks settings turn answer
+        (lentOf (now «site_memory») (now «coordinator_memory») (now log)) ⌝ }
+    ensures { λ r. ⌜ DeliverSays settings turn answer
+        (lentOf (now («site_memory» .entry)) (now («coordinator_memory» .entry)) (now (log .entry)))
+        r
+        (lentOf (now («site_memory» .exit)) (now («coordinator_memory» .exit)) (now (log .exit)))
+        ⌝ }
 {
     let sites = answer.sites;
     let coordinator = answer.coordinator;
-    let refusal = one_refusal(settings, sites, arrival, log.len(), answer.written);
-    if refusal != ACCEPTED {
-        let mut stopped = answer;
-        stopped.refusal = refusal;
-        return stopped;
-    }
+    let out = turn.out;
     let underway = delivery::at_rest(sites, coordinator, answer.written);
-    let after = delivery::take_arrival(
+    let after = delivery::deliver_messages(
         settings,
         underway,
-        arrival,
+        out,
         site_memory,
         coordinator_memory,
         log,
@@ -112,7 +200,7 @@ fn batch_one(
     let coordinator_then = after.coordinator;
     BatchAnswer {
         refusal: ACCEPTED,
-        accepted: answer.accepted + 1,
+        accepted: answer.accepted,
         written: after.written,
         sites: sites_then,
         coordinator: coordinator_then,
@@ -129,7 +217,17 @@ pub fn run_one(
     coordinator_memory: &mut [u64],
     log: &mut [u64],
 ) -> BatchAnswer
-    ensures { λ r. ⌜ BatchSays (record { settings = settings; sites = sites; coordinator = coordinator; arrivals = arrival ∷ []; siteMemory = now («site_memory» .entry); coordinatorMemory = now («coordinator_memory» .entry); log = now (log .entry) }) (lentOf (now («site_memory» .exit)) (now («coordinator_memory» .exit)) (now (log .exit))) r ⌝ }
+    ensures { λ r. ⌜ BatchSays (record {
+      settings = settings;
+      sites = sites;
+      coordinator = coordinator;
+      arrivals = arrival ∷ [];
+      siteMemory = now («site_memory» .entry);
+      coordinatorMemory = now («coordinator_memory» .entry);
+      log = now (log .entry);
+    })
+        (lentOf (now («site_memory» .exit)) (now («coordinator_memory» .exit)) (now (log .exit)))
+        r ⌝ }
 {
     let answer = open_batch(
         settings,
@@ -141,14 +239,12 @@ pub fn run_one(
     if answer.refusal != ACCEPTED {
         return answer;
     }
-    batch_one(
-        settings,
-        answer,
-        arrival,
-        site_memory,
-        coordinator_memory,
-        log,
-    )
+    let turn = take_turn(settings, answer, arrival, log.len(), site_memory);
+    let next = count_turn(answer, turn);
+    if turn.out.count == 0 {
+        return next;
+    }
+    deliver_turn(settings, next, turn, site_memory, coordinator_memory, log)
 }
 
 // The batch call: a lent run of arrivals, walked one by one until one is refused.
@@ -161,7 +257,17 @@ pub fn run_batch(
     coordinator_memory: &mut [u64],
     log: &mut [u64],
 ) -> BatchAnswer
-    ensures { λ r. ⌜ BatchSays (record { settings = settings; sites = sites; coordinator = coordinator; arrivals = now (arrivals .entry); siteMemory = now («site_memory» .entry); coordinatorMemory = now («coordinator_memory» .entry); log = now (log .entry) }) (lentOf (now («site_memory» .exit)) (now («coordinator_memory» .exit)) (now (log .exit))) r ⌝ }
+    ensures { λ r. ⌜ BatchSays (record {
+      settings = settings;
+      sites = sites;
+      coordinator = coordinator;
+      arrivals = now (arrivals .entry);
+      siteMemory = now («site_memory» .entry);
+      coordinatorMemory = now («coordinator_memory» .entry);
+      log = now (log .entry);
+    })
+        (lentOf (now («site_memory» .exit)) (now («coordinator_memory» .exit)) (now (log .exit)))
+        r ⌝ }
 {
     let mut answer = open_batch(
         settings,
@@ -172,14 +278,11 @@ pub fn run_batch(
     );
     let mut i: usize = 0;
     while i < arrivals.len() && answer.refusal == 0 {
-        answer = batch_one(
-            settings,
-            answer,
-            arrivals[i],
-            site_memory,
-            coordinator_memory,
-            log,
-        );
+        let turn = take_turn(settings, answer, arrivals[i], log.len(), site_memory);
+        answer = count_turn(answer, turn);
+        if turn.out.count != 0 {
+            answer = deliver_turn(settings, answer, turn, site_memory, coordinator_memory, log);
+        }
         i += 1;
     }
     answer

@@ -3,6 +3,10 @@
 //! numbers may be more; the rest is not looked at. A call answers document 01's refusal, or
 //! [`UNFIT`] where what it is lent does not fit the boundary.
 
+mod batch;
+
+pub use batch::{run_batch, Arrival, Batch};
+
 /// The answer where lent numbers are too few, or don't fit the record's types.
 pub const UNFIT: u32 = 255;
 

@@ -2,8 +2,7 @@
 use mathlib.Core.Path.{ap, sym, _∙_}
 use mathlib.Core.Bool.{Bool}
 use borrow.Author.Needs.{needs}
-use Rattle.coordinator_tests.proofs.Chains.{refused-first, accepted-first}
-use Rattle.model.specs.CoordinatorMemory.{coordinatorMemoryRefusal}
+use Rattle.coordinator_tests.proofs.Chains.{first-refuses, first-accepts}
 use Rattle.model.specs.Refusals.{when, messageNotDue}
 use Rattle.coordinator.proofs.announce_refusal.Statement.{statement}
 use Rattle.coordinator.proofs.announce_refusal.Tie as tie
@@ -12,14 +11,7 @@ coordinator-memory-refusal-requires : tie.Need-coordinator-memory-refusal-requir
 coordinator-memory-refusal-requires c κs = search needs
 
 returns : tie.Need-returns
-returns c =
-    let start = c .before .before .before .args in
-    let result-is = c .before .coordinator-memory-refusal .ensures in
-    result-is
-    ∙ sym
-    (refused-first (coordinatorMemoryRefusal (start .settings) (start .coordinator)
-    (start .memory .now)) _
-    (λ none. c .if1 .taken (result-is ∙ none)))
+returns c = first-refuses _ (c .before .coordinator-memory-refusal .ensures) (c .if1 .taken)
 
 not-announcing-requires : tie.Need-not-announcing-requires
 not-announcing-requires c κs = search needs
@@ -27,24 +19,16 @@ not-announcing-requires c κs = search needs
 returns-2 : tie.Need-returns-2
 returns-2 c =
     let tests = c .before .before in
-    let start = tests .before .before .before .args in
-    sym
-    (accepted-first (coordinatorMemoryRefusal (start .settings) (start .coordinator)
-    (start .memory .now)) _
-    (sym (tests .before .coordinator-memory-refusal .ensures) ∙ tests .if1 .left)
-    ∙ ap (λ (other : Bool). when other messageNotDue)
-    (sym (c .before .not-announcing .ensures) ∙ c .if2 .taken))
+    ap (λ (other : Bool). when other messageNotDue)
+    (sym (c .if2 .taken) ∙ c .before .not-announcing .ensures)
+    ∙ first-accepts _ (tests .before .coordinator-memory-refusal .ensures) (tests .if1 .left)
 
 returns-3 : tie.Need-returns-3
 returns-3 c =
     let tests = c .before .before in
-    let start = tests .before .before .before .args in
-    sym
-    (accepted-first (coordinatorMemoryRefusal (start .settings) (start .coordinator)
-    (start .memory .now)) _
-    (sym (tests .before .coordinator-memory-refusal .ensures) ∙ tests .if1 .left)
-    ∙ ap (λ (other : Bool). when other messageNotDue)
-    (sym (c .before .not-announcing .ensures) ∙ c .if2 .left))
+    ap (λ (other : Bool). when other messageNotDue)
+    (sym (c .if2 .left) ∙ c .before .not-announcing .ensures)
+    ∙ first-accepts _ (tests .before .coordinator-memory-refusal .ensures) (tests .if1 .left)
 
 pub announce-refusal-spec : {M : Type 1} → statement M
 announce-refusal-spec =

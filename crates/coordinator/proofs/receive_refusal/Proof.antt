@@ -1,8 +1,7 @@
 -- Each return is the part of `receiveRefusal` that decides.
-use mathlib.Core.Path.{sym, _∙_}
+use mathlib.Core.Path.{_∙_}
 use borrow.Author.Needs.{needs}
-use Rattle.coordinator_tests.proofs.Chains.{refused-first, accepted-first}
-use Rattle.model.specs.CoordinatorMemory.{coordinatorMemoryRefusal}
+use Rattle.coordinator_tests.proofs.Chains.{first-refuses, first-accepts}
 use Rattle.coordinator.proofs.receive_refusal.Statement.{statement}
 use Rattle.coordinator.proofs.receive_refusal.Tie as tie
 
@@ -10,14 +9,7 @@ coordinator-memory-refusal-requires : tie.Need-coordinator-memory-refusal-requir
 coordinator-memory-refusal-requires c κs = search needs
 
 returns : tie.Need-returns
-returns c =
-    let start = c .before .before .before .args in
-    let result-is = c .before .coordinator-memory-refusal .ensures in
-    result-is
-    ∙ sym
-    (refused-first (coordinatorMemoryRefusal (start .settings) (start .coordinator)
-    (start .memory .now)) _
-    (λ none. c .if1 .taken (result-is ∙ none)))
+returns c = first-refuses _ (c .before .coordinator-memory-refusal .ensures) (c .if1 .taken)
 
 message-refusal-requires : tie.Need-message-refusal-requires
 message-refusal-requires c κs = search needs
@@ -25,12 +17,8 @@ message-refusal-requires c κs = search needs
 returns-2 : tie.Need-returns-2
 returns-2 c =
     let tests = c .before .before in
-    let start = tests .before .before .args in
-    c .message-refusal .ensures (start .memory .now)
-    ∙ sym
-    (accepted-first (coordinatorMemoryRefusal (start .settings) (start .coordinator)
-    (start .memory .now)) _
-    (sym (tests .coordinator-memory-refusal .ensures) ∙ c .before .if1 .left))
+    c .message-refusal .ensures (tests .before .before .args .memory .now)
+    ∙ first-accepts _ (tests .coordinator-memory-refusal .ensures) (c .before .if1 .left)
 
 pub receive-refusal-spec : {M : Type 1} → statement M
 receive-refusal-spec =

@@ -4,7 +4,7 @@ use native.Mathlib.Omega.{arith}
 use borrow.Author.Tests.{lt-ltb, le-ltb}
 use borrow.Author.Needs.{needs}
 use Rattle.coordinator_steps.proofs.StepLaws.{settings-fit}
-use Rattle.coordinator_steps.specs.Ready.{PhaseShape}
+use Rattle.model.specs.SoundNetwork.{SoundPhase}
 use Rattle.model.specs.declared.Phase.the-variants.{Announcing}
 use Rattle.coordinator_steps.proofs.announce_step.Statement.{statement}
 use Rattle.coordinator_steps.proofs.announce_step.Tie as tie
@@ -38,11 +38,11 @@ add-if1 c =
     let start = c .before .before .before .before in
     let settings = start .args .settings in
     let site = c .before .before .phase .given .0 .0 in
-    let shape : PhaseShape settings (start .args .coordinator .signals) (Announcing site) =
-    rw (c .before .before .phase .given .1) at (start .pre .phase-shape) in
+    let phase : SoundPhase settings (start .args .coordinator .signals) (Announcing site) =
+    rw (c .before .before .phase .given .1) at (start .pre .phase-sound) in
     omega (
       arith,
-      shape .site-known,
+      phase .site-known,
       settings-fit settings (start .pre .settings-accepted)
           .sites-few,
     )

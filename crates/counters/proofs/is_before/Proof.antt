@@ -5,7 +5,10 @@ use Rattle.counters.proofs.is_before.Statement.{statement}
 use Rattle.counters.proofs.is_before.Tie as tie
 
 returns : tie.Need-returns
-returns c = simp (lt-ltb _ _ (c .if1 .taken))
+returns c =
+    let count = c .before .args .count in
+    let least = c .before .args .least-count in
+    simp (lt-ltb count least (c .if1 .taken))
 
 returns-2 : tie.Need-returns-2
 returns-2 c =

@@ -3,11 +3,11 @@ use borrow.Author.Needs.{needs}
 use Rattle.delivery.proofs.at_rest.Statement.{statement}
 use Rattle.delivery.proofs.at_rest.Tie as tie
 
-no-message-requires : tie.Need-no-message-requires
-no-message-requires c κs = search needs
+empty-queue-requires : tie.Need-empty-queue-requires
+empty-queue-requires c κs = search needs
 
 returns : tie.Need-returns
-returns c = rw (c .no-message .ensures)
+returns c = rw (c .empty-queue .ensures)
 
 pub at-rest-spec : {M : Type 1} → statement M
-at-rest-spec = tie.close (tie.spec no-message-requires returns)
+at-rest-spec = tie.close (tie.spec empty-queue-requires returns)

@@ -1,5 +1,5 @@
--- `delivery::deliver` meets its contract. The invariant: the state was reached by steps of the delivery
--- that the first state holds, whichever that is.
+-- `delivery::deliver` meets its contract. The invariant: the state was reached by steps of the
+-- delivery that the first state holds, whichever that is.
 use mathlib.Core.Path.{sym, _∙_}
 use native.Mathlib.Omega.{arith}
 use lib.ListN.{length}
@@ -8,6 +8,7 @@ use Rattle.delivery.specs.Holding.{state, Delivering}
 use Rattle.delivery.proofs.HoldingLaws.{coordinator-memory-length, log-length}
 use Rattle.delivery.proofs.GoingLaws.{going-stored, going-room}
 use Rattle.delivery.proofs.DeliverLaws.{leftToDo, After, left-less, after-start, delivering-after, after-step, after-end}
+use Rattle.delivery.proofs.HandSteps.{send-asks, silent-step, answered-step}
 use Rattle.delivery.proofs.deliver.Statement.{statement}
 use Rattle.delivery.proofs.deliver.Tie as tie
 
@@ -26,34 +27,92 @@ loop-holds c = λ u. after-start u
 goes-on-requires : tie.Need-goes-on-requires Inv-loop μ-loop
 goes-on-requires c κs = search needs
 
-take-step-requires : tie.Need-take-step-requires Inv-loop μ-loop
-take-step-requires c κs =
-    let start = c .before .before .before .before .before .before .before .before in
-    let u = start .pre in
+hand-over-requires : tie.Need-hand-over-requires Inv-loop μ-loop
+hand-over-requires c κs =
+    let u = c .before .before .before .before .before .before .before .pre in
     record {
-      delivering = delivering-after u (c .before .before .before .before .loop .inv u);
-      goes-on = (sym (c .before .before .before .goes-on .ensures) ∙ c .before .before .if1 .taken);
+      log = c .before .before .before .loop .log;
+      delivering = delivering-after u (c .before .before .before .loop .inv u);
+      goes-on = sym (c .before .before .goes-on .ensures)
+          ∙ c .before .if1 .taken;
     }
+
+settle-requires : tie.Need-settle-requires Inv-loop μ-loop
+settle-requires c κs = c .before .before .hand-over .ensures .place-known
+
+send-requires : tie.Need-send-requires Inv-loop μ-loop
+send-requires c κs =
+    let settled = c .before .before .before .before in
+    let handed = settled .before .before .before in
+    let looped = handed .before .before .before .before in
+    let u = looped .before .before .before .before .pre in
+    send-asks (handed .hand-over .ensures) _ (settled .settle .result) (settled .settle .ensures)
+    (delivering-after u (looped .loop .inv u)) (c .before .before .if2 .taken)
 
 loop-less : tie.Need-loop-less Inv-loop μ-loop
 loop-less c =
-    let start = c .before .before .before .before .before .before .before .before .before .before .before .before .before in
-    let u = start .pre in
-    let after = c .before .before .before .before .before .before .before .before .before .loop .inv u in
-    left-less (delivering-after u after) (sym (c .before .before .before .before .before .before .before .before .goes-on .ensures) ∙ c .before .before .before .before .before .before .before .if1 .taken)
-    (c .before .before .before .before .take-step .ensures .next (delivering-after u after))
+    let out = c .before .before in
+    let settled = out .before .before .before .before .before in
+    let handed = settled .before .before .before in
+    let looped = handed .before .before .before .before in
+    let goes = sym (handed .before .before .before .goes-on .ensures)
+    ∙ handed .before .before .if1 .taken in
+    let says =
+    answered-step (handed .hand-over .ensures) _ (settled .settle .result)
+    (settled .settle .ensures) (out .before .before .before .if2 .taken) (out .send .result) _ (out .send .ensures .0)
+    (out .send .ensures .1) in
+    let u = looped .before .before .before .before .pre in
+    let now = delivering-after u (looped .loop .inv u) in
+    left-less now goes (says .next now)
 
 loop-again : tie.Need-loop-again Inv-loop μ-loop
 loop-again c =
-    λ u. after-step u (c .before .before .before .before .before .before .before .before .before .loop .inv u) (sym (c .before .before .before .before .before .before .before .before .goes-on .ensures) ∙ c .before .before .before .before .before .before .before .if1 .taken) (c .before .before .before .before .take-step .ensures)
+    let out = c .before .before in
+    let settled = out .before .before .before .before .before in
+    let handed = settled .before .before .before in
+    let looped = handed .before .before .before .before in
+    let goes = sym (handed .before .before .before .goes-on .ensures)
+    ∙ handed .before .before .if1 .taken in
+    let says =
+    answered-step (handed .hand-over .ensures) _ (settled .settle .result)
+    (settled .settle .ensures) (out .before .before .before .if2 .taken) (out .send .result) _ (out .send .ensures .0)
+    (out .send .ensures .1) in
+    λ u. after-step u (looped .loop .inv u) goes says
+
+loop-less-2 : tie.Need-loop-less-2 Inv-loop μ-loop
+loop-less-2 c =
+    let settled = c .before .before in
+    let handed = settled .before .before .before in
+    let looped = handed .before .before .before .before in
+    let goes = sym (handed .before .before .before .goes-on .ensures)
+    ∙ handed .before .before .if1 .taken in
+    let says =
+    silent-step (handed .hand-over .ensures) _ (settled .settle .result) (settled .settle .ensures)
+    (c .if2 .left) in
+    let u = looped .before .before .before .before .pre in
+    let now = delivering-after u (looped .loop .inv u) in
+    left-less now goes (says .next now)
+
+loop-again-2 : tie.Need-loop-again-2 Inv-loop μ-loop
+loop-again-2 c =
+    let settled = c .before .before in
+    let handed = settled .before .before .before in
+    let looped = handed .before .before .before .before in
+    let goes = sym (handed .before .before .before .goes-on .ensures)
+    ∙ handed .before .before .if1 .taken in
+    let says =
+    silent-step (handed .hand-over .ensures) _ (settled .settle .result) (settled .settle .ensures)
+    (c .if2 .left) in
+    λ u. after-step u (looped .loop .inv u) goes says
 
 same-length : tie.Need-same-length Inv-loop μ-loop
 same-length c =
     let start = c .before .before .before .before .before .before in
     let u = start .pre in
     let after = c .before .before .loop .inv u in
-    coordinator-memory-length (u .going .accepting .fits) (going-stored (after .going)) (after .holds)
-    ∙ sym (coordinator-memory-length (u .going .accepting .fits) (going-stored (u .going)) (u .holds))
+    let fits = u .going .accepting .fits in
+    coordinator-memory-length fits (going-stored (after .going)) (after .holds)
+    ∙ sym (coordinator-memory-length fits (going-stored (u .going)) (u .holds))
 
 same-length-2 : tie.Need-same-length-2 Inv-loop μ-loop
 same-length-2 c =
@@ -65,7 +124,8 @@ same-length-2 c =
 
 returns : tie.Need-returns Inv-loop μ-loop
 returns c =
-    record { ends = λ u. after-end u (c .before .before .loop .inv u) (sym (c .before .goes-on .ensures) ∙ c .if1 .left) }
+    let ended = sym (c .before .goes-on .ensures) ∙ c .if1 .left in
+    record { ends = λ u. after-end u (c .before .before .loop .inv u) ended }
 
 pub deliver-spec : {M : Type 1} → statement M
 deliver-spec =
@@ -75,9 +135,13 @@ deliver-spec =
     μ-loop
     loop-holds
     goes-on-requires
-    take-step-requires
+    hand-over-requires
+    settle-requires
+    send-requires
     loop-less
     loop-again
+    loop-less-2
+    loop-again-2
     same-length
     same-length-2
     returns)

@@ -10,12 +10,15 @@ no-message-requires c κs = search needs
 returns : tie.Need-returns
 returns c =
     let queue = c .before .before .before .before .args .queue in
-    rw (c .before .before .before .no-message .ensures, eq-eqb (queue .count) 2 (c .before .if1 .taken))
+    rw (c .no-message .ensures, eq-eqb (queue .count) 2 (c .before .before .if1 .taken))
+
+empty-queue-requires : tie.Need-empty-queue-requires
+empty-queue-requires c κs = search needs
 
 returns-2 : tie.Need-returns-2
 returns-2 c =
     let queue = c .before .before .before .args .queue in
-    rw (c .before .before .no-message .ensures, ne-eqb (queue .count) 2 (c .if1 .left))
+    rw (c .empty-queue .ensures, ne-eqb (queue .count) 2 (c .before .if1 .left))
 
 pub take-head-spec : {M : Type 1} → statement M
-take-head-spec = tie.close (tie.spec no-message-requires returns returns-2)
+take-head-spec = tie.close (tie.spec no-message-requires returns empty-queue-requires returns-2)

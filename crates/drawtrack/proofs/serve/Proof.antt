@@ -1,31 +1,17 @@
--- The loop ends because its turns are counted; the lent slices keep their lengths.
-use mathlib.Core.Path.{_≡_}
-use mathlib.Core.List.{List}
-use Prim.Native.Nat.{ℕ, _-_}
-use lib.ListN.{length}
+-- The loop's calls are a course of the session; it ends because the course does.
+use Prim.Native.Nat.{_-_}
 use native.Mathlib.Omega.{arith}
-use borrow.Author.Tests.{ltb-true}
 use borrow.Author.Needs.{needs}
+use borrow.Author.Tests.{ltb-true, ltb-false}
+use Rattle.drawtrack.specs.Serving.{Serving}
+use Rattle.drawtrack.proofs.ServingLaws.{serving-begins, serving-on, serving-ended}
 use Rattle.drawtrack.proofs.serve.Statement.{statement}
 use Rattle.drawtrack.proofs.serve.Tie as tie
-use Rattle.drawtrack.proofs.serve.Reads as reads
-use Rattle.drawtrack.proofs.serve.Lts as lts
-use Rattle.drawtrack.proofs.write_out.Reads as write-out-reads
-use Rattle.session.proofs.advance.Reads as advance-reads
-use Rattle.session.proofs.begin.Reads as begin-reads
-
--- Each slice is as long as it was lent.
-record Same (siteMemory₀ coordinatorMemory₀ log₀ list₀ out₀ : List ℕ)
-    (siteMemory coordinatorMemory log list out : List ℕ) : Type 0 where
-  site-memory : length siteMemory ≡ length siteMemory₀
-  coordinator-memory : length coordinatorMemory ≡ length coordinatorMemory₀
-  log-same : length log ≡ length log₀
-  list-same : length list ≡ length list₀
-  out-same : length out ≡ length out₀
 
 abbrev Inv-loop : tie.InvT-loop
 Inv-loop input site-memory₀ coordinator-memory₀ log₀ list₀ out₀ session₀ turns₀ site-memory coordinator-memory log list out session turns =
-    Same site-memory₀ coordinator-memory₀ log₀ list₀ out₀ site-memory coordinator-memory log list out
+    Serving input site-memory₀ coordinator-memory₀ log₀ list₀ out₀ site-memory coordinator-memory
+    log list out session turns
 
 abbrev μ-loop : tie.MeasureT-loop
 μ-loop input site-memory₀ coordinator-memory₀ log₀ list₀ out₀ session₀ turns₀ site-memory coordinator-memory log list out session turns =
@@ -38,7 +24,13 @@ write-out-requires : tie.Need-write-out-requires Inv-loop μ-loop
 write-out-requires c κs = search needs
 
 loop-holds : tie.Need-loop-holds Inv-loop μ-loop
-loop-holds c = search needs
+loop-holds c =
+    let begun = c .before .before .before .before .before .before .before .before .before in
+    let given = begun .before .before .before .before .before in
+    let start = given .before .before .before .before .before in
+    serving-begins (start .args .input .now) (start .args .site-memory .now)
+    (start .args .coordinator-memory .now) (start .args .log .now) (start .args .list .now)
+    (start .args .out .now) _ _ _ (begun .begin .result) (start .pre) (begun .begin .ensures)
 
 advance-requires : tie.Need-advance-requires Inv-loop μ-loop
 advance-requires c κs = search needs
@@ -48,18 +40,30 @@ write-out-requires-2 c κs = search needs
 
 add-turns : tie.Need-add-turns Inv-loop μ-loop
 add-turns c =
-    let few = ltb-true (c .before .before .before .before .before .before .before .before .before .before .before .before .before .before .before .before .before .before .before .before .before .loop .turns) 8241
-    (c .before .before .before .before .before .before .before .before .before .before .before .before .before .before .before .before .before .before .before .if1 .taken) in
+    let advanced = c .before .before .before .before .before .before .before .before .before
+    .before .before .before .before in
+    let tested = advanced .before .before .before .before .before .before in
+    let loop = tested .before .before .loop in
+    let few = ltb-true (loop .turns) _ (tested .if1 .taken) in
     record { fits = omega (arith, few) }
 
 loop-less : tie.Need-loop-less Inv-loop μ-loop
 loop-less c =
-    let few = ltb-true (c .before .before .before .before .before .before .before .before .before .before .before .before .before .before .before .before .before .before .before .before .before .loop .turns) 8241
-    (c .before .before .before .before .before .before .before .before .before .before .before .before .before .before .before .before .before .before .before .if1 .taken) in
+    let advanced = c .before .before .before .before .before .before .before .before .before
+    .before .before .before .before in
+    let tested = advanced .before .before .before .before .before .before in
+    let loop = tested .before .before .loop in
+    let few = ltb-true (loop .turns) _ (tested .if1 .taken) in
     omega (arith, few)
 
 loop-again : tie.Need-loop-again Inv-loop μ-loop
-loop-again c = search needs
+loop-again c =
+    let advanced = c .before .before .before .before .before .before .before .before .before
+    .before .before .before .before in
+    let inside = advanced .before .before .before .before .before .before .before in
+    let loop = inside .before .loop in
+    serving-on _ _ _ _ _ _ _ _ _ _ _ _ (loop .turns) (loop .inv) _ _ _ _ _
+    (advanced .advance .result) (inside .loop-test .taken) (advanced .advance .ensures)
 
 same-length : tie.Need-same-length Inv-loop μ-loop
 same-length c = search needs
@@ -77,7 +81,10 @@ same-length-5 : tie.Need-same-length-5 Inv-loop μ-loop
 same-length-5 c = search needs
 
 returns : tie.Need-returns Inv-loop μ-loop
-returns c = search needs
+returns c =
+    let loop = c .before .before .loop in
+    serving-ended _ _ _ _ _ _ _ _ _ _ _ _ (loop .turns) (loop .inv)
+    (ltb-false (loop .turns) _ (c .if1 .left))
 
 same-length-6 : tie.Need-same-length-6 Inv-loop μ-loop
 same-length-6 c = search needs
@@ -95,7 +102,7 @@ same-length-10 : tie.Need-same-length-10 Inv-loop μ-loop
 same-length-10 c = search needs
 
 returns-2 : tie.Need-returns-2 Inv-loop μ-loop
-returns-2 c = search needs
+returns-2 c = c .loop-test .left
 
 pub serve-spec : {M : Type 1} → statement M
 serve-spec =

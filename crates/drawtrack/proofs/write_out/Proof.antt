@@ -3,9 +3,6 @@ use lib.Seq.{length-take-le}
 use borrow.Author.Needs.{needs}
 use Rattle.drawtrack.proofs.write_out.Statement.{statement}
 use Rattle.drawtrack.proofs.write_out.Tie as tie
-use Rattle.drawtrack.proofs.write_out.Reads as reads
-use Rattle.drawtrack.proofs.write_out.Lts as lts
-use Rattle.io.proofs.write_all.Reads as write-all-reads
 
 -- src/main.rt:14:38
 slice-aggregate-write-all : tie.Need-slice-aggregate-write-all

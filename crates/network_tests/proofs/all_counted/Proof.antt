@@ -1,21 +1,29 @@
-use Rattle.model.proofs.SettingsLaws.{settled}
-use native.Mathlib.Nat.{mul-le-mul-right}
--- `network_tests::all_counted` meets its contract. The invariant: pendings and arrivals of the sites before j
--- are added.
+-- `network_tests::all_counted` meets its contract. The invariant: pendings and arrivals of the
+-- sites before j are added.
+use mathlib.Core.Path.{_≡_}
 use Prim.Native.Nat.{ℕ, _+_, _-_, _*_, _≤_}
-use mathlib.Core.Path.{_≡_, refl, sym, ap, _∙_}
 use mathlib.Core.List.{List}
 use native.Mathlib.Omega.{arith}
 use Rattle.model.specs.declared.Settings.{Settings}
+use Rattle.model.specs.declared.SiteRecord.{SiteRecord}
 use Rattle.model.specs.Limits.{siteLimit}
+use Rattle.model.proofs.SettingsLaws.{settled}
 use Rattle.network_tests.proofs.SitesLaws.{Counted, counted-start, counted-on, counted-end}
 use borrow.Author.Needs.{needs}
 use Rattle.network_tests.proofs.all_counted.Statement.{statement}
 use Rattle.network_tests.proofs.all_counted.Tie as tie
 
+-- What was added so far is within the limits, and with what is still to come it is all.
+record Adding (records : List SiteRecord) (total count counted arrived j : ℕ) : Type 0 where
+  within : j ≤ count
+  counted-within : counted ≤ total + j * siteLimit
+  arrived-within : arrived ≤ j * siteLimit
+  sums : (settings : Settings) (memory : List ℕ)
+      → Counted count settings records memory total counted arrived j
+
 abbrev Inv-loop : tie.InvT-loop
 Inv-loop total sites count counted₀ arrived₀ j₀ counted arrived j =
-    (j ≤ count) × (counted ≤ total + j * siteLimit) × (arrived ≤ j * siteLimit) × ((settings : Settings) (memory : List ℕ) → Counted count settings (sites .records) memory total counted arrived j)
+    Adding (sites .records) total count counted arrived j
 
 abbrev μ-loop : tie.MeasureT-loop
 μ-loop total sites count counted₀ arrived₀ j₀ counted arrived j = count - j
@@ -25,8 +33,14 @@ cast-count c = search needs
 
 loop-holds : tie.Need-loop-holds Inv-loop μ-loop
 loop-holds c =
-    let start = c .before in
-    (omega arith, omega arith, omega arith, λ settings memory. counted-start (start .args .settings .sites) settings (start .args .t2 .records) memory (start .args .total))
+    let a = c .before .args in
+    record {
+      within = omega arith;
+      counted-within = omega arith;
+      arrived-within = omega arith;
+      sums = λ settings memory.
+          counted-start (a .settings .sites) settings (a .t2 .records) memory (a .total);
+    }
 
 mul-numbers : tie.Need-mul-numbers Inv-loop μ-loop
 mul-numbers c = search needs
@@ -34,25 +48,39 @@ mul-numbers c = search needs
 element-copy-out-numbers : tie.Need-element-copy-out-numbers Inv-loop μ-loop
 element-copy-out-numbers c =
     let start = c .before .before .before in
-    let at-loop = c .before .loop in
-    let inside = c .loop-test .taken in
-    omega (arith, inside, settled (start .args .settings) (start .pre .records-fit .settings-accepted) .sites .at-most)
+    let fit = settled (start .args .settings) (start .pre .records-fit .settings-accepted) in
+    omega (arith, c .loop-test .taken, fit .sites .at-most)
 
 add-counted : tie.Need-add-counted Inv-loop μ-loop
 add-counted c =
-    let start = c .before .before .before .before .before in
-    let at-loop = c .before .before .before .loop in
-    let inside = c .before .before .loop-test .taken in
-    let few = settled (start .args .settings) (start .pre .records-fit .settings-accepted) .sites .at-most in
-    omega (arith, start .pre .records-fit .pending-within (at-loop .j) inside, at-loop .inv .1, start .pre .total-within, inside, few)
+    let tested = c .before .before in
+    let at-loop = tested .before .loop in
+    let start = tested .before .before .before in
+    let fit = settled (start .args .settings) (start .pre .records-fit .settings-accepted) in
+    let inside = tested .loop-test .taken in
+    omega (
+      arith,
+      start .pre .records-fit .pending-within (at-loop .j) inside,
+      at-loop .inv .counted-within,
+      start .pre .total-within,
+      inside,
+      fit .sites .at-most,
+    )
 
 add-arrived : tie.Need-add-arrived Inv-loop μ-loop
 add-arrived c =
-    let start = c .before .before .before .before .before .before in
-    let at-loop = c .before .before .before .before .loop in
-    let inside = c .before .before .before .loop-test .taken in
-    let few = settled (start .args .settings) (start .pre .records-fit .settings-accepted) .sites .at-most in
-    omega (arith, start .pre .records-fit .arrivals-within (at-loop .j) inside, at-loop .inv .2, inside, few)
+    let tested = c .before .before .before in
+    let at-loop = tested .before .loop in
+    let start = tested .before .before .before in
+    let fit = settled (start .args .settings) (start .pre .records-fit .settings-accepted) in
+    let inside = tested .loop-test .taken in
+    omega (
+      arith,
+      start .pre .records-fit .arrivals-within (at-loop .j) inside,
+      at-loop .inv .arrived-within,
+      inside,
+      fit .sites .at-most,
+    )
 
 add-j : tie.Need-add-j Inv-loop μ-loop
 add-j c = search needs
@@ -62,25 +90,36 @@ loop-less c = search needs
 
 loop-again : tie.Need-loop-again Inv-loop μ-loop
 loop-again c =
-    let start = c .before .before .before .before .before .before in
-    let at-loop = c .before .before .before .before .loop in
-    let inside = c .before .before .before .loop-test .taken in (
-      omega (arith, inside),
-      omega (arith, at-loop .inv .1, start .pre .records-fit .pending-within (at-loop .j) inside),
-      omega (arith, at-loop .inv .2, start .pre .records-fit .arrivals-within (at-loop .j) inside),
-      λ settings memory.
-          counted-on (start .args .settings .sites) settings (start .args .t2 .records) memory (start .args .total) (at-loop .counted) (at-loop .arrived) (at-loop .j)
-          (at-loop .inv .3 settings memory) inside
-          (omega (arith, inside, start .pre .records-fit .all-records)),
-    )
+    let tested = c .before .before .before in
+    let at-loop = tested .before .loop in
+    let start = tested .before .before .before in
+    let a = start .args in
+    let inside = tested .loop-test .taken in
+    let fits = start .pre .records-fit in
+    record {
+      within = omega (arith, inside);
+      counted-within =
+          omega (arith, at-loop .inv .counted-within, fits .pending-within (at-loop .j) inside);
+      arrived-within =
+          omega (arith, at-loop .inv .arrived-within, fits .arrivals-within (at-loop .j) inside);
+      sums = λ settings memory.
+          counted-on (a .settings .sites) settings (a .t2 .records) memory (a .total)
+          (at-loop .counted) (at-loop .arrived) (at-loop .j) (at-loop .inv .sums settings memory)
+          inside (omega (arith, inside, fits .all-records));
+    }
 
 returns : tie.Need-returns Inv-loop μ-loop
 returns c =
-    let start = c .before .before .before in
     let at-loop = c .before .loop in
-    λ memory.
-    counted-end (start .args .settings .sites) (start .args .settings) (start .args .t2 .records) memory (start .args .total) (at-loop .counted) (at-loop .arrived) (at-loop .j)
-    (at-loop .inv .3 (start .args .settings) memory) (omega (arith, c .loop-test .left, at-loop .inv .0))
+    let a = c .before .before .before .args in
+    let last : at-loop .j ≡ a .settings .sites =
+    omega (arith, c .loop-test .left, at-loop .inv .within) in
+    record {
+      counted = λ memory.
+          counted-end (a .settings .sites) (a .settings) (a .t2 .records) memory (a .total)
+          (at-loop .counted) (at-loop .arrived) (at-loop .j)
+          (at-loop .inv .sums (a .settings) memory) last;
+    }
 
 pub all-counted-spec : {M : Type 1} → statement M
 all-counted-spec =

@@ -15,9 +15,13 @@ all-counted-requires c κs = search needs
 
 returns : tie.Need-returns
 returns c =
-    λ sites coordinator.
-    rw (c .before .before .before .enum-told .given .1, sym (c .before .before .same-thresholds .ensures sites) ∙ c .before .if1 .taken)
-    (c .all-counted .ensures sites)
+    let walked = c .before .before in
+    let idle = walked .before .enum-told .given .1 in
+    record {
+      at-rest = λ sites coordinator.
+          rw (idle, sym (walked .same-thresholds .ensures .same sites) ∙ c .before .if1 .taken)
+          (c .all-counted .ensures .counted sites);
+    }
 
 enum-told-2 : tie.Need-enum-told-2
 enum-told-2 c = search needs
@@ -30,17 +34,21 @@ enum-told-4 c = search needs
 
 returns-2 : tie.Need-returns-2
 returns-2 c =
-    λ sites coordinator.
-    rw (c .before .before .enum-told .given .1, sym (c .before .same-thresholds .ensures sites) ∙ c .if1 .left)
+    let walked = c .before in
+    let idle = walked .before .enum-told .given .1 in
+    record {
+      at-rest = λ sites coordinator.
+          rw (idle, sym (walked .same-thresholds .ensures .same sites) ∙ c .if1 .left);
+    }
 
 returns-3 : tie.Need-returns-3
-returns-3 c = λ sites coordinator. rw (c .enum-told2 .given .1)
+returns-3 c = record { at-rest = λ sites coordinator. rw (c .enum-told2 .given .1) }
 
 returns-4 : tie.Need-returns-4
-returns-4 c = λ sites coordinator. rw (c .enum-told3 .given .1)
+returns-4 c = record { at-rest = λ sites coordinator. rw (c .enum-told3 .given .1) }
 
 returns-5 : tie.Need-returns-5
-returns-5 c = λ sites coordinator. rw (c .enum-told4 .given .1)
+returns-5 c = record { at-rest = λ sites coordinator. rw (c .enum-told4 .given .1) }
 
 pub at-rest-spec : {M : Type 1} → statement M
 at-rest-spec =

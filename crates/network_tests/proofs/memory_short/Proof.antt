@@ -1,13 +1,9 @@
 -- `network_tests::memory_short` meets its contract: the sites' memory, then the coordinator's.
-use mathlib.Core.Path.{_≡_, sym, ap, _∙_}
+use mathlib.Core.Path.{sym, ap, _∙_}
 use Prim.Native.Nat.{ℕ, _+_, _*_}
-use native.Mathlib.Nat.{mul-le-mul}
 use native.Mathlib.Omega.{arith}
 use lib.Dec.{ltb}
-use borrow.Author.Tests.{lt-ltb, le-ltb}
-use Rattle.model.proofs.SettingsLaws.{settled}
-use Rattle.site_memory.proofs.ValueLaws.{valueCount-is}
-use Rattle.network_tests.proofs.ShortLaws.{all-small, sites-short, coordinator-short}
+use Rattle.network_tests.proofs.ShortLaws.{all-words, sites-short, coordinator-short}
 use borrow.Author.Needs.{needs}
 use Rattle.network_tests.proofs.memory_short.Statement.{statement}
 use Rattle.network_tests.proofs.memory_short.Tie as tie
@@ -21,15 +17,18 @@ site-words-requires c κs = search needs
 mul-all : tie.Need-mul-all
 mul-all c =
     let start = c .before .before in
-    omega (arith, all-small (start .args .settings) (start .pre), ap (λ (z : ℕ). start .args .settings .sites * z) (c .site-words .ensures))
+    let words = c .site-words in
+    omega (arith, all-words (start .args .settings) (words .result) (start .pre) (words .ensures))
 
 returns : tie.Need-returns
 returns c =
-    let start = c .before .before .before in
-    let words = c .before .site-words .ensures in
-    λ sites coordinator sites-are coordinator-is.
-    sites-short (start .args .settings) sites coordinator
-    (omega (arith, c .if1 .taken, sites-are, ap (λ (z : ℕ). start .args .settings .sites * z) words))
+    let a = c .before .before .before .args in
+    let all = ap (λ (z : ℕ). a .settings .sites * z) (c .before .site-words .ensures) in
+    record {
+      too-short = λ sites coordinator sites-are coordinator-is.
+          sites-short (a .settings) sites coordinator
+          (omega (arith, c .if1 .taken, sites-are, all));
+    }
 
 cast-result : tie.Need-cast-result
 cast-result c = search needs
@@ -39,12 +38,15 @@ add-result c = search needs
 
 returns-2 : tie.Need-returns-2
 returns-2 c =
-    let start = c .before .before .before .before in
-    let words = c .before .before .site-words .ensures in
-    λ sites coordinator sites-are coordinator-is.
-    ap (λ (n : ℕ). ltb n (start .args .settings .universe + 1024)) (sym coordinator-is)
-    ∙ coordinator-short (start .args .settings) sites coordinator
-    (omega (arith, c .before .if1 .left, sites-are, ap (λ (z : ℕ). start .args .settings .sites * z) words))
+    let tested = c .before in
+    let a = tested .before .before .before .args in
+    let all = ap (λ (z : ℕ). a .settings .sites * z) (tested .before .site-words .ensures) in
+    record {
+      too-short = λ sites coordinator sites-are coordinator-is.
+          ap (λ (n : ℕ). ltb n (a .settings .universe + 1024)) (sym coordinator-is)
+          ∙ coordinator-short (a .settings) sites coordinator
+          (omega (arith, tested .if1 .left, sites-are, all));
+    }
 
 pub memory-short-spec : {M : Type 1} → statement M
 memory-short-spec =

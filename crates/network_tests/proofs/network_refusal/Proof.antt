@@ -11,43 +11,57 @@ test-settings-requires c κs = search needs
 returns : tie.Need-returns
 returns c =
     let a = c .before .before .before .before .args in
-    refused-settings (a .settings) (a .sites) (a .coordinator) (a .site-memory .now) (a .coordinator-memory .now) (c .before .test-settings .result) (c .before .test-settings .ensures) (c .if1 .taken)
+    let tested = c .before .test-settings in
+    refused-settings (a .settings) (a .sites) (a .coordinator) (a .site-memory .now)
+    (a .coordinator-memory .now) (tested .result) (tested .ensures) (c .if1 .taken)
 
 memory-short-requires : tie.Need-memory-short-requires
 memory-short-requires c κs = search needs
 
 returns-2 : tie.Need-returns-2
 returns-2 c =
-    let start = c .before .before .before .before .before .before in
-    let a = start .args in
-    let none = sym (c .before .before .before .test-settings .ensures) ∙ c .before .before .if1 .left in
-    let short = c .before .memory-short .ensures (a .site-memory .now) (a .coordinator-memory .now) refl refl in
-    refused-short (a .settings) (a .sites) (a .coordinator) (a .site-memory .now) (a .coordinator-memory .now) none (sym short ∙ c .if2 .taken)
+    let long = c in
+    let settled = long .before .before in
+    let a = settled .before .before .before .before .args in
+    let none = sym (settled .before .test-settings .ensures) ∙ settled .if1 .left in
+    let short = long .before .memory-short .ensures .too-short (a .site-memory .now)
+    (a .coordinator-memory .now) refl refl in
+    refused-short (a .settings) (a .sites) (a .coordinator) (a .site-memory .now)
+    (a .coordinator-memory .now) none (sym short ∙ long .if2 .taken)
 
 network-consistent-requires : tie.Need-network-consistent-requires
 network-consistent-requires c κs =
-    let start = c .before .before .before .before .before .before in
-    let a = start .args in
-    let none = sym (c .before .before .before .test-settings .ensures) ∙ c .before .before .if1 .left in
-    let short = c .before .memory-short .ensures (a .site-memory .now) (a .coordinator-memory .now) refl refl in
-    fits-of-long (a .settings) (a .sites) (a .coordinator) (a .site-memory .now) (a .coordinator-memory .now) none (sym short ∙ c .if2 .left)
+    let long = c in
+    let settled = long .before .before in
+    let a = settled .before .before .before .before .args in
+    let none = sym (settled .before .test-settings .ensures) ∙ settled .if1 .left in
+    let short = long .before .memory-short .ensures .too-short (a .site-memory .now)
+    (a .coordinator-memory .now) refl refl in
+    fits-of-long (a .settings) (a .sites) (a .coordinator) (a .site-memory .now)
+    (a .coordinator-memory .now) none (sym short ∙ long .if2 .left)
 
 returns-3 : tie.Need-returns-3
 returns-3 c =
-    let start = c .before .before .before .before .before .before .before .before in
-    let a = start .args in
-    let none = sym (c .before .before .before .before .before .test-settings .ensures) ∙ c .before .before .before .before .if1 .left in
-    let short = c .before .before .before .memory-short .ensures (a .site-memory .now) (a .coordinator-memory .now) refl refl in
-    refused-not (a .settings) (a .sites) (a .coordinator) (a .site-memory .now) (a .coordinator-memory .now) none (sym short ∙ c .before .before .if2 .left)
+    let long = c .before .before in
+    let settled = long .before .before in
+    let a = settled .before .before .before .before .args in
+    let none = sym (settled .before .test-settings .ensures) ∙ settled .if1 .left in
+    let short = long .before .memory-short .ensures .too-short (a .site-memory .now)
+    (a .coordinator-memory .now) refl refl in
+    refused-not (a .settings) (a .sites) (a .coordinator) (a .site-memory .now)
+    (a .coordinator-memory .now) none (sym short ∙ long .if2 .left)
     (sym (c .before .network-consistent .ensures) ∙ c .if3 .taken)
 
 returns-4 : tie.Need-returns-4
 returns-4 c =
-    let start = c .before .before .before .before .before .before .before .before in
-    let a = start .args in
-    let none = sym (c .before .before .before .before .before .test-settings .ensures) ∙ c .before .before .before .before .if1 .left in
-    let short = c .before .before .before .memory-short .ensures (a .site-memory .now) (a .coordinator-memory .now) refl refl in
-    refused-inconsistent (a .settings) (a .sites) (a .coordinator) (a .site-memory .now) (a .coordinator-memory .now) none (sym short ∙ c .before .before .if2 .left)
+    let long = c .before .before in
+    let settled = long .before .before in
+    let a = settled .before .before .before .before .args in
+    let none = sym (settled .before .test-settings .ensures) ∙ settled .if1 .left in
+    let short = long .before .memory-short .ensures .too-short (a .site-memory .now)
+    (a .coordinator-memory .now) refl refl in
+    refused-inconsistent (a .settings) (a .sites) (a .coordinator) (a .site-memory .now)
+    (a .coordinator-memory .now) none (sym short ∙ long .if2 .left)
     (sym (c .before .network-consistent .ensures) ∙ c .if3 .left)
 
 pub network-refusal-spec : {M : Type 1} → statement M

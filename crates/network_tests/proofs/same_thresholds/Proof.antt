@@ -1,9 +1,10 @@
-use Rattle.model.proofs.SettingsLaws.{settled}
--- `network_tests::same_thresholds` meets its contract. The invariant: the sites before j have the threshold.
+-- `network_tests::same_thresholds` meets its contract. The invariant: the sites before j have the
+-- threshold.
 use Prim.Native.Nat.{ℕ, _-_}
 use mathlib.Core.List.{List}
 use native.Mathlib.Omega.{arith}
 use Rattle.model.specs.declared.Settings.{Settings}
+use Rattle.model.proofs.SettingsLaws.{settled}
 use Rattle.network_tests.proofs.SitesLaws.{Same, same-start, same-on, same-fails, same-end}
 use borrow.Author.Needs.{needs}
 use Rattle.network_tests.proofs.same_thresholds.Statement.{statement}
@@ -11,7 +12,8 @@ use Rattle.network_tests.proofs.same_thresholds.Tie as tie
 
 abbrev Inv-loop : tie.InvT-loop
 Inv-loop threshold sites count j₀ j =
-    (settings : Settings) (memory : List ℕ) → Same count settings (sites .records) memory threshold j
+    (settings : Settings) (memory : List ℕ)
+    → Same count settings (sites .records) memory threshold j
 
 abbrev μ-loop : tie.MeasureT-loop
 μ-loop threshold sites count j₀ j = count - j
@@ -21,8 +23,9 @@ cast-count c = search needs
 
 loop-holds : tie.Need-loop-holds Inv-loop μ-loop
 loop-holds c =
-    let start = c .before in
-    λ settings memory. same-start (start .args .settings .sites) settings (start .args .t2 .records) memory (start .args .threshold)
+    let a = c .before .args in
+    λ settings memory.
+    same-start (a .settings .sites) settings (a .t2 .records) memory (a .threshold)
 
 mul-numbers : tie.Need-mul-numbers Inv-loop μ-loop
 mul-numbers c = search needs
@@ -30,19 +33,22 @@ mul-numbers c = search needs
 element-copy-out-numbers : tie.Need-element-copy-out-numbers Inv-loop μ-loop
 element-copy-out-numbers c =
     let start = c .before .before .before in
-    let at-loop = c .before .loop in
-    let inside = c .loop-test .taken in
-    omega (arith, inside, settled (start .args .settings) (start .pre .settings-accepted) .sites .at-most)
+    let fit = settled (start .args .settings) (start .pre .settings-accepted) in
+    omega (arith, c .loop-test .taken, fit .sites .at-most)
 
 returns : tie.Need-returns Inv-loop μ-loop
 returns c =
-    let start = c .before .before .before .before .before .before in
-    let at-loop = c .before .before .before .before .loop in
-    let inside = c .before .before .before .loop-test .taken in
-    λ memory.
-    same-fails (start .args .settings .sites) (start .args .settings) (start .args .t2 .records) memory (start .args .threshold) (at-loop .j)
-    (at-loop .inv (start .args .settings) memory) inside
-    (omega (arith, inside, start .pre .all-records)) (c .if1 .taken)
+    let tested = c .before .before .before in
+    let at-loop = tested .before .loop in
+    let start = tested .before .before .before in
+    let a = start .args in
+    let inside = tested .loop-test .taken in
+    record {
+      same = λ memory.
+          same-fails (a .settings .sites) (a .settings) (a .t2 .records) memory (a .threshold)
+          (at-loop .j) (at-loop .inv (a .settings) memory) inside
+          (omega (arith, inside, start .pre .all-records)) (c .if1 .taken);
+    }
 
 add-j : tie.Need-add-j Inv-loop μ-loop
 add-j c = search needs
@@ -52,21 +58,25 @@ loop-less c = search needs
 
 loop-again : tie.Need-loop-again Inv-loop μ-loop
 loop-again c =
-    let start = c .before .before .before .before .before .before in
-    let at-loop = c .before .before .before .before .loop in
-    let inside = c .before .before .before .loop-test .taken in
+    let tested = c .before .before .before in
+    let at-loop = tested .before .loop in
+    let start = tested .before .before .before in
+    let a = start .args in
+    let inside = tested .loop-test .taken in
     λ settings memory.
-    same-on (start .args .settings .sites) settings (start .args .t2 .records) memory (start .args .threshold) (at-loop .j)
+    same-on (a .settings .sites) settings (a .t2 .records) memory (a .threshold) (at-loop .j)
     (at-loop .inv settings memory) inside
     (omega (arith, inside, start .pre .all-records)) (c .if1 .left)
 
 returns-2 : tie.Need-returns-2 Inv-loop μ-loop
 returns-2 c =
-    let start = c .before .before .before in
     let at-loop = c .before .loop in
-    λ memory.
-    same-end (start .args .settings .sites) (start .args .settings) (start .args .t2 .records) memory (start .args .threshold) (at-loop .j)
-    (at-loop .inv (start .args .settings) memory) (c .loop-test .left)
+    let a = c .before .before .before .args in
+    record {
+      same = λ memory.
+          same-end (a .settings .sites) (a .settings) (a .t2 .records) memory (a .threshold)
+          (at-loop .j) (at-loop .inv (a .settings) memory) (c .loop-test .left);
+    }
 
 pub same-thresholds-spec : {M : Type 1} → statement M
 same-thresholds-spec =

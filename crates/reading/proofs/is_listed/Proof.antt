@@ -1,5 +1,8 @@
 -- The total is tested first, and then the two sides of the rule.
 use borrow.Author.Tests.{le-leb, lt-leb}
+use lib.Dec.{leb}
+use mathlib.Core.Path.{ap}
+use Prim.Native.Nat.{ℕ, _*_}
 use borrow.Author.Needs.{needs}
 use Rattle.reading.proofs.is_listed.Statement.{statement}
 use Rattle.reading.proofs.is_listed.Tie as tie
@@ -14,7 +17,10 @@ mul-result : tie.Need-mul-result
 mul-result c = search needs
 
 returns-2 : tie.Need-returns-2
-returns-2 c = rw (le-leb _ _ (c .before .if1 .left), c .side-needed .ensures)
+returns-2 c =
+    rw (le-leb _ _ (c .before .if1 .left))
+    (ap (λ (needed : ℕ). leb needed (2000 * c .before .before .args .number))
+    (c .side-needed .ensures))
 
 pub is-listed-spec : {M : Type 1} → statement M
 is-listed-spec = tie.close (tie.spec returns side-needed-requires mul-result returns-2)

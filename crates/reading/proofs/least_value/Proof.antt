@@ -1,12 +1,11 @@
 -- The invariant is `Searching`: no value passed has enough counts at or below it.
-use lib.ListN.{length}
+use lib.ListN.{length, getD}
 use native.Mathlib.Nat.{mul-le-mul}
 use native.Mathlib.Omega.{arith}
 use mathlib.Core.Path.{sym}
-use Prim.Native.Nat.{_-_}
+use Prim.Native.Nat.{_+_, _-_, _*_, _≤_}
 use borrow.Author.Needs.{needs}
-use Rattle.reading.proofs.ReadLaws.{Searching, searching-start, searching-found, searching-on, searching-end}
-use Rattle.coordinator_tests.proofs.NumberLaws.{within-at}
+use Rattle.reading.proofs.ReadLaws.{Searching, searching-start, searching-fits, searching-found, searching-on, searching-end}
 use Rattle.coordinator_steps.proofs.StepLaws.{valueCount-is}
 use Rattle.model.specs.Limits.{coordinatorLimit}
 use Rattle.reading.proofs.least_value.Statement.{statement}
@@ -31,33 +30,23 @@ mul-below c = search needs
 shared-slice-read-below : tie.Need-shared-slice-read-below Inv-loop μ-loop
 shared-slice-read-below c = search needs
 
-add-below : tie.Need-add-below Inv-loop μ-loop
-add-below c =
+-- The sum with the next count, which fits also a thousand times.
+sum-small : (c : tie.After-shared-slice-known Inv-loop μ-loop)
+    → c .before .before .loop .below
+    + getD (c .before .before .before .args .counts .now) (c .before .before .loop .value) 0
+    ≤ 1024 * coordinatorLimit
+sum-small c =
     let at-loop = c .before .before in
     let start = at-loop .before in
-    omega (
-      arith,
-      at-loop .loop .inv .small,
-      c .before .loop-test .taken,
-      start .pre .few,
-      valueCount-is,
-      within-at coordinatorLimit (start .args .counts .now) (start .pre .counts-within)
-          (at-loop .loop .value),
-    )
+    searching-fits (start .args .rank) (start .args .total) (start .args .counts .now)
+    (at-loop .loop .below) (at-loop .loop .value) (start .pre) (at-loop .loop .inv)
+    (c .before .loop-test .taken)
+
+add-below : tie.Need-add-below Inv-loop μ-loop
+add-below c = omega (arith, sum-small c)
 
 mul-if1 : tie.Need-mul-if1 Inv-loop μ-loop
-mul-if1 c =
-    let at-loop = c .before .before in
-    let start = at-loop .before in
-    omega (
-      arith,
-      at-loop .loop .inv .small,
-      c .before .loop-test .taken,
-      start .pre .few,
-      valueCount-is,
-      within-at coordinatorLimit (start .args .counts .now) (start .pre .counts-within)
-          (at-loop .loop .value),
-    )
+mul-if1 c = omega (arith, sum-small c)
 
 cast-t12 : tie.Need-cast-t12 Inv-loop μ-loop
 cast-t12 c =
@@ -86,8 +75,7 @@ loop-again c =
     searching-on (start .args .rank) (start .args .total) (start .args .counts .now)
     (at-loop .loop .below)
     (at-loop .loop .value) (at-loop .loop .inv) (c .before .before .loop-test .taken)
-    (within-at coordinatorLimit (start .args .counts .now) (start .pre .counts-within)
-    (at-loop .loop .value))
+    (start .pre .counts-within (at-loop .loop .value))
     (c .if1 .left)
 
 returns-2 : tie.Need-returns-2 Inv-loop μ-loop

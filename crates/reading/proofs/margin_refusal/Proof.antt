@@ -4,7 +4,7 @@ use lib.Dec.{leb}
 use mathlib.Core.Path.{sym, _∙_}
 use mathlib.Core.Bool.{true, false}
 use borrow.Author.Needs.{needs}
-use Rattle.coordinator_tests.proofs.Chains.{refused-first, last-row}
+use Rattle.coordinator_tests.proofs.Chains.{first-refuses, last-row}
 use Rattle.model.specs.CoordinatorMemory.{coordinatorMemoryRefusal}
 use Rattle.reading.proofs.margin_refusal.Statement.{statement}
 use Rattle.reading.proofs.margin_refusal.Tie as tie
@@ -13,12 +13,7 @@ coordinator-memory-refusal-requires : tie.Need-coordinator-memory-refusal-requir
 coordinator-memory-refusal-requires c κs = search needs
 
 returns : tie.Need-returns
-returns c =
-    let start = c .before .before .before .args in
-    let first = coordinatorMemoryRefusal (start .settings) (start .coordinator)
-    (start .memory .now) in
-    let result-is = c .before .coordinator-memory-refusal .ensures in
-    result-is ∙ sym (refused-first first _ (λ none. c .if1 .taken (result-is ∙ none)))
+returns c = first-refuses _ (c .before .coordinator-memory-refusal .ensures) (c .if1 .taken)
 
 returns-2 : tie.Need-returns-2
 returns-2 c =

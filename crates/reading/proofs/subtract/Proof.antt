@@ -1,6 +1,8 @@
 -- The difference of two numbers below 2 ^ 62 is the one of two casts, and fits.
+use mir.Syntax.{w64}
+use mir.Val.{SFits}
 use mir.Facts.{toZ-ofZ}
-use mathlib.Core.Path.{_∙_}
+use mathlib.Core.Path.{_∙_, subst⁻¹}
 use borrow.Author.Needs.{needs}
 use Rattle.reading.proofs.Signed.{casts-subtracted, difference-fits}
 use Rattle.reading.proofs.subtract.Statement.{statement}
@@ -14,8 +16,10 @@ cast-result-2 c = search needs
 
 sub-result : tie.Need-sub-result
 sub-result c =
-    rw (casts-subtracted (c .args .x) (c .args .y) (c .pre .0) (c .pre .1))
-    (difference-fits _ _ (c .pre .0) (c .pre .1))
+    let x = c .args .x in
+    let y = c .args .y in
+    subst⁻¹ (SFits w64) (casts-subtracted x y (c .pre .0) (c .pre .1))
+    (difference-fits x y (c .pre .0) (c .pre .1))
 
 returns : tie.Need-returns
 returns c = toZ-ofZ (sub-result c) ∙ casts-subtracted _ _ (c .pre .0) (c .pre .1)

@@ -7,7 +7,8 @@ use mathlib.Core.Path.{sym, _∙_}
 use Prim.Native.Nat.{_-_, _<_}
 use borrow.Author.Needs.{needs}
 use Rattle.reading.proofs.ReadLaws.{sides-ask, listed-is}
-use Rattle.reading.proofs.ListLaws.{Writing, writing-start, writing-yes, writing-no, writing-end, place-left}
+use Rattle.reading.proofs.ListLaws.{counting-end, one-more-listed, listed-few}
+use Rattle.reading.proofs.WriteLaws.{Writing, writing-start, writing-yes, writing-no, writing-end}
 use Rattle.model.proofs.SettingsLaws.{settled}
 use Rattle.model.specs.CoordinatorMemory.{coordinatorIn}
 use Rattle.reading.proofs.write_listed.Statement.{statement}
@@ -34,19 +35,19 @@ loop-holds c =
 mul-is-listed : tie.Need-mul-is-listed Inv-loop μ-loop
 mul-is-listed c =
     let start = c .before .before .before .before .before in
-    omega (arith, c .loop-test .taken, start .pre .0 .memory-long, start .good)
+    omega (arith, c .loop-test .taken, start .pre .reading .memory-long, start .good)
 
 shared-slice-read-is-listed : tie.Need-shared-slice-read-is-listed Inv-loop μ-loop
 shared-slice-read-is-listed c =
     let start = c .before .before .before .before .before .before in
-    omega (arith, c .before .loop-test .taken, start .pre .0 .memory-long)
+    omega (arith, c .before .loop-test .taken, start .pre .reading .memory-long)
 
 is-listed-requires : tie.Need-is-listed-requires Inv-loop μ-loop
 is-listed-requires c κs =
     let at-loop = c .before .before in
     let start = at-loop .before .before .before .before in
     sides-ask (start .args .settings) (start .args .coordinator) (start .args .memory .now)
-    (start .pre .0)
+    (start .pre .reading)
     (at-loop .loop .next) (c .before .loop-test .taken)
 
 cast-list : tie.Need-cast-list Inv-loop μ-loop
@@ -55,7 +56,7 @@ cast-list c =
     omega (
       arith,
       c .before .before .before .loop-test .taken,
-      settled (start .args .settings) (start .pre .0 .settings-accepted) .universe,
+      settled (start .args .settings) (start .pre .reading .settings-accepted) .universe,
     )
 
 -- A listed item has a place.
@@ -70,11 +71,12 @@ place c =
     let memory = start .args .memory .now in
     let item = at-loop .loop .next in
     let inside = c .before .before .before .loop-test .taken in
-    place-left settings (coordinatorIn settings numbers memory) (start .args .list .now)
-    (at-loop .loop .count) item (start .pre .1) (at-loop .loop .inv .counting) inside
-    (sym (c .before .is-listed .ensures ∙ listed-is settings numbers memory (start .pre .0)
+    let listed = one-more-listed settings (coordinatorIn settings numbers memory)
+    (at-loop .loop .count) item (at-loop .loop .inv .counting) inside
+    (sym (c .before .is-listed .ensures ∙ listed-is settings numbers memory (start .pre .reading)
     item inside)
-    ∙ c .if1 .taken)
+    ∙ c .if1 .taken) in
+    omega (arith, start .pre .places)
 
 mul-list : tie.Need-mul-list Inv-loop μ-loop
 mul-list c =
@@ -110,18 +112,34 @@ loop-again c =
     let item = at-loop .loop .next in
     let inside = c .before .before .before .loop-test .taken in
     let rule = sym (c .before .is-listed .ensures ∙ listed-is settings numbers memory
-    (start .pre .0) item inside) in
+    (start .pre .reading) item inside) in
     ⊎-elim
     (λ w. rw (w .1, w .2)
     (writing-yes settings here before (at-loop .loop .list) count item (at-loop .loop .inv) inside
     (rule ∙ w .0 .taken)
-    (place-left settings here before count item (start .pre .1)
-    (at-loop .loop .inv .counting) inside
-    (rule ∙ w .0 .taken))))
+    (omega (
+      arith,
+      start .pre .places,
+      one-more-listed settings here count item (at-loop .loop .inv .counting) inside
+          (rule ∙ w .0 .taken),
+    ))))
     (λ w. rw (w .1, w .2)
     (writing-no settings here before (at-loop .loop .list) count item (at-loop .loop .inv) inside
     (rule ∙ w .0 .left)))
     (c .if1 .came)
+
+cast-result : tie.Need-cast-result Inv-loop μ-loop
+cast-result c =
+    let at-loop = c .before in
+    let start = at-loop .before .before .before .before in
+    omega (
+      arith,
+      at-loop .loop .inv .counting .counted,
+      at-loop .loop .inv .counting .place,
+      listed-few (start .args .settings) (coordinatorIn (start .args .settings)
+          (start .args .coordinator) (start .args .memory .now)) (at-loop .loop .next),
+      settled (start .args .settings) (start .pre .reading .settings-accepted) .universe,
+    )
 
 same-length : tie.Need-same-length Inv-loop μ-loop
 same-length c = search needs
@@ -130,11 +148,15 @@ returns : tie.Need-returns Inv-loop μ-loop
 returns c =
     let at-loop = c .before in
     let start = at-loop .before .before .before .before .args in
-    writing-end (start .settings) (coordinatorIn (start .settings) (start .coordinator)
-    (start .memory .now))
-    (start .list .now) (at-loop .loop .list) (at-loop .loop .count) (at-loop .loop .next)
-    (at-loop .loop .inv)
-    (c .loop-test .left)
+    let here = coordinatorIn (start .settings) (start .coordinator) (start .memory .now) in
+    let count = at-loop .loop .count in
+    let item = at-loop .loop .next in
+    record {
+      count = counting-end (start .settings) here count item (at-loop .loop .inv .counting)
+          (c .loop-test .left);
+      list = writing-end (start .settings) here (start .list .now) (at-loop .loop .list) count item
+          (at-loop .loop .inv) (c .loop-test .left);
+    }
 
 pub write-listed-spec : {M : Type 1} → statement M
 write-listed-spec =
@@ -154,5 +176,6 @@ write-listed-spec =
     add-next
     loop-less
     loop-again
+    cast-result
     same-length
     returns)

@@ -1,7 +1,6 @@
 -- The three answers of a line.
-use mathlib.Core.Path.{ap, _∙_}
-use Prim.Native.Nat.{ℕ}
-use lib.ListN.{take}
+use mathlib.Core.Path.{refl}
+use Rattle.session.specs.Outcome.{lent}
 use Rattle.session.proofs.LineLaws.{line-draw, line-malformed, line-end}
 use borrow.Author.Needs.{needs}
 use Rattle.session.proofs.advance.Statement.{statement}
@@ -27,11 +26,22 @@ same-length-4 c = search needs
 
 returns : tie.Need-returns
 returns c =
-    let read = c .before .before .before .before .before .before .before .before .before .before .before .before .before .before .read-at in
+    let taken = c .before .before .before .before .before .before .before .before in
+    let found = taken .before .before .before .before .before in
+    let read = found .before in
+    let start = read .before .before .before .before .before .before .before .args in
+    let given = lent (start .site-memory .now) (start .coordinator-memory .now) (start .log .now)
+    (start .list .now) (start .out .now) in
     record {
-      right = λ arrivals stands room list-long.
-          line-draw _ (read .result) _ (read .ensures) _ arrivals _ (c .before .before .before .before .before .before .before .before .before .before .before .before .before .if1 .taken)
-          (c .before .before .before .before .before .before .before .before .take-draw .ensures .right arrivals stands room);
+      line = line-draw (start .session) (read .read-at .result) _ (read .read-at .ensures) given
+          _ _ _ _ _ (found .if1 .taken) (taken .take-draw .ensures);
+      lengths = record {
+        site-memory = search needs;
+        coordinator-memory = search needs;
+        log = search needs;
+        list = refl;
+        out = search needs;
+      };
     }
 
 refuse-requires : tie.Need-refuse-requires
@@ -42,19 +52,26 @@ same-length-5 c = search needs
 
 returns-2 : tie.Need-returns-2
 returns-2 c =
-    let read = c .before .before .before .before .before .before .before .read-at in
-    let refuses = c .before .before .refuse .ensures in
+    let refused = c .before .before in
+    let tested = refused .before .before .before .before in
+    let read = tested .before in
+    let start = read .before .before .before .before .before .before .before .args in
+    let given = lent (start .site-memory .now) (start .coordinator-memory .now) (start .log .now)
+    (start .list .now) (start .out .now) in
     record {
-      right = λ arrivals stands room list-long.
-          line-malformed _ (read .result) _ (read .ensures) _ arrivals _ (c .before .before .before .before .before .before .if1 .left) (c .before .before .before .before .if2 .taken)
-          (refuses .bytes (room .out-long)) (refuses .ended);
+      line = line-malformed (start .session) (read .read-at .result) _ (read .read-at .ensures)
+          given _ _ (tested .if1 .left) (refused .before .before .if2 .taken) (refused .refuse .ensures);
+      lengths = record {
+        site-memory = refl;
+        coordinator-memory = refl;
+        log = refl;
+        list = refl;
+        out = search needs;
+      };
     }
 
-write-results-requires : tie.Need-write-results-requires
-write-results-requires c κs = search needs
-
-stop-requires : tie.Need-stop-requires
-stop-requires c κs = search needs
+finish-requires : tie.Need-finish-requires
+finish-requires c κs = search needs
 
 same-length-6 : tie.Need-same-length-6
 same-length-6 c = search needs
@@ -67,14 +84,23 @@ same-length-8 c = search needs
 
 returns-3 : tie.Need-returns-3
 returns-3 c =
-    let read = c .before .before .before .before .before .before .before .before .before .before .before .before .read-at in
-    let results = c .before .before .before .before .before .write-results in
+    let finished = c .before .before .before .before in
+    let tested = finished .before .before .before .before .before .before in
+    let read = tested .before in
+    let start = read .before .before .before .before .before .before .before .args in
+    let given = lent (start .site-memory .now) (start .coordinator-memory .now) (start .log .now)
+    (start .list .now) (start .out .now) in
     record {
-      right = λ arrivals stands room list-long.
-          line-end _ (read .result) _ (read .ensures) _ arrivals _ (c .before .before .before .before .before .before .before .before .before .before .before .if1 .left) (c .before .before .before .before .before .before .before .before .before .if2 .left)
-          (ap (λ (n : ℕ). take n (results .last .1 .1 .1 .0)) (c .stop .ensures .1)
-          ∙ results .ensures .bytes _ arrivals stands list-long (room .out-long))
-          (c .stop .ensures .0);
+      line = line-end (start .session) (read .read-at .result) _ (read .read-at .ensures) given
+          _ _ _ (tested .if1 .left) (finished .before .before .before .before .if2 .left)
+          (finished .finish .ensures);
+      lengths = record {
+        site-memory = refl;
+        coordinator-memory = refl;
+        log = refl;
+        list = search needs;
+        out = search needs;
+      };
     }
 
 pub advance-spec : {M : Type 1} → statement M
@@ -91,8 +117,7 @@ advance-spec =
     refuse-requires
     same-length-5
     returns-2
-    write-results-requires
-    stop-requires
+    finish-requires
     same-length-6
     same-length-7
     same-length-8

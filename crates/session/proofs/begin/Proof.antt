@@ -1,5 +1,8 @@
 -- The two answers of a beginning.
-use Rattle.session.proofs.BeginLaws.{begin-refused, begin-accepted}
+use mathlib.Core.Path.{refl}
+use mathlib.Core.List.{[]}
+use Rattle.session.specs.Outcome.{lent}
+use Rattle.session.proofs.BeginLaws.{begin-refused, begin-started}
 use borrow.Author.Needs.{needs}
 use Rattle.session.proofs.begin.Statement.{statement}
 use Rattle.session.proofs.begin.Tie as tie
@@ -7,11 +10,8 @@ use Rattle.session.proofs.begin.Tie as tie
 read-settings-requires : tie.Need-read-settings-requires
 read-settings-requires c κs = search needs
 
-start-sites-requires : tie.Need-start-sites-requires
-start-sites-requires c κs = search needs
-
-start-coordinator-requires : tie.Need-start-coordinator-requires
-start-coordinator-requires c κs = search needs
+fresh-session-requires : tie.Need-fresh-session-requires
+fresh-session-requires c κs = search needs
 
 sub-start-refusal : tie.Need-sub-start-refusal
 sub-start-refusal c = search needs
@@ -25,40 +25,59 @@ refuse-requires c κs = search needs
 same-length : tie.Need-same-length
 same-length c = search needs
 
+returns : tie.Need-returns
+returns c =
+    let tested = c .before .before .before .before .before in
+    let read = tested .before .before .before .before in
+    let start = read .before .before .before .before .before .args in
+    record {
+      is = begin-refused (start .input .now)
+          (lent (start .site-memory .now) (start .coordinator-memory .now) [] [] (start .out .now))
+          (read .read-settings .result) (read .read-settings .ensures)
+          _ (tested .before .before .fresh-session .ensures) _ (tested .start-refusal .ensures) _ _
+          (c .before .before .refuse .ensures) (c .before .before .before .before .if1 .taken);
+      lengths = record {
+        site-memory = refl;
+        coordinator-memory = refl;
+        log = refl;
+        list = refl;
+        out = search needs;
+      };
+    }
+
+start-sites-requires : tie.Need-start-sites-requires
+start-sites-requires c κs = search needs
+
+start-coordinator-requires : tie.Need-start-coordinator-requires
+start-coordinator-requires c κs = search needs
+
 same-length-2 : tie.Need-same-length-2
 same-length-2 c = search needs
 
 same-length-3 : tie.Need-same-length-3
 same-length-3 c = search needs
 
-returns : tie.Need-returns
-returns c =
-    let tested = c .before .before .before .before .before in
-    record {
-      right = λ sites-long coordinator-long out-long.
-          begin-refused _ _ _ _ _ (c .before .before .before .before .before .before .before .before .before .before .before .before .before .before .before .before .before .before .read-settings .result)
-          (c .before .before .before .before .before .before .before .before .before .before .before .before .before .before .before .before .before .before .read-settings .ensures) (c .before .before .before .before .before .before .before .before .before .before .before .before .before .before .before .start-sites .result)
-          (c .before .before .before .before .before .before .before .before .before .before .before .before .before .before .before .start-sites .ensures) (c .before .before .before .before .before .before .before .before .before .before .before .start-coordinator .result)
-          (c .before .before .before .before .before .before .before .before .before .before .before .start-coordinator .ensures) _ (tested .start-refusal .ensures) sites-long
-          coordinator-long _ _ _ out-long (c .before .before .refuse .ensures) (c .before .before .before .before .if1 .taken);
-    }
-
-same-length-4 : tie.Need-same-length-4
-same-length-4 c = search needs
-
-same-length-5 : tie.Need-same-length-5
-same-length-5 c = search needs
-
 returns-2 : tie.Need-returns-2
 returns-2 c =
-    let tested = c .before in
+    let started = c .before .before .before .before .before .before in
+    let tested = started .before .before .before in
+    let read = tested .before .before .before .before in
+    let start = read .before .before .before .before .before .args in
     record {
-      right = λ sites-long coordinator-long out-long.
-          begin-accepted _ _ _ _ _ (c .before .before .before .before .before .before .before .before .before .before .before .before .before .before .read-settings .result)
-          (c .before .before .before .before .before .before .before .before .before .before .before .before .before .before .read-settings .ensures) (c .before .before .before .before .before .before .before .before .before .before .before .start-sites .result)
-          (c .before .before .before .before .before .before .before .before .before .before .before .start-sites .ensures) (c .before .before .before .before .before .before .before .start-coordinator .result)
-          (c .before .before .before .before .before .before .before .start-coordinator .ensures) _ (tested .start-refusal .ensures) sites-long
-          coordinator-long (c .if1 .left) _;
+      is = begin-started (start .input .now)
+          (lent (start .site-memory .now) (start .coordinator-memory .now) [] [] (start .out .now))
+          (read .read-settings .result) (read .read-settings .ensures)
+          _ (tested .before .before .fresh-session .ensures) _ (tested .start-refusal .ensures) _ _
+          (started .start-sites .result) (c .before .before .start-coordinator .result)
+          (started .start-sites .ensures) (c .before .before .start-coordinator .ensures)
+          (started .before .before .if1 .left);
+      lengths = record {
+        site-memory = search needs;
+        coordinator-memory = search needs;
+        log = refl;
+        list = refl;
+        out = refl;
+      };
     }
 
 pub begin-spec : {M : Type 1} → statement M
@@ -66,15 +85,14 @@ begin-spec =
     tie.close
     (tie.spec
     read-settings-requires
-    start-sites-requires
-    start-coordinator-requires
+    fresh-session-requires
     sub-start-refusal
     start-refusal-requires
     refuse-requires
     same-length
+    returns
+    start-sites-requires
+    start-coordinator-requires
     same-length-2
     same-length-3
-    returns
-    same-length-4
-    same-length-5
     returns-2)

@@ -1,12 +1,9 @@
+-- Each turn writes the line of one message.
 use Prim.Native.Nat.{_-_}
 use borrow.Author.Needs.{needs}
-use native.Mathlib.Omega.{arith}
-use Rattle.session.proofs.WritingLaws.{Writing, writing-begins, writing-on, writing-ends}
+use Rattle.session.proofs.MessageLaws.{Writing, writing-begins, writing-on, writing-ends}
 use Rattle.session.proofs.put_messages.Statement.{statement}
 use Rattle.session.proofs.put_messages.Tie as tie
-use Rattle.session.proofs.put_messages.Reads as reads
-use Rattle.session.proofs.put_messages.Lts as lts
-use Rattle.transcript.proofs.write_record.Reads as write-record-reads
 
 abbrev Inv-loop : tie.InvT-loop
 Inv-loop log count out₀ place₀ done₀ out place done = Writing log count out₀ out place done
@@ -18,7 +15,7 @@ loop-holds : tie.Need-loop-holds Inv-loop μ-loop
 loop-holds c =
     let start = c .before .before in
     writing-begins (start .args .log .now) (start .args .count) (start .args .out .now)
-    (start .pre .0) (start .pre .1)
+    (start .pre)
 
 mul-i : tie.Need-mul-i Inv-loop μ-loop
 mul-i c = search needs
@@ -70,7 +67,7 @@ loop-again c =
     let loop = c .before .before .before .before .before .before .before .before .before .loop in
     writing-on _ _ _ _ _ _ (loop .done) _ (loop .inv)
     (c .before .before .before .before .before .before .before .before .loop-test .taken)
-    (c .before .before .write-record .ensures)
+    (search needs) (c .before .before .write-record .ensures)
 
 same-length : tie.Need-same-length Inv-loop μ-loop
 same-length c = search needs

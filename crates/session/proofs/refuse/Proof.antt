@@ -1,11 +1,6 @@
--- The line of a refusal fits: it has at most 19 bytes.
-use mathlib.Core.Path.{_∙_, ap}
-use Prim.Native.Nat.{ℕ, _<_}
-use native.Mathlib.Omega.{arith}
-use lib.ListN.{take}
+-- The line of the refusal, and then the session has ended.
 use Rattle.model.specs.Transcript.{refusedLine}
-use Rattle.transcript.proofs.LineBounds.{line-claims}
-use Rattle.session.proofs.WritingLaws.{line-added}
+use Rattle.session.proofs.OutputLaws.{line-written, refused-of}
 use borrow.Author.Needs.{needs}
 use Rattle.session.proofs.refuse.Statement.{statement}
 use Rattle.session.proofs.refuse.Tie as tie
@@ -22,16 +17,12 @@ same-length c = search needs
 returns : tie.Need-returns
 returns c =
     let start = c .before .before .before .before .before .before in
-    let refusal = start .args .refusal in
     let written = c .before .before .before .write-refused in
+    let line = line-written (refusedLine (start .args .refusal)) 0 (start .args .out .now) _ _
+    (written .ensures) in
     record {
-      ended = c .stop .ensures .0;
-      bytes = λ long.
-          let small : refusal < 4294967296 = search needs in
-          let few = line-claims .refused refusal small in
-          let added = line-added (refusedLine refusal) 0 (start .args .out .now) _ _
-          (omega (arith, few, long)) (written .ensures) in
-          ap (λ (n : ℕ). take n (written .last .1 .0)) (c .stop .ensures .1) ∙ added .bytes;
+      is = λ given. refused-of (start .args .session) (start .args .refusal) _
+          (start .args .out .now) _ _ (c .stop .ensures) line given;
     }
 
 pub refuse-spec : {M : Type 1} → statement M

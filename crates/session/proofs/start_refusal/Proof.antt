@@ -1,6 +1,5 @@
 -- Each test of the code is a row of the definition.
 use mathlib.Core.Path.{refl, sym, _∙_}
-use borrow.Author.Tests.{lt-ltb, le-ltb}
 use Rattle.model.proofs.RefusalLaws.{refused-same}
 use borrow.Author.Needs.{needs}
 use Rattle.session.proofs.start_refusal.Statement.{statement}
@@ -18,58 +17,39 @@ returns-2 c =
     rw (called .before .if1 .left)
     (refused-same _ _ _ (called .test-settings .ensures) (c .if2 .taken))
 
+beyond-limits-requires : tie.Need-beyond-limits-requires
+beyond-limits-requires c κs = search needs
+
 returns-3 : tie.Need-returns-3
 returns-3 c =
-    let args = c .before .before .before .before .before .before .args in
+    let tested = c .before in
     rw (
-      c .before .before .before .before .if1 .left,
-      sym (c .before .before .before .test-settings .ensures) ∙ c .before .before .if2 .left,
-      lt-ltb 4 (args .read .settings .sites) (c .if3 .taken),
+      tested .before .before .before .if1 .left,
+      sym (tested .before .before .test-settings .ensures) ∙ tested .before .if2 .left,
+      sym (tested .beyond-limits .ensures) ∙ c .if3 .taken,
     )
+
+shorter-than-limits-requires : tie.Need-shorter-than-limits-requires
+shorter-than-limits-requires c κs = search needs
 
 returns-4 : tie.Need-returns-4
 returns-4 c =
-    let args = c .before .before .before .before .before .before .before .before .args in
+    let tested = c .before .before .before in
     rw (
-      c .before .before .before .before .before .before .if1 .left,
-      sym (c .before .before .before .before .before .test-settings .ensures) ∙ c .before .before .before .before .if2 .left,
-      le-ltb 4 (args .read .settings .sites) (c .before .before .if3 .left),
-      lt-ltb 100 (args .read .settings .capacity) (c .if4 .taken),
+      tested .before .before .before .if1 .left,
+      sym (tested .before .before .test-settings .ensures) ∙ tested .before .if2 .left,
+      sym (tested .beyond-limits .ensures) ∙ c .before .before .if3 .left,
+      sym (c .before .shorter-than-limits .ensures) ∙ c .if4 .taken,
     )
 
 returns-5 : tie.Need-returns-5
 returns-5 c =
-    let args = c .before .before .before .before .before .before .before .before .before .before .args in
+    let tested = c .before .before .before in
     rw (
-      c .before .before .before .before .before .before .before .before .if1 .left,
-      sym (c .before .before .before .before .before .before .before .test-settings .ensures) ∙ c .before .before .before .before .before .before .if2 .left,
-      le-ltb 4 (args .read .settings .sites) (c .before .before .before .before .if3 .left),
-      le-ltb 100 (args .read .settings .capacity) (c .before .before .if4 .left),
-      lt-ltb 1000 (args .read .settings .universe) (c .if5 .taken),
-    )
-
-returns-6 : tie.Need-returns-6
-returns-6 c =
-    let args = c .before .before .before .before .before .before .before .before .before .before .before .args in
-    rw (
-      c .before .before .before .before .before .before .before .before .before .if1 .left,
-      sym (c .before .before .before .before .before .before .before .before .test-settings .ensures) ∙ c .before .before .before .before .before .before .before .if2 .left,
-      le-ltb 4 (args .read .settings .sites) (c .before .before .before .before .before .if3 .left),
-      le-ltb 100 (args .read .settings .capacity) (c .before .before .before .if4 .left),
-      le-ltb 1000 (args .read .settings .universe) (c .before .if5 .left),
-      lt-ltb 8192 (args .bytes) (c .if6 .taken),
-    )
-
-returns-7 : tie.Need-returns-7
-returns-7 c =
-    let args = c .before .before .before .before .before .before .before .before .before .before .before .args in
-    rw (
-      c .before .before .before .before .before .before .before .before .before .if1 .left,
-      sym (c .before .before .before .before .before .before .before .before .test-settings .ensures) ∙ c .before .before .before .before .before .before .before .if2 .left,
-      le-ltb 4 (args .read .settings .sites) (c .before .before .before .before .before .if3 .left),
-      le-ltb 100 (args .read .settings .capacity) (c .before .before .before .if4 .left),
-      le-ltb 1000 (args .read .settings .universe) (c .before .if5 .left),
-      le-ltb 8192 (args .bytes) (c .if6 .left),
+      tested .before .before .before .if1 .left,
+      sym (tested .before .before .test-settings .ensures) ∙ tested .before .if2 .left,
+      sym (tested .beyond-limits .ensures) ∙ c .before .before .if3 .left,
+      sym (c .before .shorter-than-limits .ensures) ∙ c .if4 .left,
     )
 
 pub start-refusal-spec : {M : Type 1} → statement M
@@ -79,8 +59,8 @@ start-refusal-spec =
     returns
     test-settings-requires
     returns-2
+    beyond-limits-requires
     returns-3
+    shorter-than-limits-requires
     returns-4
-    returns-5
-    returns-6
-    returns-7)
+    returns-5)

@@ -19,7 +19,10 @@ returns-3 : tie.Need-returns-3
 returns-3 c = simp (c .before .if3 .taken, or-false)
 
 returns-4 : tie.Need-returns-4
-returns-4 c = simp (c .before .before .before .if4 .taken, lt-ltb _ _ (c .if5 .taken))
+returns-4 c =
+    let at-if4 = c .before .before .before in
+    let a = at-if4 .before .before .before .before .before .before .args in
+    simp (at-if4 .if4 .taken, lt-ltb (a .message .a) (a .site .threshold) (c .if5 .taken))
 
 returns-5 : tie.Need-returns-5
 returns-5 c =

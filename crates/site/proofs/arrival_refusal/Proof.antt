@@ -1,7 +1,9 @@
 -- `site::arrival_refusal` meets its contract: 5, 6, 7 first, then 8.
 use mathlib.Core.Path.{_∙_, sym}
+use native.Mathlib.Omega.{arith}
 use borrow.Author.Tests.{le-leb, lt-leb}
 use borrow.Author.Needs.{needs}
+use Rattle.model.specs.Limits.{siteLimit}
 use Rattle.model.proofs.RefusalLaws.{refused-same}
 use Rattle.site.proofs.arrival_refusal.Statement.{statement}
 use Rattle.site.proofs.arrival_refusal.Tie as tie
@@ -20,8 +22,7 @@ returns-2 c =
     let at-address-refusal = at-if1 .before in
     rw (
       sym (at-address-refusal .address-refusal .ensures) ∙ at-if1 .if1 .left,
-      le-leb _ _
-          (c .if2 .taken),
+      le-leb siteLimit (at-address-refusal .before .args .site .arrivals) (omega arith),
     )
 
 returns-3 : tie.Need-returns-3
@@ -30,8 +31,7 @@ returns-3 c =
     let at-address-refusal = at-if1 .before in
     rw (
       sym (at-address-refusal .address-refusal .ensures) ∙ at-if1 .if1 .left,
-      lt-leb _ _
-          (c .if2 .left),
+      lt-leb siteLimit (at-address-refusal .before .args .site .arrivals) (omega arith),
     )
 
 pub arrival-refusal-spec : {M : Type 1} → statement M

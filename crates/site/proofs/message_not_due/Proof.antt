@@ -6,7 +6,9 @@ use Rattle.site.proofs.message_not_due.Statement.{statement}
 use Rattle.site.proofs.message_not_due.Tie as tie
 
 returns : tie.Need-returns
-returns c = simp (ne-eqb _ _ (c .if1 .taken), and-false)
+returns c =
+    let a = c .before .before .args in
+    simp (ne-eqb (a .message .site) (a .which) (c .if1 .taken), and-false)
 
 returns-2 : tie.Need-returns-2
 returns-2 c = simp (eq-eqb _ _ (c .before .before .if1 .left), eq-eqb _ _ (c .if2 .taken))

@@ -1,6 +1,12 @@
 -- `site::message_refusal` meets its contract: the rows in their order.
+use Prim.Native.Nat.{ℕ}
+use mathlib.Core.Path.{_≡_}
+use mathlib.Core.Bool.{Bool, true, false}
 use borrow.Author.Tests.{le-leb, lt-leb}
 use borrow.Author.Needs.{needs}
+use Rattle.model.specs.Refusals.{when, _orElse_, accepted, amountNotDue}
+use Rattle.model.specs.Site.{siteMessageRefusal}
+use Rattle.site.specs.Calls.{bareSite}
 use Rattle.site.proofs.message_refusal.Statement.{statement}
 use Rattle.site.proofs.message_refusal.Tie as tie
 
@@ -38,10 +44,18 @@ returns-3 c =
 amount-wrong-requires : tie.Need-amount-wrong-requires
 amount-wrong-requires c κs = search needs
 
-returns-4 : tie.Need-returns-4
-returns-4 c =
-    let at-amount-wrong = c .before in
-    let at-if3 = at-amount-wrong .before in
+-- What the contract answers, at the place where the amounts were looked at.
+abbrev refusalAt : tie.After-amount-wrong → ℕ
+refusalAt c =
+    let a = c .before .before .before .before .before .before .before .before .args in
+    siteMessageRefusal (a .settings) (bareSite (a .site)) (a .which) (a .message)
+
+-- The rows above passed, so the amounts decide.
+by-amounts : (c : tie.After-amount-wrong) (wrong : Bool)
+    → c .amount-wrong .result ≡ wrong
+    → (when wrong amountNotDue orElse accepted) ≡ refusalAt c
+by-amounts c wrong test =
+    let at-if3 = c .before in
     let at-value-unknown = at-if3 .before in
     let at-if2 = at-value-unknown .before in
     let at-message-not-due = at-if2 .before in
@@ -52,27 +66,15 @@ returns-4 c =
       at-if2 .if2 .left,
       ← at-value-unknown .value-unknown .ensures,
       at-if3 .if3 .left,
-      ← at-amount-wrong .amount-wrong .ensures,
-      c .if4 .taken,
+      ← c .amount-wrong .ensures,
+      test,
     )
 
+returns-4 : tie.Need-returns-4
+returns-4 c = by-amounts (c .before) true (c .if4 .taken)
+
 returns-5 : tie.Need-returns-5
-returns-5 c =
-    let at-amount-wrong = c .before in
-    let at-if3 = at-amount-wrong .before in
-    let at-value-unknown = at-if3 .before in
-    let at-if2 = at-value-unknown .before in
-    let at-message-not-due = at-if2 .before in
-    let at-if1 = at-message-not-due .before in
-    simp (
-      lt-leb _ _ (at-if1 .if1 .left),
-      ← at-message-not-due .message-not-due .ensures,
-      at-if2 .if2 .left,
-      ← at-value-unknown .value-unknown .ensures,
-      at-if3 .if3 .left,
-      ← at-amount-wrong .amount-wrong .ensures,
-      c .if4 .left,
-    )
+returns-5 c = by-amounts (c .before) false (c .if4 .left)
 
 pub message-refusal-spec : {M : Type 1} → statement M
 message-refusal-spec =

@@ -1,5 +1,6 @@
 -- `site::receive_refusal` meets its contract: the memory's refusals first, then the message's.
 use mathlib.Core.Path.{_∙_, sym}
+use native.Mathlib.Omega.{arith}
 use borrow.Author.Tests.{le-leb, lt-leb}
 use borrow.Author.Needs.{needs}
 use Rattle.model.proofs.RefusalLaws.{refused-same}
@@ -18,10 +19,10 @@ returns-2 : tie.Need-returns-2
 returns-2 c =
     let at-if1 = c .before .before in
     let at-site-memory-refusal = at-if1 .before in
+    let a = at-site-memory-refusal .before .before .args in
     rw (
       sym (at-site-memory-refusal .site-memory-refusal .ensures) ∙ at-if1 .if1 .left,
-      le-leb _ _
-          (c .if2 .taken),
+      le-leb (a .settings .sites) (a .which) (omega arith),
     )
 
 message-refusal-requires : tie.Need-message-refusal-requires
@@ -32,10 +33,10 @@ returns-3 c =
     let at-if2 = c .before in
     let at-if1 = at-if2 .before .before in
     let at-site-memory-refusal = at-if1 .before in
+    let a = at-site-memory-refusal .before .before .args in
     rw (
       sym (at-site-memory-refusal .site-memory-refusal .ensures) ∙ at-if1 .if1 .left,
-      lt-leb _ _
-          (at-if2 .if2 .left),
+      lt-leb (a .settings .sites) (a .which) (omega arith),
     )
     (c .message-refusal .ensures)
 

@@ -1,9 +1,11 @@
 -- `site_memory::site_memory_refusal` meets its contract: the rows of the chain in their order.
-use mathlib.Core.Path.{_∙_, sym, ap}
-use mathlib.Core.Bool.{Bool, not}
+use Prim.Native.Nat.{ℕ}
+use mathlib.Core.Path.{_≡_, _∙_, sym, ap}
+use mathlib.Core.Bool.{Bool, true, false, not}
 use native.Mathlib.Omega.{arith}
 use borrow.Author.Needs.{needs}
 use Rattle.model.specs.Refusals.{when, _orElse_, accepted, memoryInconsistent}
+use Rattle.model.specs.SiteMemory.{siteMemoryRefusal}
 use Rattle.site_memory.proofs.ConsistencyLaws.{settings-refused, memory-short, memory-tested}
 use Rattle.site_memory.proofs.site_memory_refusal.Statement.{statement}
 use Rattle.site_memory.proofs.site_memory_refusal.Tie as tie
@@ -42,31 +44,32 @@ site-consistent-requires c κs =
       long-enough = omega (arith, at-site-words .site-words .ensures);
     }
 
-returns-3 : tie.Need-returns-3
-returns-3 c =
-    let at-site-consistent = c .before in
-    let at-if1 = at-site-consistent .before .before .before in
+-- What the contract answers, at the place where the consistency was tested.
+abbrev refusalAt : tie.After-site-consistent → ℕ
+refusalAt c =
+    let a = c .before .before .before .before .before .before .args in
+    siteMemoryRefusal (a .settings) (a .site) (a .memory .now)
+
+-- The rows above passed, so the consistency decides.
+by-consistency : (c : tie.After-site-consistent) (passes : Bool)
+    → c .site-consistent .result ≡ passes
+    → (when (not passes) memoryInconsistent orElse accepted) ≡ refusalAt c
+by-consistency c passes test =
+    let at-if1 = c .before .before .before in
     let at-test-settings = at-if1 .before in
     let start = at-test-settings .before .before in
     let a = start .args in
     let tested =
     memory-tested (a .settings) (a .site) (a .memory .now)
     (sym (at-test-settings .test-settings .ensures) ∙ at-if1 .if1 .left) (omega arith) in
-    sym (ap (λ (test : Bool). when (not test) memoryInconsistent orElse accepted)
-    (sym (at-site-consistent .site-consistent .ensures) ∙ c .if3 .taken)) ∙ tested
+    sym (ap (λ (t : Bool). when (not t) memoryInconsistent orElse accepted)
+    (sym (c .site-consistent .ensures) ∙ test)) ∙ tested
+
+returns-3 : tie.Need-returns-3
+returns-3 c = by-consistency (c .before) true (c .if3 .taken)
 
 returns-4 : tie.Need-returns-4
-returns-4 c =
-    let at-site-consistent = c .before in
-    let at-if1 = at-site-consistent .before .before .before in
-    let at-test-settings = at-if1 .before in
-    let start = at-test-settings .before .before in
-    let a = start .args in
-    let tested =
-    memory-tested (a .settings) (a .site) (a .memory .now)
-    (sym (at-test-settings .test-settings .ensures) ∙ at-if1 .if1 .left) (omega arith) in
-    sym (ap (λ (test : Bool). when (not test) memoryInconsistent orElse accepted)
-    (sym (at-site-consistent .site-consistent .ensures) ∙ c .if3 .left)) ∙ tested
+returns-4 c = by-consistency (c .before) false (c .if3 .left)
 
 pub site-memory-refusal-spec : {M : Type 1} → statement M
 site-memory-refusal-spec =

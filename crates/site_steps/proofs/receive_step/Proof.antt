@@ -48,11 +48,6 @@ count-up-to-requires c κs =
     record {
       long-enough = asks .ready .long-enough;
       value-within = omega (arith, asks .value-known probe, valueCount-is);
-      small-sum = omega (
-        arith,
-        asks .ready .site-ready .values-sum,
-        asks .ready .site-ready .arrivals-within,
-      );
     }
 
 make-message-requires-2 : tie.Need-make-message-requires-2

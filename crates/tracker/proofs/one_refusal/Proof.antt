@@ -1,10 +1,7 @@
 -- `tracker::one_refusal` meets its contract: row by row.
-use mathlib.Core.Path.{sym, ap, _∙_}
+use mathlib.Core.Path.{sym, _∙_}
 use native.Mathlib.Omega.{arith}
-use Rattle.model.specs.declared.SiteRecord.{SiteRecord}
-use Rattle.model.specs.Site.{arrivalRefusal}
-use Rattle.site.specs.Calls.{bareSite}
-use Rattle.tracker.proofs.RefusalLaws.{site-known, address-refused, arrival-refused, log-refused, not-refused}
+use Rattle.tracker.proofs.RefusalLaws.{site-known, own-refusal, address-refused, arrival-refused, log-refused, not-refused}
 use borrow.Author.Needs.{needs}
 use Rattle.tracker.proofs.one_refusal.Statement.{statement}
 use Rattle.tracker.proofs.one_refusal.Tie as tie
@@ -15,7 +12,9 @@ address-refusal-requires c κs = search needs
 returns : tie.Need-returns
 returns c =
     let a = c .before .before .args in
-    address-refused (a .settings) (a .sites) (a .arrival) (a .numbers) (a .written) (c .before .address-refusal .result) (c .before .address-refusal .ensures) (c .if1 .taken)
+    let called = c .before .address-refusal in
+    address-refused (a .settings) (a .sites) (a .arrival) (a .numbers) (a .written)
+    (called .result) (called .ensures) (c .if1 .taken)
 
 cast-which : tie.Need-cast-which
 cast-which c = search needs
@@ -26,7 +25,8 @@ record-of-requires c κs =
     let a = start .args in
     omega (
       arith,
-      site-known (a .settings) (a .sites) (a .arrival) (a .numbers) (a .written) (sym (c .before .before .address-refusal .ensures) ∙ c .before .if1 .left),
+      site-known (a .settings) (a .sites) (a .arrival) (a .numbers) (a .written)
+          (sym (c .before .before .address-refusal .ensures) ∙ c .before .if1 .left),
       start .pre .few-sites,
     )
 
@@ -35,10 +35,14 @@ arrival-refusal-requires c κs = search needs
 
 returns-2 : tie.Need-returns-2
 returns-2 c =
-    let a = c .before .before .before .before .before .before .args in
-    let own-is = c .before .arrival-refusal .ensures
-    ∙ ap (λ (r : SiteRecord). arrivalRefusal (a .settings) (bareSite r) (a .arrival)) (c .before .before .record-of .ensures) in
-    arrival-refused (a .settings) (a .sites) (a .arrival) (a .numbers) (a .written) (c .before .arrival-refusal .result) own-is (c .if2 .taken)
+    let called = c .before in
+    let read = called .before in
+    let a = read .before .before .before .before .args in
+    arrival-refused (a .settings) (a .sites) (a .arrival) (a .numbers) (a .written)
+    (called .arrival-refusal .result)
+    (own-refusal (a .settings) (a .sites) (a .arrival) (a .numbers) (a .written)
+    (called .arrival-refusal .ensures) (read .record-of .ensures))
+    (c .if2 .taken)
 
 sub-free : tie.Need-sub-free
 sub-free c = search needs
@@ -54,17 +58,25 @@ add-if3 c = search needs
 
 returns-3 : tie.Need-returns-3
 returns-3 c =
-    let a = c .before .before .before .before .before .before .before .before .args in
-    let own-is = c .before .before .before .arrival-refusal .ensures
-    ∙ ap (λ (r : SiteRecord). arrivalRefusal (a .settings) (bareSite r) (a .arrival)) (c .before .before .before .before .record-of .ensures) in
-    log-refused (a .settings) (a .sites) (a .arrival) (a .numbers) (a .written) (sym own-is ∙ c .before .before .if2 .left) (c .if3 .taken)
+    let tested = c .before .before in
+    let called = tested .before in
+    let read = called .before in
+    let a = read .before .before .before .before .args in
+    let own-is = own-refusal (a .settings) (a .sites) (a .arrival) (a .numbers) (a .written)
+    (called .arrival-refusal .ensures) (read .record-of .ensures) in
+    log-refused (a .settings) (a .sites) (a .arrival) (a .numbers) (a .written)
+    (sym own-is ∙ tested .if2 .left) (c .if3 .taken)
 
 returns-4 : tie.Need-returns-4
 returns-4 c =
-    let a = c .before .before .before .before .before .before .before .before .args in
-    let own-is = c .before .before .before .arrival-refusal .ensures
-    ∙ ap (λ (r : SiteRecord). arrivalRefusal (a .settings) (bareSite r) (a .arrival)) (c .before .before .before .before .record-of .ensures) in
-    not-refused (a .settings) (a .sites) (a .arrival) (a .numbers) (a .written) (sym own-is ∙ c .before .before .if2 .left) (c .if3 .left)
+    let tested = c .before .before in
+    let called = tested .before in
+    let read = called .before in
+    let a = read .before .before .before .before .args in
+    let own-is = own-refusal (a .settings) (a .sites) (a .arrival) (a .numbers) (a .written)
+    (called .arrival-refusal .ensures) (read .record-of .ensures) in
+    not-refused (a .settings) (a .sites) (a .arrival) (a .numbers) (a .written)
+    (sym own-is ∙ tested .if2 .left) (c .if3 .left)
 
 pub one-refusal-spec : {M : Type 1} → statement M
 one-refusal-spec =

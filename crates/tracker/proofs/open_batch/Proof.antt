@@ -18,7 +18,12 @@ same-length-2 c = search needs
 returns : tie.Need-returns
 returns c =
     let a = c .before .before .before .before .before .args in
-    (ap (λ (n : ℕ). opened n (a .sites) (a .coordinator)) (c .network-refusal .ensures), refl, refl)
+    record {
+      answered =
+          ap (λ (n : ℕ). opened n (a .sites) (a .coordinator)) (c .network-refusal .ensures);
+      site-memory-kept = refl;
+      coordinator-memory-kept = refl;
+    }
 
 pub open-batch-spec : {M : Type 1} → statement M
 open-batch-spec = tie.close (tie.spec network-refusal-requires same-length same-length-2 returns)

@@ -5,6 +5,8 @@
 // Each test file uses a part of this module only.
 #![allow(dead_code)]
 
+pub mod batch;
+
 use boundary::UNFIT;
 use reference::coordinator::{self, CoordinatorRecord};
 use reference::message::{Arrival, Message, Outgoing};

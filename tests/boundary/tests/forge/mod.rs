@@ -3,6 +3,8 @@
 // Each test file uses a part of this module only.
 #![allow(dead_code)]
 
+pub mod networks;
+
 use reference::coordinator::{CoordinatorRecord, Phase, MAX_NUMBER};
 use reference::settings::{threshold_of, Settings};
 use reference::site::{SiteRecord, MAX_ARRIVALS};
@@ -110,16 +112,26 @@ pub fn some_site(random: &mut Random) -> Site {
     let mut memory: Vec<u32> = (0..rules.site_memory_len() + random.below(3) as usize)
         .map(|_| random.next() as u32)
         .collect();
+    forge_site_memory(&rules, &record, &mut memory, random);
+    Site { settings, record, memory }
+}
+
+/// Sets the counters in use and the histogram so that they fit the record.
+fn forge_site_memory(
+    rules: &Settings,
+    record: &SiteRecord,
+    memory: &mut [u32],
+    random: &mut Random,
+) {
     let kinds = random.between(1, rules.universe);
-    for counter in memory[..4 * used as usize].chunks_exact_mut(4) {
-        counter.copy_from_slice(&some_counter(&record, kinds, random));
+    for counter in memory[..4 * record.used as usize].chunks_exact_mut(4) {
+        counter.copy_from_slice(&some_counter(record, kinds, random));
     }
     let histogram = &mut memory[rules.counters_len()..rules.site_memory_len()];
     histogram.fill(0);
-    let low = random.below(arrivals + 1) as u32;
+    let low = random.below(record.arrivals + 1) as u32;
     histogram[random.pick(&[0, 1, 511, 512, 1022])] = low;
-    histogram[1023] = arrivals as u32 - low;
-    Site { settings, record, memory }
+    histogram[1023] = record.arrivals as u32 - low;
 }
 
 fn some_counter(record: &SiteRecord, kinds: u32, random: &mut Random) -> [u32; 4] {
@@ -182,7 +194,6 @@ pub struct Coordinator {
 pub fn some_coordinator(random: &mut Random) -> Coordinator {
     let settings = some_settings(random);
     let rules = Settings::from_numbers(settings);
-    let universe = rules.universe as usize;
     let some = random.below(MAX_NUMBER + 1);
     let base = random.pick(&[0, 0, 1, 5, 6, 500, 100_000, some, MAX_NUMBER]);
     let more = random.below(MAX_NUMBER - base + 1);
@@ -197,21 +208,32 @@ pub fn some_coordinator(random: &mut Random) -> Coordinator {
     let quantile = random.pick(&[0, 511, 1023]);
     let signals = u64::from(signals);
     let record = CoordinatorRecord { total, base, threshold, signals, quantile, phase };
+    let memory = forge_coordinator_memory(&rules, &record, random);
+    Coordinator { settings, record, memory }
+}
+
+/// Memory that fits the record, and may be longer than it needs.
+fn forge_coordinator_memory(
+    rules: &Settings,
+    record: &CoordinatorRecord,
+    random: &mut Random,
+) -> Vec<u64> {
+    let universe = rules.universe as usize;
     let mut memory = vec![0; rules.coordinator_memory_len() + random.below(3) as usize];
     for number in &mut memory {
         *number = if random.one_in(40) { any(random).min(MAX_NUMBER) } else { random.below(9) };
     }
-    forge_estimates(&rules, total, &mut memory[..universe], random);
-    if threshold == 1 {
+    forge_estimates(rules, record.total, &mut memory[..universe], random);
+    if record.threshold == 1 {
         let histogram = &mut memory[universe..universe + 1024];
         histogram.fill(0);
-        let low = random.below(total + 1);
+        let low = random.below(record.total + 1);
         histogram[random.pick(&[0, 1, 511, 512, 1022])] = low;
-        histogram[1023] = total - low;
+        histogram[1023] = record.total - low;
     }
     // What lies past the end may be anything.
     memory[rules.coordinator_memory_len()..].fill(u64::MAX);
-    Coordinator { settings, record, memory }
+    memory
 }
 
 /// Some estimates around the list rule's edge: 2000 × number = (2 × phi - epsilon) × total.

@@ -6,7 +6,9 @@ use Rattle.coordinator_tests.proofs.refusals.message_refusal.Statement.
 use Rattle.coordinator_tests.proofs.refusals.message_refusal.Tie as tie
 
 returns : tie.Need-returns
-returns c = λ memory. rw (le-leb _ _ (c .if1 .taken))
+returns c = λ memory.
+    let start = c .before .before .before .args in
+    rw (le-leb (start .settings .sites) (start .message .site) (c .if1 .taken))
 
 not-due-requires : tie.Need-not-due-requires
 not-due-requires c κs = search needs

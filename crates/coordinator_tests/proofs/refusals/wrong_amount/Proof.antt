@@ -62,7 +62,8 @@ returns-7 c = λ settings memory.
     sym
     (wrong-probe-answer (coordinatorIn settings (start .coordinator) memory) (start .message)
     (c .before .before .before .if7 .taken)
-    ∙ rw (rw (c .before .before .asked-value .ensures) at (ne-eqb _ _ (c .if8 .taken))))
+    ∙ rw (rw (c .before .before .asked-value .ensures) at
+    (ne-eqb (start .message .a) (c .before .before .asked-value .result) (c .if8 .taken))))
 
 returns-8 : tie.Need-returns-8
 returns-8 c = λ settings memory.
@@ -72,7 +73,8 @@ returns-8 c = λ settings memory.
     (wrong-probe-answer (coordinatorIn settings (start .coordinator) memory) (start .message)
     (c .before .before .before .before .if7 .taken)
     ∙ rw (rw (c .before .before .before .asked-value .ensures) at
-    (eq-eqb _ _ (c .before .if8 .left))))
+    (eq-eqb (start .message .a) (c .before .before .before .asked-value .result)
+    (c .before .if8 .left))))
 
 returns-9 : tie.Need-returns-9
 returns-9 c = λ settings memory.

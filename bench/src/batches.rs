@@ -1,0 +1,99 @@
+//! Arrivals through the batch call: several settings and streams, at several places of the stream.
+
+use std::hint::black_box;
+use std::time::Instant;
+
+use reference::message::Arrival;
+
+use crate::networks::{lent, Proved, Reference};
+use crate::streams::{Source, Stream, ALL};
+use crate::timing::Times;
+
+/// k, e, p, q, c, u.
+const SETTINGS: [[u32; 6]; 4] = [
+    [1, 1000, 1000, 500, 6, 1000],
+    [4, 60, 80, 900, 100, 10_000],
+    [8, 10, 15, 500, 600, 65_536],
+    [32, 2, 3, 990, 3000, 65_536],
+];
+
+/// Arrivals in a batch.
+const BATCH: usize = 1000;
+/// Where in the stream a batch is timed: after so many arrivals.
+const PLACES: [u64; 4] = [0, 100_000, 1_000_000, 10_000_000];
+/// How often a batch is timed: for about so long, but not less often than this.
+const NANOSECONDS: f64 = 400_000_000.0;
+const ROUNDS: (usize, usize) = (60, 800);
+
+/// The rows up to a place of the stream.
+pub fn measure(last: u64) {
+    println!("| k | c | e | stream | after | messages | proved, ns | reference, ns | ratio |");
+    println!("|---|---|---|---|---|---|---|---|---|");
+    for settings in SETTINGS {
+        for (name, stream) in &ALL[..3] {
+            measure_stream(settings, name, *stream, last);
+        }
+    }
+}
+
+fn measure_stream(settings: [u32; 6], name: &str, stream: Stream, last: u64) {
+    let [k, e, _, _, c, _] = settings;
+    let places = 30 * BATCH + 2 * (23 * k as usize + 2);
+    let mut source = Source::new(stream, settings, 1);
+    let mut network = Reference::start(settings, places);
+    for after in PLACES.into_iter().filter(|&after| after <= last) {
+        while source.sent < after {
+            network.run(&source.take(BATCH));
+        }
+        let arrivals = source.take(BATCH);
+        let (times, messages) = measure_batch(&network, &arrivals);
+        let Times { proved, reference } = times;
+        let ratio = proved / reference;
+        println!(
+            "| {k} | {c} | {e} | {name} | {after} | {messages} | {proved:.0} | {reference:.0} \
+             | {ratio:.2} |"
+        );
+        network.run(&arrivals);
+    }
+}
+
+/// The least time of an arrival in this batch, which both sides take from the same state again and
+/// again, in turns; and the messages that it leads to.
+fn measure_batch(start: &Reference, arrivals: &[Arrival]) -> (Times, usize) {
+    let lent = lent(arrivals);
+    let mut reference = start.clone();
+    let mut proved = Proved::of(start);
+    let mut least = Times { proved: f64::INFINITY, reference: f64::INFINITY };
+    let mut written = 0;
+    let mut spent = 0.0;
+    for round in 0..ROUNDS.1 {
+        for side in 0..2 {
+            if side == round % 2 {
+                proved.restore(start);
+                let time = timed(|| proved.run(black_box(&lent)));
+                least.proved = least.proved.min(time);
+                spent += time;
+            } else {
+                reference.restore(start);
+                let time = timed(|| {
+                    written = reference.run(black_box(arrivals));
+                    written
+                });
+                least.reference = least.reference.min(time);
+            }
+        }
+        if round >= ROUNDS.0 && spent > NANOSECONDS {
+            break;
+        }
+    }
+    proved.check(&reference, written);
+    least.proved /= arrivals.len() as f64;
+    least.reference /= arrivals.len() as f64;
+    (least, written)
+}
+
+fn timed(mut run: impl FnMut() -> usize) -> f64 {
+    let start = Instant::now();
+    black_box(run());
+    start.elapsed().as_nanos() as f64
+}

@@ -1,0 +1,139 @@
+//! A whole network twice: as the batch call of the proved code takes it, and as that of the other
+//! implementation does.
+
+use boundary::Batch;
+use reference::coordinator::{self, CoordinatorRecord};
+use reference::message::{Arrival, Message};
+use reference::network;
+use reference::settings::Settings;
+use reference::site::{self, Sites};
+
+/// The network of the separate implementation.
+#[derive(Clone)]
+pub struct Reference {
+    /// k, e, p, q, c, u.
+    numbers: [u32; 6],
+    pub settings: Settings,
+    pub sites: Sites,
+    pub site_memory: Vec<u32>,
+    pub coordinator: CoordinatorRecord,
+    pub coordinator_memory: Vec<u64>,
+    pub log: Vec<Message>,
+}
+
+impl Reference {
+    /// A network started fresh, with a log of so many records.
+    pub fn start(numbers: [u32; 6], places: usize) -> Reference {
+        let settings = Settings::from_numbers(numbers);
+        let mut site_memory = vec![0; settings.sites_memory_len()];
+        let mut coordinator_memory = vec![0; settings.coordinator_memory_len()];
+        let (refusal, sites) = site::start_sites(&settings, &mut site_memory);
+        assert_eq!(refusal, 0);
+        let (refusal, coordinator) =
+            coordinator::start_coordinator(&settings, &mut coordinator_memory);
+        assert_eq!(refusal, 0);
+        let log = vec![Message::default(); places];
+        Reference { numbers, settings, sites, site_memory, coordinator, coordinator_memory, log }
+    }
+
+    /// A batch that must be taken whole; answers the messages written.
+    pub fn run(&mut self, arrivals: &[Arrival]) -> usize {
+        let answer = network::run_batch(
+            &self.settings,
+            &mut self.sites,
+            &mut self.site_memory,
+            &mut self.coordinator,
+            &mut self.coordinator_memory,
+            arrivals,
+            &mut self.log,
+        );
+        assert_eq!((answer.accepted, answer.refusal), (arrivals.len(), 0));
+        answer.written
+    }
+
+    /// Makes this network the other one again, without another place in memory.
+    pub fn restore(&mut self, other: &Reference) {
+        self.sites = other.sites;
+        self.coordinator = other.coordinator;
+        self.site_memory.copy_from_slice(&other.site_memory);
+        self.coordinator_memory.copy_from_slice(&other.coordinator_memory);
+    }
+}
+
+/// The network of the proved code.
+#[derive(Clone)]
+pub struct Proved {
+    settings: [u32; 6],
+    pub sites: [u64; 129],
+    pub site_memory: Vec<u32>,
+    pub coordinator: [u64; 10],
+    pub coordinator_memory: Vec<u64>,
+    pub log: Vec<u64>,
+}
+
+impl Proved {
+    /// The same network as the other.
+    pub fn of(other: &Reference) -> Proved {
+        let mut proved = Proved {
+            settings: other.numbers,
+            sites: [0; 129],
+            site_memory: other.site_memory.clone(),
+            coordinator: other.coordinator.to_numbers(),
+            coordinator_memory: other.coordinator_memory.clone(),
+            log: vec![0; 4 * other.log.len()],
+        };
+        proved.restore(other);
+        proved
+    }
+
+    /// A batch that must be taken whole; answers the messages written.
+    pub fn run(&mut self, arrivals: &[boundary::Arrival]) -> usize {
+        let mut out = [0; 2];
+        let batch = Batch {
+            sites: &mut self.sites,
+            coordinator: &mut self.coordinator,
+            site_memory: &mut self.site_memory,
+            coordinator_memory: &mut self.coordinator_memory,
+            log: &mut self.log,
+            out: &mut out,
+        };
+        let refusal = boundary::run_batch(&self.settings, arrivals, batch);
+        assert_eq!((out[0], refusal), (arrivals.len() as u64, 0));
+        out[1] as usize
+    }
+
+    /// Makes this network the other one again, without another place in memory.
+    pub fn restore(&mut self, other: &Reference) {
+        self.sites = numbers_of(&other.sites);
+        self.coordinator = other.coordinator.to_numbers();
+        self.site_memory.copy_from_slice(&other.site_memory);
+        self.coordinator_memory.copy_from_slice(&other.coordinator_memory);
+    }
+
+    /// Fails unless records, memory and the messages written last are the same.
+    pub fn check(&self, other: &Reference, written: usize) {
+        assert_eq!(self.sites, numbers_of(&other.sites));
+        assert_eq!(self.coordinator, other.coordinator.to_numbers());
+        assert!(self.site_memory == other.site_memory);
+        assert!(self.coordinator_memory == other.coordinator_memory);
+        let messages = other.log[..written].iter().flat_map(|message| message.to_numbers());
+        assert!(messages.eq(self.log[..4 * written].iter().copied()));
+    }
+}
+
+fn numbers_of(sites: &Sites) -> [u64; 129] {
+    let mut numbers = [0; 129];
+    for (place, record) in numbers.chunks_exact_mut(4).zip(&sites.records) {
+        place.copy_from_slice(&record.to_numbers());
+    }
+    numbers[128] = sites.messages;
+    numbers
+}
+
+/// The same arrivals as the proved code takes them.
+pub fn lent(arrivals: &[Arrival]) -> Vec<boundary::Arrival> {
+    arrivals
+        .iter()
+        .map(|&Arrival { site, item, value }| boundary::Arrival { site, item, value })
+        .collect()
+}

@@ -1,0 +1,182 @@
+-- An arrival at its site, as the code takes it: what the site's step requires, and the site
+-- written to its part of the memory.
+--
+--   site-few, start-small, starts-within    the arrival's site, and where its part starts
+--   observe-asks                            what the site's step requires
+--   site-takes                              what the state holds when the site has taken it
+use mathlib.Core.Path.{_≡_, refl, sym, ap, _∙_, subst⁻¹}
+use mathlib.Core.List.{List, [], _++_, append-nil}
+use Prim.Native.Nat.{ℕ, _+_, _-_, _*_, _≤_, _<_}
+use native.Mathlib.Nat.{mul-le-mul, le-of-lt}
+use native.Mathlib.Omega.{arith}
+use lib.ListN.{length, getD, set, take, drop, length-set, length-drop, drop-of-length-le}
+use lib.Seq.{take-all}
+use Rattle.laws.proofs.Lists.{length-snoc}
+use Rattle.model.specs.declared.Settings.{Settings}
+use Rattle.model.specs.declared.Arrival.{Arrival}
+use Rattle.model.specs.declared.SiteRecord.{SiteRecord}
+use Rattle.model.specs.Counters.{Counter, counterAt, Placement, own, unused, replaced, oneMoreOf, firstOf, replacing, countersAfter}
+use Rattle.model.specs.Site.{Site, SiteStep, observed, placementIn}
+use Rattle.model.specs.SiteMemory.{siteWords, siteIn, siteRecord, siteMemory}
+use Rattle.model.specs.Network.{Network, siteAt}
+use Rattle.model.specs.NetworkMemory.{sitesMemory}
+use Rattle.model.proofs.SoundSites.{ArrivalTaken, sound-observed}
+use Rattle.site_memory.specs.Ready.{SiteReady}
+use Rattle.site_memory.proofs.ValueLaws.{valueCount-is}
+use Rattle.site_steps.specs.declared.Observed.{Observed}
+use Rattle.site_steps.specs.Steps.{ObserveAsks, ObserveStepSays}
+use Rattle.site_steps.proofs.ObserveMemory.{length-countersReported}
+use Rattle.network_memory.specs.Records.{noRecord}
+use Rattle.network_memory.proofs.OneSite.{Storable}
+use Rattle.network_memory.proofs.SitesMemoryLaws.{sitesMemory-set}
+use Rattle.delivery.specs.Sending.{queueOf}
+use Rattle.delivery.specs.Holding.{State, state, Holds, Fits}
+use Rattle.delivery.specs.Arriving.{ArrivalAsks, stepAt, takenAt, Taken, outOf, putBack}
+use Rattle.delivery.proofs.StageNumbers.{site-ready}
+use Rattle.delivery.proofs.HoldingLaws.{Stored, part-long, part-starts, site-read, holds-site}
+use Rattle.delivery.proofs.GoingLaws.{stored-of-sound, going-fit, going-taken}
+
+-- ---- The counters of a site never become fewer
+
+counters-grow : (placement : Placement) (counters : List Counter) (item : ℕ)
+    → length counters ≤ length (countersAfter placement counters item)
+counters-grow (own place) counters item =
+    omega (arith, length-set counters place (oneMoreOf (counterAt counters place)))
+counters-grow unused counters item = rw (length-snoc counters (firstOf item)) (omega arith)
+counters-grow (replaced place) counters item =
+    omega (arith, length-set counters place (replacing (counterAt counters place) item))
+
+observed-grows : (settings : Settings) (site : Site) (arrival : Arrival)
+    → length (site .counters) ≤ length (observed settings site arrival .site .counters)
+observed-grows settings site arrival =
+    omega (
+      arith,
+      length-countersReported settings site arrival,
+      counters-grow (placementIn settings site arrival) (site .counters) (arrival .item),
+    )
+
+-- ---- The arrival
+
+module _ {settings : Settings} {arrival : Arrival} {held : State}
+    (u : ArrivalAsks settings arrival held) where
+  abbrev j : ℕ
+  j = arrival .site
+
+  abbrev fits : Fits settings (u .given)
+  fits = u .accepting .fits
+
+  abbrev site : Site
+  site = siteAt (u .network) j
+
+  abbrev after : SiteStep
+  after = stepAt settings (u .network) arrival
+
+  stored : Stored settings (u .network)
+  stored =
+      let sound = u .accepting .sound in
+      stored-of-sound (sound .all-sites) (sound .sites-sound) (sound .coordinator-sound .numbers)
+
+  site-known : j < settings .sites
+  site-known = going-taken (u .accepting) .known .site-known
+
+  pub site-few : j < 32
+  site-few = omega (arith, site-known, going-fit (u .accepting) .sites .at-most)
+
+  pub start-small : j * siteWords settings ≤ 32 * 13024
+  start-small =
+      let few : settings .capacity ≤ 3000 = going-fit (u .accepting) .capacity .at-most in
+      let words : siteWords settings ≤ 13024 = omega (arith, valueCount-is) in
+      mul-le-mul (le-of-lt site-few) words
+
+  pub starts-within : j * siteWords settings ≤ length (held .siteMemory)
+  starts-within = part-starts fits stored (u .holds) j site-known
+
+  -- The site's record and its part of the memory, as the code names them.
+  module _ (numbers : SiteRecord) (words : ℕ)
+      (numbers-are : numbers ≡ getD (held .underway .sites .records) j noRecord)
+      (words-are : words ≡ siteWords settings) where
+    abbrev part : List ℕ
+    part = take (length (held .siteMemory) - j * words) (drop (j * words) (held .siteMemory))
+
+    part-is : part ≡ drop (j * siteWords settings) (held .siteMemory)
+    part-is =
+        rw words-are
+        (take-all (length (held .siteMemory) - j * siteWords settings)
+        (drop (j * siteWords settings) (held .siteMemory))
+        (omega (arith, length-drop (j * siteWords settings) (held .siteMemory))))
+
+    read : siteIn settings numbers part ≡ site
+    read = rw (numbers-are, part-is) (site-read fits stored (u .holds) j site-known)
+
+    pub observe-asks : ObserveAsks settings numbers arrival part
+    observe-asks = record {
+      ready = record {
+        settings-accepted = fits .settings-accepted;
+        long-enough = rw part-is (part-long fits stored (u .holds) j site-known);
+        site-ready = subst⁻¹ (SiteReady settings) read
+            (site-ready (u .accepting .sound .sites-sound j site-known));
+      };
+      not-refused = rw read (u .accepting .taken);
+    }
+
+    module _ (answer : Observed) (part-after : List ℕ)
+        (says : ObserveStepSays settings numbers arrival part part-after answer) where
+      -- The memory with the part put back in its place.
+      abbrev memory-after : List ℕ
+      memory-after =
+          take (j * words) (held .siteMemory)
+          ++ (part-after
+          ++ drop (length (held .siteMemory) - j * words) (drop (j * words) (held .siteMemory)))
+
+      memory-is : memory-after
+          ≡ sitesMemory settings (set (u .network .sites) j (after .site)) (u .given .siteMemory)
+      memory-is =
+          let start = j * siteWords settings in
+          let memory = held .siteMemory in
+          let nothing-past : drop (length memory - start) (drop start memory) ≡ [] =
+          drop-of-length-le (drop start memory) {i = length memory - start}
+          (omega (arith, length-drop start memory)) in
+          let written : part-after ≡ siteMemory settings (after .site) (drop start memory) =
+          says .memory
+          ∙ ap (λ (x : Site). siteMemory settings (observed settings x arrival .site) part) read
+          ∙ ap (siteMemory settings (after .site)) part-is in
+          let sound = u .accepting .sound .sites-sound j site-known in
+          let sound-after =
+          sound-observed (going-fit (u .accepting) .capacity .at-least) (going-taken (u .accepting))
+          sound in
+          rw (words-are, nothing-past, append-nil part-after, written, u .holds .site-memory)
+          (sitesMemory-set settings (u .network .sites) (u .given .siteMemory) j (after .site)
+          (stored .sites-stored)
+          (record {
+            few-counters = sound-after .few-counters;
+            all-values = sound-after .histogram-length;
+          })
+          (observed-grows settings site arrival)
+          (rw (stored .all-sites) (fits .site-memory-long))
+          (omega (arith, site-known, stored .all-sites)))
+
+      changed : Holds settings (u .given) (u .earlier) (takenAt settings (u .network) arrival)
+          (state (putBack (held .underway) j (answer .site)) memory-after
+          (held .coordinatorMemory) (held .log))
+      changed =
+          let site-is : answer .site ≡ siteRecord (after .site) =
+          says .gathered .site
+          ∙ ap (λ (x : Site). siteRecord (observed settings x arrival .site)) read in
+          holds-site (u .holds) j (after .site) [] (answer .site) (held .underway .waiting)
+          memory-after (omega (arith, site-known, stored .all-sites)) site-is (u .holds .waiting)
+          memory-is
+
+      out-is : outOf answer ≡ queueOf (after .messages)
+      out-is =
+          let gathered = says .gathered in
+          (λ i. record {
+            count = gathered .count i;
+            first = gathered .first i;
+            second = gathered .second i;
+          })
+          ∙ ap (λ (x : Site). queueOf (observed settings x arrival .messages)) read
+
+      pub site-takes : Taken settings (u .given) (u .earlier) (u .network) arrival (outOf answer)
+          (state (putBack (held .underway) j (answer .site)) memory-after
+          (held .coordinatorMemory) (held .log))
+      site-takes = record { accepting = u .accepting; out-is = out-is; holds = changed }

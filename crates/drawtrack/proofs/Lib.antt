@@ -1,0 +1,2 @@
+-- The program's loop ends.
+pub mod ServingLaws

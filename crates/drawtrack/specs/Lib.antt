@@ -1,0 +1,2 @@
+-- What the program's loop is lent, and where it stands.
+pub mod Serving

@@ -1,0 +1,14 @@
+-- Memory that a call was lent and may write to, as a contract speaks of it.
+--
+--   before lent     what it holds when the call starts
+--   after lent      what it holds when the call returns
+use mathlib.Core.List.{List}
+use denote.Ref.{RefT}
+use denote.Triple.Both.{Both}
+
+module _ {A : Type 0} where
+  abbrev pub before : Both (RefT (List A)) (RefT (List A)) → List A
+  before lent = lent .entry .now
+
+  abbrev pub after : Both (RefT (List A)) (RefT (List A)) → List A
+  after lent = lent .exit .now

@@ -1,0 +1,102 @@
+-- The end of the worklist: the call that writes the results does what its definition says.
+--
+--   finish-refused, finish-listed      the two answers
+use mathlib.Core.Path.{_≡_, refl, sym, ap, _∙_}
+use mathlib.Core.List.{List, [], _∷_, _++_}
+use Prim.Native.Nat.{ℕ}
+use lib.ListN.{length, take}
+use lib.Seq.{take-at}
+use borrow.Author.Tests.{eq-eqb, ne-eqb}
+use Rattle.model.specs.declared.Settings.{Settings}
+use Rattle.model.specs.Refusals.{accepted}
+use Rattle.model.specs.SiteMemory.{overwrite}
+use Rattle.model.specs.Coordinator.{Coordinator}
+use Rattle.model.specs.CoordinatorMemory.{coordinatorIn, coordinatorMemoryRefusal}
+use Rattle.model.specs.Reading.{heavyHitters, quantileOf}
+use Rattle.model.specs.Transcript.{endLine, classWord, messagesWord, quantileWord}
+use Rattle.model.proofs.RefusalLaws.{both-accepted}
+use Rattle.transcript.specs.Contracts.{countedLine, listedLine, LineWritten}
+use Rattle.reading.specs.declared.Listed.{Listed}
+use Rattle.reading.specs.declared.QuantileRead.{QuantileRead}
+use Rattle.reading.specs.Contracts.{listRefusal, Lists, ReadsQuantile}
+use Rattle.session.specs.declared.Session.{Session}
+use Rattle.session.specs.declared.Turn.{Turn}
+use Rattle.session.specs.Output.{Written, writtenTo, atStart, lineAfter, linesAfter}
+use Rattle.session.specs.Outcome.{lent, outcome, ended, Refuses, refusedOf}
+use Rattle.session.specs.Advance.{resultLinesOf, Finishes}
+use Rattle.session.proofs.OutputLaws.{line-written}
+
+module _ (session : Session) (memory listBefore listAfter : List ℕ) (listed : Listed)
+    (lists : Lists (session .settings) (session .coordinator) memory listBefore listAfter listed)
+    (before after : List ℕ) (turn : Turn) where
+  abbrev settings : Settings
+  settings = session .settings
+
+  abbrev rule : ℕ
+  rule = listRefusal settings (session .coordinator) memory (length listBefore)
+
+  abbrev c : Coordinator
+  c = coordinatorIn settings (session .coordinator) memory
+
+  pub finish-refused : Refuses session (listed .refusal) before after turn
+      → (listed .refusal ≡ accepted → ⊥)
+      → Finishes session memory listBefore before listAfter after turn
+  finish-refused refuses refused =
+      let some = ne-eqb rule 0 (λ none. refused (lists .refusal ∙ none)) in
+      let same : listAfter ≡ listBefore = rw some at (lists .list) in
+      record {
+        is = λ siteMemory log.
+            refuses .is (lent siteMemory memory log listAfter [])
+            ∙ (λ i. refusedOf session (lists .refusal i)
+            (lent siteMemory memory log (same i) before))
+            ∙ sym (rw some);
+      }
+
+  module _ (none : listed .refusal ≡ accepted) (read : QuantileRead)
+      (reads : ReadsQuantile settings (session .coordinator) memory read) where
+    fine : rule ≡ accepted
+    fine = sym (lists .refusal) ∙ none
+
+    list-is : listAfter ≡ overwrite (heavyHitters settings c) listBefore
+    list-is = lists .list ∙ rw (eq-eqb rule 0 fine)
+
+    items-are : take (listed .count) listAfter ≡ heavyHitters settings c
+    items-are =
+        (λ i. take (count-is i) (list-is i))
+        ∙ take-at (heavyHitters settings c) _ (length (heavyHitters settings c)) refl
+      where
+        count-is : listed .count ≡ length (heavyHitters settings c)
+        count-is = lists .count ∙ rw (eq-eqb rule 0 fine)
+
+    quantile-is : read .quantile ≡ quantileOf settings c
+    quantile-is =
+        let tested = coordinatorMemoryRefusal settings (session .coordinator) memory in
+        reads .quantile
+        ∙ rw (eq-eqb tested 0 (both-accepted tested _ fine .first-accepted))
+
+    pub finish-listed : (out₁ out₂ : List ℕ) (p₁ p₂ p₃ : ℕ)
+        → LineWritten (listedLine (take (listed .count) listAfter)) 0 before out₁ p₁
+        → LineWritten (endLine (classWord ++ quantileWord (read .quantile))) p₁ out₁ out₂ p₂
+        → LineWritten (countedLine messagesWord (session .sites .messages)) p₂ out₂ after p₃
+        → turn ≡ ended session p₃
+        → Finishes session memory listBefore before listAfter after turn
+    finish-listed out₁ out₂ p₁ p₂ p₃ first second third turn-is =
+        let listLine = listedLine (take (listed .count) listAfter) in
+        let classLine = endLine (classWord ++ quantileWord (read .quantile)) in
+        let countLine = countedLine messagesWord (session .sites .messages) in
+        let one = line-written listLine 0 before out₁ p₁ first in
+        let two = line-written classLine p₁ out₁ out₂ p₂ second
+        ∙ ap (λ (w : Written). lineAfter w classLine) one in
+        let three = line-written countLine p₂ out₂ after p₃ third
+        ∙ ap (λ (w : Written). lineAfter w countLine) two in
+        let all : writtenTo p₃ after ≡ linesAfter (atStart before) (resultLinesOf session c) =
+        three
+        ∙ (λ i. linesAfter (atStart before)
+        (listedLine (items-are i)
+        ∷ (endLine (classWord ++ quantileWord (quantile-is i)) ∷ (countLine ∷ [])))) in
+        let ends = turn-is ∙ ap (λ (w : Written). ended session (w .place)) all in
+        record {
+          is = λ siteMemory log.
+              (λ i. outcome (ends i) (lent siteMemory memory log (list-is i) (all i .out)))
+              ∙ sym (rw (eq-eqb rule 0 fine));
+        }

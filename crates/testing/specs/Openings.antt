@@ -1,0 +1,107 @@
+-- What is lent to the calls of the boundary: whether it fits, and the records of its numbers.
+--
+--   Slice, given, lent                           numbers as a call's promise names them
+--   placesLent, siteLent, coordinatorLent        whether what is lent fits
+--   OpensPlaces, OpensSite, OpensCoordinator     the records, all zeros where it does not fit
+use mathlib.Core.Path.{_≡_}
+use mathlib.Core.Bool.{Bool, true, false, _&&_}
+use mathlib.Core.List.{List}
+use Prim.Native.Nat.{ℕ}
+use lib.Dec.{leb}
+use lib.ListN.{length}
+use denote.Ref.{RefT, now}
+use denote.Triple.Both.{Both}
+use Rattle.model.specs.SiteMemory.{overwrite}
+use Rattle.testing.specs.declared.openings.PlacesOpened.{PlacesOpened}
+use Rattle.testing.specs.declared.openings.SiteOpened.{SiteOpened}
+use Rattle.testing.specs.declared.openings.CoordinatorOpened.{CoordinatorOpened}
+use Rattle.testing.specs.Numbers.{settingsFrom, zeroSettings, siteFrom, zeroSite, coordinatorFits, coordinatorFrom, zeroCoordinator}
+
+-- ---- Lent numbers
+
+-- A lent slice of numbers, as a promise names it.
+abbrev pub Slice : Type 0
+Slice = Both (RefT (List ℕ)) (RefT (List ℕ))
+
+-- Its numbers before the call.
+abbrev pub given : Slice → List ℕ
+given numbers = now (numbers .entry)
+
+-- Lent numbers, before the call and after it.
+pub record Lent : Type 0 where
+  pub before : List ℕ
+  pub after : List ℕ
+
+abbrev pub change : List ℕ → List ℕ → Lent
+change before after = record { before = before; after = after }
+
+abbrev pub lent : Slice → Lent
+lent numbers = change (now (numbers .entry)) (now (numbers .exit))
+
+-- Numbers written to the front of lent ones.
+abbrev pub Writes : List ℕ → Lent → Type 0
+Writes written numbers = numbers .after ≡ overwrite written (numbers .before)
+
+-- ---- Whether they fit
+
+-- The settings' numbers, and so many places for an answer of the least number.
+abbrev pub placesLent : List ℕ → ℕ → ℕ → Bool
+placesLent settings places least = leb 6 (length settings) && leb least places
+
+-- The same with the four numbers of a site's record.
+abbrev pub siteLent : List ℕ → List ℕ → ℕ → ℕ → Bool
+siteLent settings site places least = placesLent settings places least && leb 4 (length site)
+
+-- The same with numbers that are a coordinator's record.
+abbrev pub coordinatorLent : List ℕ → List ℕ → ℕ → ℕ → Bool
+coordinatorLent settings numbers places least =
+    placesLent settings places least && coordinatorFits numbers
+
+-- ---- The records
+
+-- The settings.
+abbrev pub placesMade : List ℕ → PlacesOpened
+placesMade settings = record { fits = true; settings = settingsFrom settings }
+
+abbrev pub noPlaces : PlacesOpened
+noPlaces = record { fits = false; settings = zeroSettings }
+
+-- The settings and a site's record.
+abbrev pub siteMade : List ℕ → List ℕ → SiteOpened
+siteMade settings site = record {
+  fits = true;
+  settings = settingsFrom settings;
+  site = siteFrom site;
+}
+
+abbrev pub noSite : SiteOpened
+noSite = record { fits = false; settings = zeroSettings; site = zeroSite }
+
+-- The settings and the coordinator's record.
+abbrev pub coordinatorMade : List ℕ → List ℕ → CoordinatorOpened
+coordinatorMade settings numbers = record {
+  fits = true;
+  settings = settingsFrom settings;
+  coordinator = coordinatorFrom numbers;
+}
+
+abbrev pub noCoordinator : CoordinatorOpened
+noCoordinator = record { fits = false; settings = zeroSettings; coordinator = zeroCoordinator }
+
+pub record OpensPlaces (settings : List ℕ) (places least : ℕ) (opened : PlacesOpened)
+    : Type 0 where
+  pub fits-is : opened .fits ≡ placesLent settings places least
+  pub made : opened .fits ≡ true → opened ≡ placesMade settings
+  pub left : opened .fits ≡ false → opened ≡ noPlaces
+
+pub record OpensSite (settings site : List ℕ) (places least : ℕ) (opened : SiteOpened)
+    : Type 0 where
+  pub fits-is : opened .fits ≡ siteLent settings site places least
+  pub made : opened .fits ≡ true → opened ≡ siteMade settings site
+  pub left : opened .fits ≡ false → opened ≡ noSite
+
+pub record OpensCoordinator (settings numbers : List ℕ) (places least : ℕ)
+    (opened : CoordinatorOpened) : Type 0 where
+  pub fits-is : opened .fits ≡ coordinatorLent settings numbers places least
+  pub made : opened .fits ≡ true → opened ≡ coordinatorMade settings numbers
+  pub left : opened .fits ≡ false → opened ≡ noCoordinator

@@ -1,0 +1,29 @@
+-- A slice that a function was lent, as the machine and the ghost state have it. It says nothing
+-- of the crate.
+--
+--   Lending      the lent slice
+--   listed       the reference under a ghost name, at a list
+--   value        the machine's value of it: the pointer and the length
+use Prim.Native.Nat.{ℕ}
+use mathlib.Core.List.{List}
+use lib.ListN.{length}
+use mir.Val.{Val}
+use base.Fml.{Lft, GName, Share}
+use denote.Ref.{RefT}
+use denote.Slice.{sliceVal}
+
+-- Its lifetime and the share of the lifetime's token, where it points, its ghost name, and the
+-- list.
+pub record Lending (X : Type 0) : Type 0 where
+  pub life : Lft
+  pub share : Share
+  pub block : ℕ
+  pub offset : ℕ
+  pub name : GName
+  pub list : List X
+
+abbrev pub listed : {X : Type 0} → Lending X → GName → List X → RefT (List X)
+listed e δ xs = record { ptr = (e .block, e .offset); name = δ; now = xs }
+
+abbrev pub value : {X : Type 0} → Lending X → Val
+value e = sliceVal (e .block, e .offset) (length (e .list))

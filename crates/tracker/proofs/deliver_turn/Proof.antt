@@ -1,0 +1,47 @@
+-- `tracker::deliver_turn` meets its contract: its messages, sent from a network at rest.
+use mathlib.Core.Path.{refl}
+use Rattle.tracker.proofs.TurnLaws.{messages-ask}
+use Rattle.tracker.proofs.BatchLaws.{holds-delivered}
+use borrow.Author.Needs.{needs}
+use Rattle.tracker.proofs.deliver_turn.Statement.{statement}
+use Rattle.tracker.proofs.deliver_turn.Tie as tie
+
+at-rest-requires : tie.Need-at-rest-requires
+at-rest-requires c κs = search needs
+
+deliver-messages-requires : tie.Need-deliver-messages-requires
+deliver-messages-requires c κs =
+    let rests = c .before .before .before in
+    let start = rests .before .before .before .before .before .before .before in
+    rw (rests .at-rest .ensures) (messages-ask (start .pre))
+
+same-length : tie.Need-same-length
+same-length c = search needs
+
+same-length-2 : tie.Need-same-length-2
+same-length-2 c = search needs
+
+same-length-3 : tie.Need-same-length-3
+same-length-3 c = search needs
+
+returns : tie.Need-returns
+returns c =
+    let delivers = c .before .before .before .before .before .before in
+    let rests = delivers .before .before .before .before in
+    let says = rw (rests .at-rest .ensures) at (delivers .deliver-messages .ensures) in
+    record {
+      next = λ u.
+          holds-delivered (u .batch) (u .arrival) (delivers .deliver-messages .result) _ _ _ _
+          (says .delivers (messages-ask u)) refl (u .accepted-more) refl;
+    }
+
+pub deliver-turn-spec : {M : Type 1} → statement M
+deliver-turn-spec =
+    tie.close
+    (tie.spec
+    at-rest-requires
+    deliver-messages-requires
+    same-length
+    same-length-2
+    same-length-3
+    returns)

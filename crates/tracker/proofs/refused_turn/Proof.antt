@@ -1,0 +1,13 @@
+-- `tracker::refused_turn` meets its contract: a record and messages of zeros.
+use borrow.Author.Needs.{needs}
+use Rattle.tracker.proofs.refused_turn.Statement.{statement}
+use Rattle.tracker.proofs.refused_turn.Tie as tie
+
+empty-queue-requires : tie.Need-empty-queue-requires
+empty-queue-requires c κs = search needs
+
+returns : tie.Need-returns
+returns c = rw (c .empty-queue .ensures)
+
+pub refused-turn-spec : {M : Type 1} → statement M
+refused-turn-spec = tie.close (tie.spec empty-queue-requires returns)

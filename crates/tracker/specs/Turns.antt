@@ -1,0 +1,157 @@
+-- One arrival of the batch call in three parts: its turn at its site, the answer that counts it,
+-- and its messages with full delivery.
+--
+--   refusedTurn number         the turn of a refused arrival
+--   counted answer turn        the answer with a turn in it
+--   TurnAsks, TurnSays         an arrival is refused, or its site takes it
+--   CountAsks                  a turn that can be counted
+--   DeliverAsks, DeliverSays   the messages of a turn
+use mathlib.Core.Path.{_≡_}
+use mathlib.Core.List.{List}
+use Prim.Native.Nat.{ℕ, _+_, _*_, _≤_, _<_}
+use lib.ListN.{length}
+use Rattle.model.specs.declared.Settings.{Settings}
+use Rattle.model.specs.declared.Arrival.{Arrival}
+use Rattle.model.specs.Choice.{if_then_else_, isZero}
+use Rattle.model.specs.Refusals.{accepted}
+use Rattle.model.specs.Limits.{mostSites, siteLimit}
+use Rattle.model.specs.Runs.{Batch}
+use Rattle.network_memory.specs.Records.{noRecord, withRecord}
+use Rattle.delivery.specs.Log.{logRoom}
+use Rattle.delivery.specs.Sending.{nothingWaits}
+use Rattle.delivery.specs.Holding.{Given, state}
+use Rattle.delivery.specs.Arriving.{Taken, putBack}
+use Rattle.tracker.specs.declared.BatchAnswer.{BatchAnswer}
+use Rattle.tracker.specs.declared.Turn.{Turn}
+use Rattle.tracker.specs.Batch.{BatchLent}
+use Rattle.tracker.specs.Steps.{oneRefusal, withOne, underwayOf, BatchHolds, OneAsks, lentOf}
+
+-- ---- The turn
+
+abbrev pub refusedTurn : ℕ → Turn
+refusedTurn number = record {
+  refusal = number;
+  which = 0;
+  site = noRecord;
+  out = nothingWaits;
+}
+
+-- Of lent memory only that of the sites is looked at, and of the log its length.
+pub record TurnAsks
+    (settings : Settings)
+    (answer : BatchAnswer)
+    (numbers : ℕ)
+    (siteMemory : List ℕ) : Type 0 where
+  pub coordinatorMemory : List ℕ
+  pub log : List ℕ
+  pub numbers-are : numbers ≡ length log
+  pub asks : OneAsks settings answer (lentOf siteMemory coordinatorMemory log)
+
+-- "left as it was: all but earlier draws' work"
+pub record RefusedTurn
+    (settings : Settings)
+    (given : Given)
+    (batch : Batch)
+    (arrival : Arrival)
+    (turn : Turn)
+    (siteBefore siteAfter : List ℕ) : Type 0 where
+  pub due : oneRefusal settings (logRoom (given .log)) batch arrival ≡ accepted → ⊥
+  pub turn-is : turn ≡ refusedTurn (oneRefusal settings (logRoom (given .log)) batch arrival)
+  pub memory-kept : siteAfter ≡ siteBefore
+
+-- The arrival's site has taken it, and the answer with that site's record holds so.
+pub record TakenTurn
+    (settings : Settings)
+    (given : Given)
+    (batch : Batch)
+    (arrival : Arrival)
+    (answer : BatchAnswer)
+    (turn : Turn)
+    (lent : BatchLent) : Type 0 where
+  pub none-due : oneRefusal settings (logRoom (given .log)) batch arrival ≡ accepted
+  pub refusal-none : turn .refusal ≡ accepted
+  pub which-is : turn .which ≡ arrival .site
+  pub taken : Taken settings given (batch .messages) (batch .network) arrival (turn .out)
+      (state (putBack (underwayOf answer) (arrival .site) (turn .site)) (lent .siteMemory)
+      (lent .coordinatorMemory) (lent .log))
+
+pub data TurnTold
+    (settings : Settings)
+    (given : Given)
+    (batch : Batch)
+    (arrival : Arrival)
+    (answer : BatchAnswer)
+    (turn : Turn)
+    (siteBefore : List ℕ)
+    (lent : BatchLent) : Type 0 where
+  refused : RefusedTurn settings given batch arrival turn siteBefore (lent .siteMemory)
+      → TurnTold settings given batch arrival answer turn siteBefore lent
+  taken : TakenTurn settings given batch arrival answer turn lent
+      → TurnTold settings given batch arrival answer turn siteBefore lent
+
+-- The turn, whatever batch the answer holds.
+pub record TurnSays
+    (settings : Settings)
+    (arrival : Arrival)
+    (answer : BatchAnswer)
+    (numbers : ℕ)
+    (before : List ℕ)
+    (turn : Turn)
+    (after : List ℕ) : Type 0 where
+  pub told : (coordinatorMemory log : List ℕ)
+      → numbers ≡ length log
+      → (u : OneAsks settings answer (lentOf before coordinatorMemory log))
+      → TurnTold settings (u .given) (u .batch) arrival answer turn before
+      (lentOf after coordinatorMemory log)
+
+-- ---- The answer with a turn in it
+
+abbrev pub oneMore : BatchAnswer → Turn → BatchAnswer
+oneMore answer turn = record {
+  refusal = turn .refusal;
+  accepted = answer .accepted + 1;
+  written = answer .written;
+  sites = withRecord (answer .sites) (turn .which) (turn .site);
+  coordinator = answer .coordinator;
+}
+
+abbrev pub stopped : BatchAnswer → ℕ → BatchAnswer
+stopped answer refusal = record {
+  refusal = refusal;
+  accepted = answer .accepted;
+  written = answer .written;
+  sites = answer .sites;
+  coordinator = answer .coordinator;
+}
+
+abbrev pub counted : BatchAnswer → Turn → BatchAnswer
+counted answer turn =
+    if isZero (turn .refusal) then oneMore answer turn else stopped answer (turn .refusal)
+
+pub record CountAsks (answer : BatchAnswer) (turn : Turn) : Type 0 where
+  pub which-within : turn .which < mostSites
+  pub accepted-within : answer .accepted ≤ mostSites * siteLimit
+
+-- ---- The messages of a turn
+
+pub record DeliverAsks
+    (settings : Settings)
+    (turn : Turn)
+    (answer : BatchAnswer)
+    (lent : BatchLent) : Type 0 where
+  pub given : Given
+  pub batch : Batch
+  pub arrival : Arrival
+  pub accepted-more : answer .accepted ≡ batch .accepted + 1
+  pub taken : Taken settings given (batch .messages) (batch .network) arrival (turn .out)
+      (state (underwayOf answer) (lent .siteMemory) (lent .coordinatorMemory) (lent .log))
+
+pub record DeliverSays
+    (settings : Settings)
+    (turn : Turn)
+    (before : BatchAnswer)
+    (lentBefore : BatchLent)
+    (after : BatchAnswer)
+    (lentAfter : BatchLent) : Type 0 where
+  pub next : (u : DeliverAsks settings turn before lentBefore)
+      → BatchHolds settings (u .given) (withOne settings (u .batch) (u .arrival)) after lentAfter

@@ -1,0 +1,137 @@
+//! The batch call on the proved code and on the separate implementation, through a lent slice of
+//! arrivals as C lays them out.
+
+use boundary::{Batch, UNFIT};
+use reference::coordinator::CoordinatorRecord;
+use reference::message::{Arrival, Message};
+use reference::network::BatchAnswer;
+use reference::refusal;
+use reference::settings::Settings;
+use reference::site::{SiteRecord, Sites};
+
+use super::{fits, with_junk, Both, JUNK};
+use crate::support::TestNetwork;
+
+/// What stands in the separate implementation's log before a call.
+const UNWRITTEN: Message = Message { kind: 99, site: 98, a: 97, b: 96 };
+
+/// What stands in the proved code's log before a call: another number at each place.
+fn canary(place: usize) -> u64 {
+    1_000_000_007 * (place as u64 + 1)
+}
+
+/// The settings as the boundary takes them.
+pub fn numbers_of(settings: &Settings) -> [u32; 6] {
+    let Settings { sites, epsilon, phi, rank, capacity, universe } = *settings;
+    [sites, epsilon, phi, rank, capacity, universe]
+}
+
+/// All sites' records as the boundary takes them, with some numbers more.
+fn site_numbers(sites: &Sites) -> [u64; 131] {
+    let mut numbers = [JUNK; 131];
+    for (place, record) in numbers.chunks_exact_mut(4).zip(&sites.records) {
+        place.copy_from_slice(&record.to_numbers());
+    }
+    numbers[128] = sites.messages;
+    numbers
+}
+
+/// The records of a site's 129 numbers.
+fn sites_of(numbers: &[u64]) -> Sites {
+    let mut sites = Sites { messages: numbers[128], ..Sites::FRESH };
+    for (record, place) in sites.records.iter_mut().zip(numbers.chunks_exact(4)) {
+        *record = SiteRecord::from_numbers([place[0], place[1], place[2], place[3]]);
+    }
+    sites
+}
+
+impl Both {
+    /// The batch call with a log of so many numbers, which need not be a whole number of records.
+    /// Records, both memories, the answer and every place of the log are the same on both sides;
+    /// a call refused when it starts changes nothing. Answers what was written as well.
+    pub fn run_batch(
+        &mut self,
+        network: &mut TestNetwork,
+        arrivals: &[Arrival],
+        log_numbers: usize,
+    ) -> (BatchAnswer, Vec<Message>) {
+        let before = network.clone();
+        let mut proved = network.clone();
+        let mut log: Vec<u64> = (0..log_numbers).map(canary).collect();
+        let (number, out) = proved_batch(&mut proved, arrivals, &mut log);
+
+        let mut written = vec![UNWRITTEN; log_numbers / 4];
+        let answer = if fits(&network.coordinator) {
+            network.run_batch(arrivals, &mut written)
+        } else {
+            BatchAnswer { accepted: 0, written: 0, refusal: UNFIT as u8 }
+        };
+        self.count(number, answer.refusal, "run_batch");
+        let call = || format!("run_batch {:?} {arrivals:?}", before.settings);
+        if answer.refusal == UNFIT as u8 {
+            assert_eq!(out, [JUNK; 3], "{}", call());
+        } else {
+            assert_eq!(out, [answer.accepted as u64, answer.written as u64, JUNK], "{}", call());
+        }
+        assert!(proved == *network, "{}", call());
+        let numbers: Vec<u64> =
+            written[..answer.written].iter().flat_map(|message| message.to_numbers()).collect();
+        let kept = (4 * answer.written..log_numbers).map(canary);
+        assert!(log.iter().copied().eq(numbers.into_iter().chain(kept)), "{}", call());
+        assert!(written[answer.written..].iter().all(|place| *place == UNWRITTEN));
+        if stopped_at_start(answer.refusal) {
+            assert_eq!((answer.accepted, answer.written), (0, 0), "{}", call());
+            assert!(*network == before, "{}", call());
+        }
+        written.truncate(answer.written);
+        (answer, written)
+    }
+}
+
+/// Whether a refusal is tested once, when a batch starts.
+fn stopped_at_start(refusal: u8) -> bool {
+    let at_arrivals = [
+        refusal::ACCEPTED,
+        refusal::UNKNOWN_SITE,
+        refusal::UNKNOWN_ITEM,
+        refusal::UNKNOWN_VALUE,
+        refusal::SITE_FULL,
+        refusal::SHORT_LOG,
+    ];
+    !at_arrivals.contains(&refusal)
+}
+
+/// The call on the proved code: its refusal, and what it left in three numbers.
+fn proved_batch(
+    network: &mut TestNetwork,
+    arrivals: &[Arrival],
+    log: &mut [u64],
+) -> (u32, [u64; 3]) {
+    let lent: Vec<boundary::Arrival> = arrivals
+        .iter()
+        .map(|&Arrival { site, item, value }| boundary::Arrival { site, item, value })
+        .collect();
+    let mut sites = site_numbers(&network.sites);
+    let mut coordinator = with_junk::<10, 12>(network.coordinator.to_numbers());
+    let mut out = [JUNK; 3];
+    let batch = Batch {
+        sites: &mut sites,
+        coordinator: &mut coordinator,
+        site_memory: &mut network.site_memory,
+        coordinator_memory: &mut network.coordinator_memory,
+        log,
+        out: &mut out,
+    };
+    let refusal = boundary::run_batch(&numbers_of(&network.settings), &lent, batch);
+    assert_eq!(sites[129..], [JUNK; 2]);
+    assert_eq!(coordinator[10..], [JUNK; 2]);
+    network.sites = sites_of(&sites);
+    let mut numbers = [0; 10];
+    numbers.copy_from_slice(&coordinator[..10]);
+    network.coordinator = CoordinatorRecord::from_numbers(numbers).expect("a phase");
+    // Numbers that the phase has not are 0.
+    if refusal != UNFIT {
+        assert_eq!(network.coordinator.to_numbers(), numbers);
+    }
+    (refusal, out)
+}

@@ -1,0 +1,152 @@
+//! Document 01's instances P2 to P5 by the batch call on the proved code, and what of a batch does
+//! not fit the boundary.
+
+use boundary::*;
+
+const A: [u32; 6] = [1, 1000, 1000, 500, 6, 10];
+const SITE_WORDS: usize = 4 * 6 + 1024;
+const COORDINATOR_WORDS: usize = 10 + 1024;
+const P2: Arrival = Arrival { site: 0, item: 7, value: 3 };
+
+/// A network under settings A with a log for eight arrivals.
+#[derive(Clone, Debug, PartialEq)]
+struct Network {
+    sites: Vec<u64>,
+    coordinator: Vec<u64>,
+    site_memory: Vec<u32>,
+    coordinator_memory: Vec<u64>,
+    log: Vec<u64>,
+    out: Vec<u64>,
+}
+
+impl Network {
+    fn start() -> Network {
+        let mut network = Network {
+            sites: vec![77; 129],
+            coordinator: vec![77; 10],
+            site_memory: vec![77; SITE_WORDS],
+            coordinator_memory: vec![77; COORDINATOR_WORDS],
+            log: vec![77; 4 * 25 * 8],
+            out: vec![77; 2],
+        };
+        let Network { sites, coordinator, site_memory, coordinator_memory, .. } = &mut network;
+        assert_eq!(start_sites(&A, site_memory, sites), 0);
+        assert_eq!(start_coordinator(&A, coordinator_memory, coordinator), 0);
+        network
+    }
+
+    fn run(&mut self, settings: &[u32], arrivals: &[Arrival]) -> u32 {
+        let batch = Batch {
+            sites: &mut self.sites,
+            coordinator: &mut self.coordinator,
+            site_memory: &mut self.site_memory,
+            coordinator_memory: &mut self.coordinator_memory,
+            log: &mut self.log,
+            out: &mut self.out,
+        };
+        run_batch(settings, arrivals, batch)
+    }
+
+    /// How many messages follow each of these arrivals.
+    fn messages(&mut self, arrivals: &[Arrival]) -> Vec<u64> {
+        let one = |arrival: &Arrival| {
+            assert_eq!(self.run(&A, &[*arrival]), 0);
+            assert_eq!(self.out[0], 1);
+            self.out[1]
+        };
+        arrivals.iter().map(one).collect()
+    }
+
+    fn threshold(&self) -> u64 {
+        self.coordinator[2]
+    }
+}
+
+#[test]
+fn one_draw_of_p2() {
+    let mut network = Network::start();
+    assert_eq!(network.run(&A, &[P2]), 0);
+    assert_eq!(network.out, [1, 5]);
+    let messages = [[1, 0, 7, 1], [2, 0, 1, 3], [3, 0, 0, 0], [4, 0, 0, 0], [7, 0, 1, 1]];
+    assert_eq!(network.log[..20], messages.concat());
+    assert!(network.log[20..].iter().all(|&number| number == 77));
+    assert_eq!(network.sites[128], 5);
+    let (mut list, mut out) = ([77; 3], [77; 2]);
+    let Network { coordinator, coordinator_memory, .. } = &network;
+    assert_eq!(list_heavy_hitters(&A, coordinator, coordinator_memory, &mut list, &mut out), 0);
+    assert_eq!((list, out[0]), ([7, 77, 77], 1));
+    assert_eq!(read_quantile(&A, coordinator, coordinator_memory, &mut out), 0);
+    assert_eq!(out, [1, 3]);
+}
+
+#[test]
+fn six_and_eight_draws_of_p3_and_p4() {
+    let mut network = Network::start();
+    assert_eq!(network.messages(&[P2; 6]), [5, 5, 5, 5, 5, 25]);
+    assert_eq!((network.sites[128], network.threshold()), (50, 2));
+    assert_eq!(network.messages(&[P2; 2]), [0, 25]);
+    assert_eq!(network.threshold(), 2);
+    // The same in one batch.
+    let mut at_once = Network::start();
+    assert_eq!(at_once.run(&A, &[P2; 8]), 0);
+    assert_eq!(at_once.out, [8, 75]);
+    assert_eq!(at_once.sites, network.sites);
+    assert_eq!(at_once.coordinator, network.coordinator);
+    assert_eq!(at_once.site_memory, network.site_memory);
+    assert_eq!(at_once.coordinator_memory, network.coordinator_memory);
+}
+
+#[test]
+fn a_code_leaves_in_p5() {
+    let mut network = Network::start();
+    let arrivals: Vec<Arrival> = (0..7).map(|item| Arrival { site: 0, item, value: 0 }).collect();
+    assert_eq!(network.run(&A, &arrivals), 0);
+    assert_eq!(network.site_memory[..4], [6, 2, 1, 0]);
+    let others = (1..6).flat_map(|item| [item, 1, 0, 1]);
+    assert!(network.site_memory[4..24].iter().copied().eq(others));
+    // It says nothing: the 50 messages are those of the first six, which closed at threshold 2.
+    assert_eq!((network.out[0], network.out[1], network.threshold()), (7, 50, 2));
+}
+
+/// Lent numbers that are too few for the boundary itself: 255, and nothing is changed.
+#[test]
+fn short_arrays_of_a_batch() {
+    let fresh = Network::start();
+    for (sites, coordinator, out, settings) in [
+        (128, 10, 2, 6),
+        (0, 10, 2, 6),
+        (129, 9, 2, 6),
+        (129, 10, 1, 6),
+        (129, 10, 0, 6),
+        (129, 10, 2, 5),
+    ] {
+        let mut network = fresh.clone();
+        network.sites.truncate(sites);
+        network.coordinator.truncate(coordinator);
+        network.out.truncate(out);
+        let before = network.clone();
+        assert_eq!(network.run(&A[..settings], &[P2]), UNFIT);
+        assert_eq!(network, before);
+    }
+    for (place, number) in
+        [(3, 1 << 32), (4, 1 << 32), (5, 4), (6, 1 << 32), (7, 1 << 32), (8, u64::MAX)]
+    {
+        let mut network = fresh.clone();
+        network.coordinator[place] = number;
+        let before = network.clone();
+        assert_eq!(network.run(&A, &[P2]), UNFIT);
+        assert_eq!(network, before);
+    }
+}
+
+/// A log of no records is enough for no arrivals, and 14 for one.
+#[test]
+fn no_log() {
+    let mut network = Network::start();
+    network.log.clear();
+    assert_eq!((network.run(&A, &[]), network.out.clone()), (0, vec![0, 0]));
+    assert_eq!((network.run(&A, &[P2]), network.out.clone()), (14, vec![0, 0]));
+    network.log = vec![77; 4 * 25 - 1];
+    assert_eq!((network.run(&A, &[P2]), network.out.clone()), (14, vec![0, 0]));
+    assert!(network.log.iter().all(|&number| number == 77));
+}

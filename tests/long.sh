@@ -1,0 +1,8 @@
+#!/usr/bin/env bash
+# long.sh [ARRIVALS [SEED]]: long runs of the batch call beside the separate implementation, so many
+# arrivals for each of eight settings (ten million if not given). `rt staticlib testing` first.
+set -eu
+cd "$(dirname "$0")"
+LONG_ARRIVALS="${1:-10000000}" LONG_SEED="${2:-1}" \
+    cargo test --quiet --offline -p boundary --test long -- --ignored --nocapture |
+    grep -v '^seed '

@@ -1,0 +1,129 @@
+//! Sites and coordinator as processes that know nothing of each other but bytes, fed a random
+//! worklist: all messages, list and class, records and memory are those of the batch call on the
+//! same draws. Damaged messages come in between; each is refused by its number and changes nothing.
+
+mod trial;
+
+use boundary::{Arrival, Batch};
+use pipes::{to_bytes, MessageBytes};
+use trial::{Random, Trial};
+
+/// What the batch call makes of a worklist: messages, class and list, and what it leaves.
+struct Batched {
+    messages: Vec<MessageBytes>,
+    read: Vec<u64>,
+    /// Each site's record and memory.
+    sites: Vec<Vec<u64>>,
+    /// The coordinator's record and memory.
+    coordinator: Vec<u64>,
+}
+
+fn batched(settings: [u32; 6], worklist: &[[u32; 3]]) -> Batched {
+    let [k, _, _, _, c, u] = settings.map(|number| number as usize);
+    let site_words = 4 * c + 1024;
+    let (mut site_memory, mut coordinator_memory) = (vec![0; k * site_words], vec![0; u + 1024]);
+    let (mut sites, mut coordinator) = (vec![0; 129], vec![0; 10]);
+    let (mut log, mut out) = (vec![0; 4 * (23 * k + 2) * worklist.len()], [0; 2]);
+    assert_eq!(boundary::start_sites(&settings, &mut site_memory, &mut sites), 0);
+    let refusal = boundary::start_coordinator(&settings, &mut coordinator_memory, &mut coordinator);
+    assert_eq!(refusal, 0);
+    let arrivals: Vec<Arrival> =
+        worklist.iter().map(|&[site, item, value]| Arrival { site, item, value }).collect();
+    let batch = Batch {
+        sites: &mut sites,
+        coordinator: &mut coordinator,
+        site_memory: &mut site_memory,
+        coordinator_memory: &mut coordinator_memory,
+        log: &mut log,
+        out: &mut out,
+    };
+    assert_eq!(boundary::run_batch(&settings, &arrivals, batch), 0);
+    assert_eq!(out, [worklist.len() as u64, sites[128]]);
+    let (mut list, mut quantile, mut count) = (vec![0; u], [0; 2], [0]);
+    let memory = &coordinator_memory;
+    assert_eq!(boundary::read_quantile(&settings, &coordinator, memory, &mut quantile), 0);
+    let refusal =
+        boundary::list_heavy_hitters(&settings, &coordinator, memory, &mut list, &mut count);
+    assert_eq!(refusal, 0);
+    let listed = list[..count[0] as usize].iter().map(|&item| u64::from(item));
+    let site = |number: usize| {
+        let memory = &site_memory[site_words * number..][..site_words];
+        let record = sites[4 * number..][..4].iter().copied();
+        record.chain(memory.iter().map(|&number| u64::from(number))).collect()
+    };
+    Batched {
+        messages: log[..4 * out[1] as usize]
+            .chunks_exact(4)
+            .map(|numbers| to_bytes(pipes::message_of(numbers)))
+            .collect(),
+        read: quantile.into_iter().chain(listed).collect(),
+        sites: (0..k).map(site).collect(),
+        coordinator: [&coordinator[..], memory].concat(),
+    }
+}
+
+/// Few codes are frequent, many rare; classes gather around one that moves.
+fn some_worklist(settings: [u32; 6], draws: u64, random: &mut Random) -> Vec<[u32; 3]> {
+    let [sites, _, _, _, _, universe] = settings.map(u64::from);
+    let draw = |number: u64| {
+        let item_bound = 1 << random.below(12);
+        let item = random.below(item_bound) % universe;
+        let value = (number + random.below(200) + random.below(200)) % 1024;
+        [random.below(sites) as u32, item as u32, value as u32]
+    };
+    (0..draws).map(draw).collect()
+}
+
+/// One network from start to end; answers how often each refusal was met.
+fn run(settings: [u32; 6], draws: u64, seed: u64) -> [u64; 15] {
+    println!("settings {settings:?}, seed {seed}");
+    let worklist = some_worklist(settings, draws, &mut Random(seed));
+    let mut trial = Trial::start(settings, seed + 1);
+    for &draw in &worklist {
+        trial.take(draw);
+    }
+    let expected = batched(settings, &worklist);
+    assert!(trial.messages == expected.messages);
+    assert_eq!(trial.read(), expected.read);
+    let (sites, coordinator) = trial.state();
+    assert!(sites == expected.sites);
+    assert!(coordinator == expected.coordinator);
+    let refused = trial.refused;
+    trial.finish();
+    refused
+}
+
+#[test]
+fn processes_do_as_the_batch_call() {
+    let mut refused = [0; 15];
+    for sites in 1..=8 {
+        for (place, [epsilon, phi, rank, capacity, universe, draws]) in [
+            [1000, 1000, 500, 6, 10, 300],
+            [500, 500, 900, 12, 40, 400],
+            [60, 100, 250, 100, 1000, 250],
+        ]
+        .into_iter()
+        .enumerate()
+        {
+            let settings = [sites, epsilon, phi, rank, capacity, universe];
+            for seed in 0..3 {
+                let seed = 100 * u64::from(sites) + 10 * place as u64 + seed;
+                for (all, now) in refused.iter_mut().zip(run(settings, u64::from(draws), seed)) {
+                    *all += now;
+                }
+            }
+        }
+    }
+    println!("refused {refused:?}");
+    for number in [5, 6, 7, 9, 10] {
+        assert!(refused[number] > 100, "refusal {number}");
+    }
+}
+
+/// No draws at all: nothing is said, nothing listed, and there is no class.
+#[test]
+fn no_draws() {
+    let mut trial = Trial::start([3, 500, 500, 900, 12, 40], 1);
+    assert_eq!(trial.read(), [0, 0]);
+    trial.finish();
+}

@@ -1,11 +1,12 @@
--- `public_delivery::hand_to_site` meets its contract: no site has the number, or by whether the site accepts.
+-- `public_delivery::hand_to_site` meets its contract: no site has the number, or by whether the
+-- site accepts.
 use mathlib.Core.Path.{ap, _∙_}
 use Prim.Native.Nat.{ℕ, _*_}
 use native.Mathlib.Omega.{arith}
 use Rattle.delivery.specs.declared.Queue.{Queue}
 use Rattle.network_tests.proofs.PartLaws.{few-sites, start-small, starts-within}
 use Rattle.public_delivery.specs.Progress.{joinedIf}
-use Rattle.public_delivery.proofs.StepLaws.{site-unknown, site-stops, site-goes}
+use Rattle.public_delivery.proofs.SiteStepLaws.{site-unknown, site-stops, site-goes}
 use borrow.Author.Needs.{needs}
 use Rattle.public_delivery.proofs.hand_to_site.Statement.{statement}
 use Rattle.public_delivery.proofs.hand_to_site.Tie as tie

@@ -43,17 +43,14 @@ pub fn find_counter(memory: &[Word], used: usize, item: Word) -> usize
     found
 }
 
-// Whether a counter comes before another: by count, and of equals by item.
+// Whether a counter comes before another: by count, and of equals by item. Both are compared as one
+// number, count first, so that the scan has no branch on equal counts, which nothing could foresee.
 pub fn is_before(count: Word, item: Word, least_count: Word, least_item: Word) -> bool
     ensures { λ r. ⌜ r ≡ ordered count item «least_count» «least_item» ⌝ }
 {
-    if count < least_count {
-        return true;
-    }
-    if least_count < count {
-        return false;
-    }
-    item < least_item
+    let rank = 4294967296 * (count as u64) + (item as u64);
+    let least = 4294967296 * (least_count as u64) + (least_item as u64);
+    rank < least
 }
 
 // The place of the least count, of equals the one of the least item. Internal, as `find_counter`.

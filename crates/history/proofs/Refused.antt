@@ -2,6 +2,7 @@
 -- memory as they were given, and putting them back changes nothing. For every state, arisen or
 -- not.
 --
+--   part-same        a part of a memory put back as it was
 --   refused-same     the state after such a call
 use mathlib.Core.Path.{_≡_, refl, sym, ap, _∙_}
 use mathlib.Core.List.{List, _++_}
@@ -21,7 +22,7 @@ use Rattle.history.proofs.Answers.{refused-choice}
 use Rattle.history.proofs.EmptyBatch.{batch-same}
 
 -- A part of a memory put back as it was.
-part-same : (memory : List ℕ) (start words : ℕ)
+pub part-same : (memory : List ℕ) (start words : ℕ)
     → withPart memory start words (take words (drop start memory)) ≡ memory
 part-same memory start words =
     ap (λ (behind : List ℕ). take start memory ++ behind)

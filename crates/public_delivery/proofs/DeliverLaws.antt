@@ -19,7 +19,7 @@ use Rattle.history.specs.State.{State}
 use Rattle.history.specs.Histories.{no-step, delivered}
 use Rattle.public_delivery.specs.declared.Progress.{Progress}
 use Rattle.public_delivery.specs.Progress.{goesOn, mayGoOn, isDue, Stands}
-use Rattle.public_delivery.specs.Steps.{Stepped, goes, stops, DueAsks, StepSays, Came}
+use Rattle.public_delivery.specs.Steps.{Stepped, goes, stops, StepSays, Came}
 
 -- ---- What is due
 

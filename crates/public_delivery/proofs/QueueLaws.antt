@@ -5,7 +5,7 @@
 --   few-without-head                one at most waits behind the head
 --   queued-joined, few-joined       the message of an answer waits last
 --   queue-two                       the messages of an arrival's answer
-use mathlib.Core.Path.{_≡_, refl, sym, ap, _∙_}
+use mathlib.Core.Path.{_≡_, refl, sym}
 use mathlib.Core.Bool.{false}
 use mathlib.Core.List.{List, [], _∷_, _++_, append-nil}
 use Prim.Native.Nat.{ℕ, zero, suc, _≤_, _<_}

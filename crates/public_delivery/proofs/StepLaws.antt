@@ -1,41 +1,30 @@
 -- A call that is accepted is a step of delivery from every state that the progress stands for; one
 -- that is refused leaves that state, and was due.
 --
+--   stopped                                a call that is refused, whichever it is
 --   ask-goes, ask-stops                    the next kind 7
 --   coordinator-goes, coordinator-stops    a message at the coordinator
---   site-goes, site-stops, site-unknown    a message at a site
+-- A message at a site: SiteStepLaws.antt.
 use mathlib.Core.Path.{_≡_, refl, sym, ap, _∙_, subst}
-use mathlib.Core.Bool.{true, false}
-use mathlib.Core.List.{List, [], _∷_, _++_}
-use Prim.Native.Nat.{ℕ, suc, _-_, _*_, _≤_, _<_}
-use native.Mathlib.Nat.{mul-le-mul-right}
+use mathlib.Core.Bool.{true}
+use mathlib.Core.List.{List, _∷_, _++_}
+use Prim.Native.Nat.{ℕ, _≤_}
 use native.Mathlib.Omega.{arith}
-use lib.Dec.{leb}
-use lib.ListN.{length, take, drop}
-use borrow.Author.Tests.{leb-false}
 use Rattle.model.specs.declared.Settings.{Settings}
 use Rattle.model.specs.declared.Message.{Message}
-use Rattle.model.specs.declared.SiteRecord.{SiteRecord}
-use Rattle.model.specs.declared.Sites.{Sites}
-use Rattle.model.specs.Refusals.{when, _orElse_, accepted, unknownSite}
-use Rattle.model.specs.Site.{siteMessageRefusal}
-use Rattle.model.specs.SiteMemory.{siteWords, siteIn, siteMemoryRefusal}
+use Rattle.model.specs.Refusals.{accepted}
 use Rattle.model.specs.Coordinator.{isAnnouncing}
 use Rattle.delivery.specs.declared.Queue.{Queue}
 use Rattle.delivery.specs.Sending.{withoutHead}
-use Rattle.model.proofs.RefusalLaws.{both-accepted, passed}
-use Rattle.network_tests.specs.Contracts.{SitesFit}
-use Rattle.site_steps.specs.declared.Answered.{Answered}
-use Rattle.site.specs.Calls as SiteCalls
 use Rattle.coordinator.specs.declared.Received.{Received}
 use Rattle.coordinator.specs.Calls as CoordinatorCalls
-use Rattle.history.specs.State.{Held, State, recordAt, sitePart, withRecord, afterSiteCall, afterCoordinatorCall, sending}
-use Rattle.history.specs.Histories.{Delivers, to-coordinator, to-site, next-announcement, answeredOut, receivedOut}
+use Rattle.history.specs.State.{Held, State, afterCoordinatorCall, sending}
+use Rattle.history.specs.Histories.{to-coordinator, next-announcement, receivedOut}
 use Rattle.history.proofs.Answers.{refused-choice}
 use Rattle.public_delivery.specs.declared.Progress.{Progress}
-use Rattle.public_delivery.specs.Progress.{refusedWith, recordIn, heldBy, queued, joinedIf, Stands}
-use Rattle.public_delivery.specs.Steps.{Blocked, coordinator-refuses, site-refuses, announcement-refused, Stepped, goes, stops, AskAsks, HandAsks, StepSays}
-use Rattle.public_delivery.proofs.QueueLaws.{queued-none, queued-head, few-without-head, queued-joined, few-joined}
+use Rattle.public_delivery.specs.Progress.{refusedWith, heldBy, queued, joinedIf, Stands}
+use Rattle.public_delivery.specs.Steps.{Blocked, coordinator-refuses, announcement-refused, goes, stops, AskAsks, HandAsks, StepSays}
+use Rattle.public_delivery.proofs.QueueLaws.{queued-head, few-without-head, queued-joined, few-joined}
 
 -- What is held by a progress.
 abbrev heldIn : Progress → List ℕ → List ℕ → Held
@@ -43,7 +32,7 @@ heldIn progress = heldBy (progress .sites) (progress .coordinator)
 
 -- A call is refused that every state says is due; it left the memory as it was.
 module _ {settings : Settings} {siteMemory before : List ℕ} (progress : Progress) where
-  stopped : (refusal : ℕ) (after : List ℕ)
+  pub stopped : (refusal : ℕ) (after : List ℕ)
       → progress .waiting .count ≤ 2
       → (refusal ≡ accepted → ⊥)
       → after ≡ before
@@ -108,7 +97,8 @@ module _ {settings : Settings} {memory : List ℕ} {progress : Progress} (asks :
       steps = λ state stands.
           goes
           (sending state
-          (afterCoordinatorCall (state .held) (answer .coordinator) (state .held .coordinatorMemory))
+          (afterCoordinatorCall (state .held) (answer .coordinator)
+          (state .held .coordinatorMemory))
           (state .waiting) (receivedOut answer))
           (next-announcement answer
           (subst (λ (held : Held).
@@ -206,140 +196,3 @@ module _ {settings : Settings} {before after : List ℕ} {progress : Progress}
           })
           (asks .not-refused);
     }
-
--- ---- A message at a site
-
--- What a site accepts names one of the sites.
-known-of-accepted : (settings : Settings) (which first later : ℕ)
-    → (first orElse (when (leb (settings .sites) which) unknownSite orElse later)) ≡ accepted
-    → which < settings .sites
-known-of-accepted settings which first later none =
-    leb-false (settings .sites) which
-    (passed (leb (settings .sites) which) unknownSite later (omega arith)
-    (both-accepted first _ none .later-accepted)
-    .test-failed)
-
-module _ {settings : Settings} {siteMemory : List ℕ} {progress : Progress}
-    (fits : SitesFit settings siteMemory) (asks : HandAsks false progress) where
-  abbrev message : Message
-  message = progress .waiting .first
-
-  abbrev j : ℕ
-  j = message .site
-
-  abbrev behind : List Message
-  behind = queued (withoutHead (progress .waiting))
-
-  message-waits : queued (progress .waiting) ≡ message ∷ behind
-  message-waits = queued-head (progress .waiting) (asks .few) (asks .some)
-
-  few-behind : withoutHead (progress .waiting) .count ≤ 1
-  few-behind = few-without-head (progress .waiting) (asks .few)
-
-  -- No site has that number.
-  pub site-unknown : settings .sites ≤ j
-      → (memory : List ℕ)
-      → StepSays settings siteMemory memory memory progress (refusedWith progress unknownSite)
-  site-unknown none-such memory =
-      stopped progress unknownSite memory (asks .few) (λ none. omega arith) refl
-      (λ state stands.
-      site-refuses message behind (siteWords settings) (stands .waiting-are ∙ message-waits)
-      (asks .way-is) (omega arith)
-      (λ none.
-      let numbers = recordAt (state .held) j in
-      let part = sitePart settings (state .held) j (siteWords settings) in
-      let known = known-of-accepted settings j (siteMemoryRefusal settings numbers part)
-      (siteMessageRefusal settings (siteIn settings numbers part) j message) none in
-      omega (arith, known, none-such)))
-
-  -- The site's record and its part of the memory, as the code names them.
-  module _ (known : j < settings .sites) (numbers : SiteRecord) (words : ℕ)
-      (numbers-are : numbers ≡ recordIn (progress .sites) j)
-      (words-are : words ≡ siteWords settings)
-      (answer : Answered)
-      (says : SiteCalls.ReceiveSays settings numbers j message
-      (take (length siteMemory - j * words) (drop (j * words) siteMemory)) answer) where
-    abbrev rest : ℕ
-    rest = length siteMemory - j * siteWords settings
-
-    long : siteWords settings ≤ rest
-    long =
-        let more : suc j * siteWords settings ≤ settings .sites * siteWords settings =
-        mul-le-mul-right (siteWords settings) known in
-        omega (arith, more, fits .long-enough)
-
-    says-here : (held : Held)
-        → held .sites ≡ progress .sites
-        → held .siteMemory ≡ siteMemory
-        → SiteCalls.ReceiveSays settings (recordAt held j) j message (sitePart settings held j rest)
-        answer
-    says-here held sites-are memory-is =
-        let at-words = subst (λ (w : ℕ). SiteCalls.ReceiveSays settings numbers j message
-        (take (length siteMemory - j * w) (drop (j * w) siteMemory)) answer) words-are says in
-        let at-record = subst (λ (r : SiteRecord). SiteCalls.ReceiveSays settings r j message
-        (take rest (drop (j * siteWords settings) siteMemory)) answer) numbers-are at-words in
-        let at-sites = subst (λ (s : Sites). SiteCalls.ReceiveSays settings (recordIn s j) j message
-        (take rest (drop (j * siteWords settings) siteMemory)) answer) (sym sites-are) at-record in
-        subst (λ (m : List ℕ). SiteCalls.ReceiveSays settings (recordAt held j) j message
-        (take rest (drop (j * siteWords settings) m)) answer) (sym memory-is) at-sites
-
-    module _ {memory : List ℕ} (state : State) (stands : Stands state progress siteMemory memory)
-      where
-        says-of : SiteCalls.ReceiveSays settings (recordAt (state .held) j) j message
-            (sitePart settings (state .held) j rest) answer
-        says-of =
-            says-here (state .held) (ap (λ (held : Held). held .sites) (stands .held-is))
-            (ap (λ (held : Held). held .siteMemory) (stands .held-is))
-
-    pub site-stops : (answer .refusal ≡ accepted → ⊥)
-        → (memory : List ℕ)
-        → StepSays settings siteMemory memory memory progress
-        (refusedWith progress (answer .refusal))
-    site-stops refused memory =
-        stopped progress (answer .refusal) memory (asks .few) refused refl
-        (λ state stands.
-        site-refuses message behind rest (stands .waiting-are ∙ message-waits) (asks .way-is) long
-        (λ none. refused (says-of state stands .refusal ∙ none)))
-
-    module _ (sites : Sites) (queue : Queue)
-        (sites-are : sites ≡ withRecord (progress .sites) j (answer .site))
-        (queue-is : queue
-        ≡ joinedIf (answer .count) (withoutHead (progress .waiting)) (answer .reply)) where
-      abbrev replied : Progress
-      replied = record {
-        sites = sites;
-        coordinator = progress .coordinator;
-        waiting = queue;
-        refusal = progress .refusal;
-        left = progress .left;
-      }
-
-      pub site-goes : answer .refusal ≡ accepted
-          → (memory : List ℕ)
-          → StepSays settings siteMemory memory memory progress replied
-      site-goes accepts memory = record {
-        few =
-            subst (λ (q : Queue). q .count ≤ 2) (sym queue-is)
-            (few-joined (answer .count) (withoutHead (progress .waiting)) (answer .reply)
-            few-behind);
-        left-is = refl;
-        steps = λ state stands.
-            goes
-            (sending state
-            (afterSiteCall (state .held) j (answer .site) (state .held .siteMemory)) behind
-            (answeredOut answer))
-            (to-site message behind rest answer (stands .waiting-are ∙ message-waits)
-            (asks .way-is) (says-of state stands) accepts)
-            (record {
-              held-is =
-                  ap (λ (held : Held). afterSiteCall held j (answer .site) (held .siteMemory))
-                  (stands .held-is)
-                  ∙ ap (λ (s : Sites). heldBy s (progress .coordinator) siteMemory memory)
-                  (sym sites-are);
-              waiting-are =
-                  sym (queued-joined (answer .count) (withoutHead (progress .waiting))
-                  (answer .reply) few-behind)
-                  ∙ ap queued (sym queue-is);
-            })
-            (asks .not-refused);
-      }

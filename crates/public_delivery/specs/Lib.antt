@@ -1,3 +1,4 @@
 -- A full delivery by the public calls, as steps of a history.
 pub mod Progress
 pub mod Steps
+pub mod Delivery

@@ -44,7 +44,8 @@ module _ (session : Session) (read step : Step) (is : read ≡ step) (given : Le
     pub line-end : (listAfter after : List ℕ)
         → read .found ≡ false
         → read .refusal ≡ accepted
-        → Finishes session (given .coordinatorMemory) (given .list) (given .out) listAfter after turn
+        → Finishes session (given .coordinatorMemory) (given .list) (given .out) listAfter after
+        turn
         → LineSays session step given
         (lent (given .siteMemory) (given .coordinatorMemory) (given .log) listAfter after) turn
     line-end listAfter after none fine ends = same-says _ (record {

@@ -9,12 +9,14 @@ use Rattle.drawtrack.proofs.serve.Statement.{statement}
 use Rattle.drawtrack.proofs.serve.Tie as tie
 
 abbrev Inv-loop : tie.InvT-loop
-Inv-loop input site-memory₀ coordinator-memory₀ log₀ list₀ out₀ session₀ turns₀ site-memory coordinator-memory log list out session turns =
+Inv-loop input site-memory₀ coordinator-memory₀ log₀ list₀ out₀ session₀ turns₀ site-memory
+    coordinator-memory log list out session turns =
     Serving input site-memory₀ coordinator-memory₀ log₀ list₀ out₀ site-memory coordinator-memory
     log list out session turns
 
 abbrev μ-loop : tie.MeasureT-loop
-μ-loop input site-memory₀ coordinator-memory₀ log₀ list₀ out₀ session₀ turns₀ site-memory coordinator-memory log list out session turns =
+μ-loop input site-memory₀ coordinator-memory₀ log₀ list₀ out₀ session₀ turns₀ site-memory
+    coordinator-memory log list out session turns =
     8241 - turns
 
 begin-requires : tie.Need-begin-requires Inv-loop μ-loop

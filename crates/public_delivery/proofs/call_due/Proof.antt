@@ -1,4 +1,5 @@
--- `public_delivery::call_due` meets its contract: by what was refused, what is left, what waits, then by phase.
+-- `public_delivery::call_due` meets its contract: by what was refused, what is left, what waits,
+-- then by phase.
 use borrow.Author.Tests.{eq-eqb, ne-eqb}
 use borrow.Author.Needs.{needs}
 use Rattle.public_delivery.proofs.call_due.Statement.{statement}

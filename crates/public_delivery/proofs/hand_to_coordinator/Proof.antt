@@ -38,7 +38,9 @@ returns-2 c =
     let start = c .before .before .before .before .before .before .before .before .before .before .before .before .before .before in
     let answer = c .before .before .before .before .before .before .before .before .receive in
     coordinator-goes (start .pre) (answer .result) (answer .ensures) (c .join-answer .result)
-    (c .join-answer .ensures ∙ ap (λ (q : Queue). joinedIf (answer .result .count) q (answer .result .out)) (c .before .take-head .ensures))
+    (c .join-answer .ensures
+    ∙ ap (λ (q : Queue). joinedIf (answer .result .count) q (answer .result .out))
+    (c .before .take-head .ensures))
     (c .before .before .before .before .if1 .left)
 
 pub hand-to-coordinator-spec : {M : Type 1} → statement M

@@ -1,11 +1,12 @@
--- `public_delivery::hand_to_site` meets its contract: no site has the number, or by whether the site accepts.
+-- `public_delivery::hand_to_site` meets its contract: no site has the number, or by whether the
+-- site accepts.
 use mathlib.Core.Path.{ap, _∙_}
 use Prim.Native.Nat.{ℕ, _*_}
 use native.Mathlib.Omega.{arith}
 use Rattle.delivery.specs.declared.Queue.{Queue}
-use Rattle.network_tests.proofs.PartLaws.{few-sites, start-small, starts-within}
+use Rattle.network_tests.proofs.PartLaws.{site-few, starts-small, starts-within}
 use Rattle.public_delivery.specs.Progress.{joinedIf}
-use Rattle.public_delivery.proofs.StepLaws.{site-unknown, site-stops, site-goes}
+use Rattle.public_delivery.proofs.SiteStepLaws.{site-unknown, site-stops, site-goes}
 use borrow.Author.Needs.{needs}
 use Rattle.public_delivery.proofs.hand_to_site.Statement.{statement}
 use Rattle.public_delivery.proofs.hand_to_site.Tie as tie
@@ -32,7 +33,7 @@ mul-start c =
     let known = c .before .before .if1 .left in
     let j = start .args .progress .waiting .first .site in
     let at-start = ap (λ (z : ℕ). j * z) (c .site-words .ensures) in
-    omega (arith, start-small (start .pre .0) j known, at-start)
+    omega (arith, starts-small (start .pre .0) j known, at-start)
 
 mul-part : tie.Need-mul-part
 mul-part c =
@@ -40,7 +41,7 @@ mul-part c =
     let known = c .before .before .if1 .left in
     let j = start .args .progress .waiting .first .site in
     let at-start = ap (λ (z : ℕ). j * z) (c .site-words .ensures) in
-    omega (arith, start-small (start .pre .0) j known, at-start)
+    omega (arith, starts-small (start .pre .0) j known, at-start)
 
 sub-part : tie.Need-sub-part
 sub-part c =
@@ -64,7 +65,7 @@ part-part-end c = search needs
 record-at-requires : tie.Need-record-at-requires
 record-at-requires c κs =
     let start = c .before .before .before .before .before .before .before .before .before .before in
-    omega (arith, c .before .before .before .if1 .left, few-sites (start .pre .0))
+    site-few (start .pre .0) _ (c .before .before .before .if1 .left)
 
 receive-requires : tie.Need-receive-requires
 receive-requires c κs = search needs
@@ -87,7 +88,8 @@ returns-2 c =
 with-record-requires : tie.Need-with-record-requires
 with-record-requires c κs =
     let start = c .before .before .before .before .before .before .before .before .before .before .before .before .before .before .before .before in
-    omega (arith, c .before .before .before .before .before .before .before .before .before .if1 .left, few-sites (start .pre .0))
+    site-few (start .pre .0) _
+    (c .before .before .before .before .before .before .before .before .before .if1 .left)
 
 take-head-requires : tie.Need-take-head-requires
 take-head-requires c κs = search needs

@@ -1,4 +1,5 @@
--- `public_delivery::take_step` meets its contract: nothing waits, or the head is for the coordinator, or for a site.
+-- `public_delivery::take_step` meets its contract: nothing waits, or the head is for the
+-- coordinator, or for a site.
 use mathlib.Core.Path.{sym, _∙_}
 use denote.Ref.{now}
 use borrow.Author.Needs.{needs}

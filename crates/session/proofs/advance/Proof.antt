@@ -60,7 +60,8 @@ returns-2 c =
     (start .list .now) (start .out .now) in
     record {
       line = line-malformed (start .session) (read .read-at .result) _ (read .read-at .ensures)
-          given _ _ (tested .if1 .left) (refused .before .before .if2 .taken) (refused .refuse .ensures);
+          given _ _ (tested .if1 .left) (refused .before .before .if2 .taken)
+          (refused .refuse .ensures);
       lengths = record {
         site-memory = refl;
         coordinator-memory = refl;

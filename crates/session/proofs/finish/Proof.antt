@@ -56,10 +56,12 @@ returns-2 c =
     let classed = counted .before .before .before .before in
     let written = classed .before .before .before .before in
     let read = written .before .before .before .before in
-    let listed = read .before .before .before .before .before .list-heavy-hitters in
-    finish-listed _ _ _ _ (listed .result) (listed .ensures) _ _ _ (read .before .if1 .left)
-    (read .read-quantile .result) (read .read-quantile .ensures) _ _ _ _ _
-    (written .write-listed .ensures) (classed .write-class .ensures)
+    let called = read .before .before .before .before .before in
+    let start = called .before .before .before .before .before .before .before .args in
+    let listed = called .list-heavy-hitters in
+    finish-listed (start .session) _ _ _ (listed .result) (listed .ensures) _ _ _
+    (read .before .if1 .left) (read .read-quantile .result) (read .read-quantile .ensures) _ _ _ _
+    _ (written .write-listed .ensures) (classed .write-class .ensures)
     (counted .write-count .ensures) (c .stop .ensures)
 
 pub finish-spec : {M : Type 1} → statement M

@@ -1,0 +1,169 @@
+-- A message at a site, as a step of delivery: accepted, refused, or for no site at all.
+--
+--   known-of-accepted     what a site accepts names one of the sites
+--   site-goes, site-stops, site-unknown
+-- Letter: j the site that the message names.
+use mathlib.Core.Path.{_≡_, refl, sym, ap, _∙_, subst}
+use mathlib.Core.Bool.{false}
+use mathlib.Core.List.{List, _∷_}
+use Prim.Native.Nat.{ℕ, suc, _-_, _*_, _≤_, _<_}
+use native.Mathlib.Nat.{mul-le-mul-right}
+use native.Mathlib.Omega.{arith}
+use lib.Dec.{leb}
+use lib.ListN.{length, take, drop}
+use borrow.Author.Tests.{leb-false}
+use Rattle.model.specs.declared.Settings.{Settings}
+use Rattle.model.specs.declared.Message.{Message}
+use Rattle.model.specs.declared.SiteRecord.{SiteRecord}
+use Rattle.model.specs.declared.Sites.{Sites}
+use Rattle.model.specs.Refusals.{when, _orElse_, accepted, unknownSite}
+use Rattle.model.specs.Site.{siteMessageRefusal}
+use Rattle.model.specs.SiteMemory.{siteWords, siteIn, siteMemoryRefusal}
+use Rattle.delivery.specs.declared.Queue.{Queue}
+use Rattle.delivery.specs.Sending.{withoutHead}
+use Rattle.model.proofs.RefusalLaws.{both-accepted, passed}
+use Rattle.network_tests.specs.Contracts.{SitesFit}
+use Rattle.site_steps.specs.declared.Answered.{Answered}
+use Rattle.site.specs.Calls as SiteCalls
+use Rattle.history.specs.State.{Held, State, recordAt, sitePart, withRecord, afterSiteCall, sending}
+use Rattle.history.specs.Histories.{to-site, answeredOut}
+use Rattle.public_delivery.specs.declared.Progress.{Progress}
+use Rattle.public_delivery.specs.Progress.{refusedWith, recordIn, heldBy, queued, joinedIf, Stands}
+use Rattle.public_delivery.specs.Steps.{site-refuses, goes, HandAsks, StepSays}
+use Rattle.public_delivery.proofs.QueueLaws.{queued-head, few-without-head, queued-joined, few-joined}
+use Rattle.public_delivery.proofs.StepLaws.{stopped}
+
+-- What a site accepts names one of the sites.
+known-of-accepted : (settings : Settings) (which first later : ℕ)
+    → (first orElse (when (leb (settings .sites) which) unknownSite orElse later)) ≡ accepted
+    → which < settings .sites
+known-of-accepted settings which first later none =
+    leb-false (settings .sites) which
+    (passed (leb (settings .sites) which) unknownSite later (omega arith)
+    (both-accepted first _ none .later-accepted)
+    .test-failed)
+
+module _ {settings : Settings} {siteMemory : List ℕ} {progress : Progress}
+    (fits : SitesFit settings siteMemory) (asks : HandAsks false progress) where
+  abbrev message : Message
+  message = progress .waiting .first
+
+  abbrev j : ℕ
+  j = message .site
+
+  abbrev behind : List Message
+  behind = queued (withoutHead (progress .waiting))
+
+  message-waits : queued (progress .waiting) ≡ message ∷ behind
+  message-waits = queued-head (progress .waiting) (asks .few) (asks .some)
+
+  few-behind : withoutHead (progress .waiting) .count ≤ 1
+  few-behind = few-without-head (progress .waiting) (asks .few)
+
+  -- No site has that number.
+  pub site-unknown : settings .sites ≤ j
+      → (memory : List ℕ)
+      → StepSays settings siteMemory memory memory progress (refusedWith progress unknownSite)
+  site-unknown none-such memory =
+      stopped progress unknownSite memory (asks .few) (λ none. omega arith) refl
+      (λ state stands.
+      site-refuses message behind (siteWords settings) (stands .waiting-are ∙ message-waits)
+      (asks .way-is) (omega arith)
+      (λ none.
+      let numbers = recordAt (state .held) j in
+      let part = sitePart settings (state .held) j (siteWords settings) in
+      let known = known-of-accepted settings j (siteMemoryRefusal settings numbers part)
+      (siteMessageRefusal settings (siteIn settings numbers part) j message) none in
+      omega (arith, known, none-such)))
+
+  -- The site's record and its part of the memory, as the code names them.
+  module _ (known : j < settings .sites) (numbers : SiteRecord) (words : ℕ)
+      (numbers-are : numbers ≡ recordIn (progress .sites) j)
+      (words-are : words ≡ siteWords settings)
+      (answer : Answered)
+      (says : SiteCalls.ReceiveSays settings numbers j message
+      (take (length siteMemory - j * words) (drop (j * words) siteMemory)) answer) where
+    abbrev rest : ℕ
+    rest = length siteMemory - j * siteWords settings
+
+    long : siteWords settings ≤ rest
+    long =
+        let more : suc j * siteWords settings ≤ settings .sites * siteWords settings =
+        mul-le-mul-right (siteWords settings) known in
+        omega (arith, more, fits .long-enough)
+
+    says-here : (held : Held)
+        → held .sites ≡ progress .sites
+        → held .siteMemory ≡ siteMemory
+        → SiteCalls.ReceiveSays settings (recordAt held j) j message (sitePart settings held j rest)
+        answer
+    says-here held sites-are memory-is =
+        let at-words = subst (λ (w : ℕ). SiteCalls.ReceiveSays settings numbers j message
+        (take (length siteMemory - j * w) (drop (j * w) siteMemory)) answer) words-are says in
+        let at-record = subst (λ (r : SiteRecord). SiteCalls.ReceiveSays settings r j message
+        (take rest (drop (j * siteWords settings) siteMemory)) answer) numbers-are at-words in
+        let at-sites = subst (λ (s : Sites). SiteCalls.ReceiveSays settings (recordIn s j) j message
+        (take rest (drop (j * siteWords settings) siteMemory)) answer) (sym sites-are) at-record in
+        subst (λ (m : List ℕ). SiteCalls.ReceiveSays settings (recordAt held j) j message
+        (take rest (drop (j * siteWords settings) m)) answer) (sym memory-is) at-sites
+
+    module _ {memory : List ℕ} (state : State) (stands : Stands state progress siteMemory memory)
+      where
+        says-of : SiteCalls.ReceiveSays settings (recordAt (state .held) j) j message
+            (sitePart settings (state .held) j rest) answer
+        says-of =
+            says-here (state .held) (ap (λ (held : Held). held .sites) (stands .held-is))
+            (ap (λ (held : Held). held .siteMemory) (stands .held-is))
+
+    pub site-stops : (answer .refusal ≡ accepted → ⊥)
+        → (memory : List ℕ)
+        → StepSays settings siteMemory memory memory progress
+        (refusedWith progress (answer .refusal))
+    site-stops refused memory =
+        stopped progress (answer .refusal) memory (asks .few) refused refl
+        (λ state stands.
+        site-refuses message behind rest (stands .waiting-are ∙ message-waits) (asks .way-is) long
+        (λ none. refused (says-of state stands .refusal ∙ none)))
+
+    module _ (sites : Sites) (queue : Queue)
+        (sites-are : sites ≡ withRecord (progress .sites) j (answer .site))
+        (queue-is : queue
+        ≡ joinedIf (answer .count) (withoutHead (progress .waiting)) (answer .reply)) where
+      abbrev replied : Progress
+      replied = record {
+        sites = sites;
+        coordinator = progress .coordinator;
+        waiting = queue;
+        refusal = progress .refusal;
+        left = progress .left;
+      }
+
+      pub site-goes : answer .refusal ≡ accepted
+          → (memory : List ℕ)
+          → StepSays settings siteMemory memory memory progress replied
+      site-goes accepts memory = record {
+        few =
+            subst (λ (q : Queue). q .count ≤ 2) (sym queue-is)
+            (few-joined (answer .count) (withoutHead (progress .waiting)) (answer .reply)
+            few-behind);
+        left-is = refl;
+        steps = λ state stands.
+            goes
+            (sending state
+            (afterSiteCall (state .held) j (answer .site) (state .held .siteMemory)) behind
+            (answeredOut answer))
+            (to-site message behind rest answer (stands .waiting-are ∙ message-waits)
+            (asks .way-is) (says-of state stands) accepts)
+            (record {
+              held-is =
+                  ap (λ (held : Held). afterSiteCall held j (answer .site) (held .siteMemory))
+                  (stands .held-is)
+                  ∙ ap (λ (s : Sites). heldBy s (progress .coordinator) siteMemory memory)
+                  (sym sites-are);
+              waiting-are =
+                  sym (queued-joined (answer .count) (withoutHead (progress .waiting))
+                  (answer .reply) few-behind)
+                  ∙ ap queued (sym queue-is);
+            })
+            (asks .not-refused);
+      }

@@ -1,0 +1,56 @@
+-- `public_delivery::is_complete` meets its contract: by what waits, then by phase.
+use borrow.Author.Tests.{eq-eqb, ne-eqb}
+use borrow.Author.Needs.{needs}
+use Rattle.public_delivery.proofs.is_complete.Statement.{statement}
+use Rattle.public_delivery.proofs.is_complete.Tie as tie
+
+returns : tie.Need-returns
+returns c =
+    let progress = c .before .before .before .args .progress in
+    rw (ne-eqb (progress .waiting .count) 0 (c .if1 .taken))
+
+enum-told : tie.Need-enum-told
+enum-told c = search needs
+
+enum-told-2 : tie.Need-enum-told-2
+enum-told-2 c = search needs
+
+enum-told-3 : tie.Need-enum-told-3
+enum-told-3 c = search needs
+
+enum-told-4 : tie.Need-enum-told-4
+enum-told-4 c = search needs
+
+returns-2 : tie.Need-returns-2
+returns-2 c =
+    let progress = c .before .before .before .before .before .before .args .progress in
+    rw (eq-eqb (progress .waiting .count) 0 (c .before .before .before .if1 .left), c .enum-told .given .1)
+
+returns-3 : tie.Need-returns-3
+returns-3 c =
+    let progress = c .before .before .before .before .before .before .args .progress in
+    rw (eq-eqb (progress .waiting .count) 0 (c .before .before .before .if1 .left), c .enum-told2 .given .1)
+
+returns-4 : tie.Need-returns-4
+returns-4 c =
+    let progress = c .before .before .before .before .before .before .args .progress in
+    rw (eq-eqb (progress .waiting .count) 0 (c .before .before .before .if1 .left), c .enum-told3 .given .1)
+
+returns-5 : tie.Need-returns-5
+returns-5 c =
+    let progress = c .before .before .before .before .before .before .args .progress in
+    rw (eq-eqb (progress .waiting .count) 0 (c .before .before .before .if1 .left), c .enum-told4 .given .1)
+
+pub is-complete-spec : {M : Type 1} → statement M
+is-complete-spec =
+    tie.close
+    (tie.spec
+    returns
+    enum-told
+    enum-told-2
+    enum-told-3
+    enum-told-4
+    returns-2
+    returns-3
+    returns-4
+    returns-5)

@@ -1,0 +1,74 @@
+-- `public_delivery::memory_refusal` meets its contract: by the settings, then by the length.
+use mathlib.Core.Path.{_≡_, sym, ap, _∙_}
+use Prim.Native.Nat.{ℕ, _*_}
+use native.Mathlib.Omega.{arith}
+use lib.Dec.{ltb}
+use lib.ListN.{length}
+use denote.Ref.{now}
+use borrow.Author.Tests.{lt-ltb, le-ltb}
+use Rattle.model.specs.Refusals.{when, _orElse_, accepted, memoryTooShort}
+use Rattle.model.specs.Settings.{settingsRefusal}
+use Rattle.model.specs.NetworkMemory.{sitesWords}
+use Rattle.model.proofs.RefusalLaws.{refused-same}
+use Rattle.network_tests.proofs.ShortLaws.{all-small}
+use borrow.Author.Needs.{needs}
+use Rattle.public_delivery.proofs.memory_refusal.Statement.{statement}
+use Rattle.public_delivery.proofs.memory_refusal.Tie as tie
+
+test-settings-requires : tie.Need-test-settings-requires
+test-settings-requires c κs = search needs
+
+returns : tie.Need-returns
+returns c =
+    let start = c .before .before .before in
+    let settings = start .args .settings in
+    let memory = now (start .args .site-memory) in
+    let tested = c .before .test-settings in
+    refused-same (tested .result) (settingsRefusal settings)
+    (when (ltb (length memory) (sitesWords settings)) memoryTooShort orElse accepted)
+    (tested .ensures) (c .if1 .taken)
+
+cast-if2 : tie.Need-cast-if2
+cast-if2 c = search needs
+
+site-words-requires : tie.Need-site-words-requires
+site-words-requires c κs = search needs
+
+mul-if2 : tie.Need-mul-if2
+mul-if2 c =
+    let settings = c .before .before .before .before .before .args .settings in
+    let none = sym (c .before .before .before .test-settings .ensures) ∙ c .before .before .if1 .left in
+    let all = ap (λ (z : ℕ). settings .sites * z) (c .site-words .ensures) in
+    omega (arith, all-small settings none, all)
+
+returns-2 : tie.Need-returns-2
+returns-2 c =
+    let start = c .before .before .before .before .before .before in
+    let settings = start .args .settings in
+    let memory = now (start .args .site-memory) in
+    let none : settingsRefusal settings ≡ accepted =
+    sym (c .before .before .before .before .test-settings .ensures) ∙ c .before .before .before .if1 .left in
+    let all = ap (λ (z : ℕ). settings .sites * z) (c .before .site-words .ensures) in
+    rw (none, lt-ltb (length memory) (sitesWords settings) (omega (arith, c .if2 .taken, all)))
+
+returns-3 : tie.Need-returns-3
+returns-3 c =
+    let start = c .before .before .before .before .before .before in
+    let settings = start .args .settings in
+    let memory = now (start .args .site-memory) in
+    let none : settingsRefusal settings ≡ accepted =
+    sym (c .before .before .before .before .test-settings .ensures) ∙ c .before .before .before .if1 .left in
+    let all = ap (λ (z : ℕ). settings .sites * z) (c .before .site-words .ensures) in
+    rw (none, le-ltb (length memory) (sitesWords settings) (omega (arith, c .if2 .left, all)))
+
+pub memory-refusal-spec : {M : Type 1} → statement M
+memory-refusal-spec =
+    tie.close
+    (tie.spec
+    test-settings-requires
+    returns
+    cast-if2
+    site-words-requires
+    mul-if2
+    returns-2
+    returns-3)

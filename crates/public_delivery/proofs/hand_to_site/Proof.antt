@@ -4,7 +4,7 @@ use mathlib.Core.Path.{ap, _∙_}
 use Prim.Native.Nat.{ℕ, _*_}
 use native.Mathlib.Omega.{arith}
 use Rattle.delivery.specs.declared.Queue.{Queue}
-use Rattle.network_tests.proofs.PartLaws.{few-sites, start-small, starts-within}
+use Rattle.network_tests.proofs.PartLaws.{site-few, starts-small, starts-within}
 use Rattle.public_delivery.specs.Progress.{joinedIf}
 use Rattle.public_delivery.proofs.SiteStepLaws.{site-unknown, site-stops, site-goes}
 use borrow.Author.Needs.{needs}
@@ -33,7 +33,7 @@ mul-start c =
     let known = c .before .before .if1 .left in
     let j = start .args .progress .waiting .first .site in
     let at-start = ap (λ (z : ℕ). j * z) (c .site-words .ensures) in
-    omega (arith, start-small (start .pre .0) j known, at-start)
+    omega (arith, starts-small (start .pre .0) j known, at-start)
 
 mul-part : tie.Need-mul-part
 mul-part c =
@@ -41,7 +41,7 @@ mul-part c =
     let known = c .before .before .if1 .left in
     let j = start .args .progress .waiting .first .site in
     let at-start = ap (λ (z : ℕ). j * z) (c .site-words .ensures) in
-    omega (arith, start-small (start .pre .0) j known, at-start)
+    omega (arith, starts-small (start .pre .0) j known, at-start)
 
 sub-part : tie.Need-sub-part
 sub-part c =
@@ -65,7 +65,7 @@ part-part-end c = search needs
 record-at-requires : tie.Need-record-at-requires
 record-at-requires c κs =
     let start = c .before .before .before .before .before .before .before .before .before .before in
-    omega (arith, c .before .before .before .if1 .left, few-sites (start .pre .0))
+    site-few (start .pre .0) (start .args .progress .waiting .first .site) (c .before .before .before .if1 .left)
 
 receive-requires : tie.Need-receive-requires
 receive-requires c κs = search needs
@@ -88,7 +88,7 @@ returns-2 c =
 with-record-requires : tie.Need-with-record-requires
 with-record-requires c κs =
     let start = c .before .before .before .before .before .before .before .before .before .before .before .before .before .before .before .before in
-    omega (arith, c .before .before .before .before .before .before .before .before .before .if1 .left, few-sites (start .pre .0))
+    site-few (start .pre .0) (start .args .progress .waiting .first .site) (c .before .before .before .before .before .before .before .before .before .if1 .left)
 
 take-head-requires : tie.Need-take-head-requires
 take-head-requires c κs = search needs

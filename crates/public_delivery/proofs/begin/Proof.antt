@@ -3,7 +3,7 @@
 use mathlib.Core.Path.{ap}
 use Prim.Native.Nat.{ℕ, _*_}
 use native.Mathlib.Omega.{arith}
-use Rattle.network_tests.proofs.PartLaws.{few-sites, start-small, starts-within}
+use Rattle.network_tests.proofs.PartLaws.{site-few, starts-small, starts-within}
 use Rattle.public_delivery.proofs.BeginLaws.{which-known, begin-says}
 use denote.Ref.{now}
 use borrow.Author.Needs.{needs}
@@ -25,14 +25,14 @@ mul-start c =
     let which = c .before .site-asked in
     let known = which-known (start .pre) (start .args .arrival) (which .result) (which .ensures) in
     let at-start = ap (λ (z : ℕ). which .result * z) (c .site-words .ensures) in
-    omega (arith, start-small (start .pre) (which .result) known, at-start)
+    omega (arith, starts-small (start .pre) (which .result) known, at-start)
 
 record-at-requires : tie.Need-record-at-requires
 record-at-requires c κs =
     let start = c .before .before .before in
     let which = c .before .site-asked in
     let known = which-known (start .pre) (start .args .arrival) (which .result) (which .ensures) in
-    omega (arith, known, few-sites (start .pre))
+    site-few (start .pre) (which .result) known
 
 mul-observe : tie.Need-mul-observe
 mul-observe c =
@@ -40,7 +40,7 @@ mul-observe c =
     let which = c .before .before .site-asked in
     let known = which-known (start .pre) (start .args .arrival) (which .result) (which .ensures) in
     let at-start = ap (λ (z : ℕ). which .result * z) (c .before .site-words .ensures) in
-    omega (arith, start-small (start .pre) (which .result) known, at-start)
+    omega (arith, starts-small (start .pre) (which .result) known, at-start)
 
 sub-observe : tie.Need-sub-observe
 sub-observe c =
@@ -69,7 +69,7 @@ with-record-requires c κs =
     let start = c .before .before .before .before .before .before .before .before .before .before .before in
     let which = c .before .before .before .before .before .before .before .before .before .site-asked in
     let known = which-known (start .pre) (start .args .arrival) (which .result) (which .ensures) in
-    omega (arith, known, few-sites (start .pre))
+    site-few (start .pre) (which .result) known
 
 queue-of-requires : tie.Need-queue-of-requires
 queue-of-requires c κs = search needs

@@ -65,7 +65,7 @@ part-part-end c = search needs
 record-at-requires : tie.Need-record-at-requires
 record-at-requires c κs =
     let start = c .before .before .before .before .before .before .before .before .before .before in
-    site-few (start .pre .0) _ (c .before .before .before .if1 .left)
+    site-few (start .pre .0) (start .args .progress .waiting .first .site) (c .before .before .before .if1 .left)
 
 receive-requires : tie.Need-receive-requires
 receive-requires c κs = search needs
@@ -88,8 +88,7 @@ returns-2 c =
 with-record-requires : tie.Need-with-record-requires
 with-record-requires c κs =
     let start = c .before .before .before .before .before .before .before .before .before .before .before .before .before .before .before .before in
-    site-few (start .pre .0) _
-    (c .before .before .before .before .before .before .before .before .before .if1 .left)
+    site-few (start .pre .0) (start .args .progress .waiting .first .site) (c .before .before .before .before .before .before .before .before .before .if1 .left)
 
 take-head-requires : tie.Need-take-head-requires
 take-head-requires c κs = search needs

@@ -10,7 +10,7 @@ use Rattle.model.specs.Refusals.{when, _orElse_, accepted, memoryTooShort}
 use Rattle.model.specs.Settings.{settingsRefusal}
 use Rattle.model.specs.NetworkMemory.{sitesWords}
 use Rattle.model.proofs.RefusalLaws.{refused-same}
-use Rattle.network_tests.proofs.ShortLaws.{all-small}
+use Rattle.network_tests.proofs.ShortLaws.{all-words}
 use borrow.Author.Needs.{needs}
 use Rattle.public_delivery.proofs.memory_refusal.Statement.{statement}
 use Rattle.public_delivery.proofs.memory_refusal.Tie as tie
@@ -38,8 +38,8 @@ mul-if2 : tie.Need-mul-if2
 mul-if2 c =
     let settings = c .before .before .before .before .before .args .settings in
     let none = sym (c .before .before .before .test-settings .ensures) ∙ c .before .before .if1 .left in
-    let all = ap (λ (z : ℕ). settings .sites * z) (c .site-words .ensures) in
-    omega (arith, all-small settings none, all)
+    let words = c .site-words in
+    omega (arith, all-words settings (words .result) none (words .ensures))
 
 returns-2 : tie.Need-returns-2
 returns-2 c =

@@ -48,14 +48,18 @@ behind-site c =
     stage-on (behind-kind (c .before .before .before .before)) (c .put-spaced .ensures)
 
 behind-a : (c : tie.After-put-spaced2)
-    → let start = c .before .before .before .before .before .before .before .before .before .before .before in
+    → let site = c .before .before .before .before in
+    let start = site .before .before .before .before .before .before .before in
     let args = start .args in
-    Stage (messageLine (given start)) (args .at) (args .out .now) (spacedNumber (args .b) ∷ feed ∷ [])
+    Stage (messageLine (given start)) (args .at) (args .out .now)
+    (spacedNumber (args .b) ∷ feed ∷ [])
     (c .put-spaced2 .last .1 .0) (c .put-spaced2 .result)
 behind-a c = stage-on (behind-site (c .before .before .before .before)) (c .put-spaced2 .ensures)
 
 behind-b : (c : tie.After-put-spaced3)
-    → let start = c .before .before .before .before .before .before .before .before .before .before .before .before .before .before .before in
+    → let a = c .before .before .before .before in
+    let site = a .before .before .before .before in
+    let start = site .before .before .before .before .before .before .before in
     let args = start .args in
     Stage (messageLine (given start)) (args .at) (args .out .now) (feed ∷ [])
     (c .put-spaced3 .last .1 .0) (c .put-spaced3 .result)

@@ -66,8 +66,9 @@ observe-requires c κs = search needs
 
 with-record-requires : tie.Need-with-record-requires
 with-record-requires c κs =
-    let start = c .before .before .before .before .before .before .before .before .before .before .before in
-    let which = c .before .before .before .before .before .before .before .before .before .site-asked in
+    let asked = c .before .before .before .before .before .before .before .before .before in
+    let start = asked .before .before in
+    let which = asked .site-asked in
     let known = which-known (start .pre) (start .args .arrival) (which .result) (which .ensures) in
     site-few (start .pre) (which .result) known
 
@@ -82,14 +83,19 @@ same-length c = search needs
 
 returns : tie.Need-returns
 returns c =
-    let start = c .before .before .before .before .before .before .before .before .before .before .before .before .before .before in
-    let which = c .before .before .before .before .before .before .before .before .before .before .before .before .site-asked in
-    let words = c .before .before .before .before .before .before .before .before .before .before .before .site-words in
-    let numbers = c .before .before .before .before .before .before .before .before .before .before .record-at in
-    let observed = c .before .before .before .before .before .before .before .before .observe in
+    let shown = c .before .before .before .before .before .before .before .before in
+    let recorded = shown .before .before in
+    let sized = recorded .before in
+    let asked = sized .before in
+    let start = asked .before .before in
+    let which = asked .site-asked in
+    let words = sized .site-words in
+    let numbers = recorded .record-at in
+    let observed = shown .observe in
     let changed = c .before .before .with-record in
     let waiting = c .before .queue-of in
-    begin-says (now (start .args .site-memory)) (start .args .arrival) (start .args .sites) (start .args .coordinator)
+    begin-says (now (start .args .site-memory)) (start .args .arrival) (start .args .sites)
+    (start .args .coordinator)
     (which .result) (words .result) (numbers .result)
     (which .ensures) (words .ensures) (numbers .ensures)
     (observed .last .1 .1 .1 .0) (observed .result) (observed .ensures)

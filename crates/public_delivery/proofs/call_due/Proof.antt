@@ -13,7 +13,10 @@ returns c =
 returns-2 : tie.Need-returns-2
 returns-2 c =
     let progress = c .before .before .before .before .args .progress in
-    rw (eq-eqb (progress .refusal) 0 (c .before .before .if1 .left), eq-eqb (progress .left) 0 (c .if2 .taken))
+    rw (
+      eq-eqb (progress .refusal) 0 (c .before .before .if1 .left),
+      eq-eqb (progress .left) 0 (c .if2 .taken),
+    )
 
 returns-3 : tie.Need-returns-3
 returns-3 c =
@@ -38,41 +41,53 @@ enum-told-4 c = search needs
 
 returns-4 : tie.Need-returns-4
 returns-4 c =
-    let progress = c .before .before .before .before .before .before .before .before .before .before .args .progress in
+    let none-waits = c .before .before .before in
+    let some-left = none-waits .before .before .before in
+    let not-refused = some-left .before .before in
+    let progress = not-refused .before .before .args .progress in
     rw (
-      eq-eqb (progress .refusal) 0 (c .before .before .before .before .before .before .before .before .if1 .left),
-      ne-eqb (progress .left) 0 (c .before .before .before .before .before .before .if2 .left),
-      eq-eqb (progress .waiting .count) 0 (c .before .before .before .if3 .left),
+      eq-eqb (progress .refusal) 0 (not-refused .if1 .left),
+      ne-eqb (progress .left) 0 (some-left .if2 .left),
+      eq-eqb (progress .waiting .count) 0 (none-waits .if3 .left),
       c .enum-told .given .1,
     )
 
 returns-5 : tie.Need-returns-5
 returns-5 c =
-    let progress = c .before .before .before .before .before .before .before .before .before .before .args .progress in
+    let none-waits = c .before .before .before in
+    let some-left = none-waits .before .before .before in
+    let not-refused = some-left .before .before in
+    let progress = not-refused .before .before .args .progress in
     rw (
-      eq-eqb (progress .refusal) 0 (c .before .before .before .before .before .before .before .before .if1 .left),
-      ne-eqb (progress .left) 0 (c .before .before .before .before .before .before .if2 .left),
-      eq-eqb (progress .waiting .count) 0 (c .before .before .before .if3 .left),
+      eq-eqb (progress .refusal) 0 (not-refused .if1 .left),
+      ne-eqb (progress .left) 0 (some-left .if2 .left),
+      eq-eqb (progress .waiting .count) 0 (none-waits .if3 .left),
       c .enum-told2 .given .1,
     )
 
 returns-6 : tie.Need-returns-6
 returns-6 c =
-    let progress = c .before .before .before .before .before .before .before .before .before .before .args .progress in
+    let none-waits = c .before .before .before in
+    let some-left = none-waits .before .before .before in
+    let not-refused = some-left .before .before in
+    let progress = not-refused .before .before .args .progress in
     rw (
-      eq-eqb (progress .refusal) 0 (c .before .before .before .before .before .before .before .before .if1 .left),
-      ne-eqb (progress .left) 0 (c .before .before .before .before .before .before .if2 .left),
-      eq-eqb (progress .waiting .count) 0 (c .before .before .before .if3 .left),
+      eq-eqb (progress .refusal) 0 (not-refused .if1 .left),
+      ne-eqb (progress .left) 0 (some-left .if2 .left),
+      eq-eqb (progress .waiting .count) 0 (none-waits .if3 .left),
       c .enum-told3 .given .1,
     )
 
 returns-7 : tie.Need-returns-7
 returns-7 c =
-    let progress = c .before .before .before .before .before .before .before .before .before .before .args .progress in
+    let none-waits = c .before .before .before in
+    let some-left = none-waits .before .before .before in
+    let not-refused = some-left .before .before in
+    let progress = not-refused .before .before .args .progress in
     rw (
-      eq-eqb (progress .refusal) 0 (c .before .before .before .before .before .before .before .before .if1 .left),
-      ne-eqb (progress .left) 0 (c .before .before .before .before .before .before .if2 .left),
-      eq-eqb (progress .waiting .count) 0 (c .before .before .before .if3 .left),
+      eq-eqb (progress .refusal) 0 (not-refused .if1 .left),
+      ne-eqb (progress .left) 0 (some-left .if2 .left),
+      eq-eqb (progress .waiting .count) 0 (none-waits .if3 .left),
       c .enum-told4 .given .1,
     )
 

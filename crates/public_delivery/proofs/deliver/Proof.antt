@@ -22,34 +22,52 @@ call-due-requires c κs = search needs
 
 sub-progress : tie.Need-sub-progress Inv-loop μ-loop
 sub-progress c =
-    let due = due-facts (c .before .before .before .loop .progress) (sym (c .before .before .call-due .ensures) ∙ c .before .if1 .taken) in
-    positive (c .before .before .before .loop .progress .left) (due .some-left)
+    let entered = c .before in
+    let tested = entered .before in
+    let looped = tested .before in
+    let due =
+    due-facts (looped .loop .progress) (sym (tested .call-due .ensures) ∙ entered .if1 .taken) in
+    positive (looped .loop .progress .left) (due .some-left)
 
 take-step-requires : tie.Need-take-step-requires Inv-loop μ-loop
 take-step-requires c κs =
-    let due = due-facts (c .before .before .before .before .loop .progress) (sym (c .before .before .before .call-due .ensures) ∙ c .before .before .if1 .taken) in (
-      c .before .before .before .before .before .before .before .pre .fits,
+    let entered = c .before .before in
+    let tested = entered .before in
+    let looped = tested .before in
+    let due =
+    due-facts (looped .loop .progress) (sym (tested .call-due .ensures) ∙ entered .if1 .taken) in (
+      looped .before .before .before .pre .fits,
       record {
         not-refused = due .not-refused;
-        few = c .before .before .before .before .loop .inv .few;
+        few = looped .loop .inv .few;
         announces = due .announces;
       },
     )
 
 loop-less : tie.Need-loop-less Inv-loop μ-loop
 loop-less c =
-    let due = due-facts (c .before .before .before .before .before .before .before .loop .progress) (sym (c .before .before .before .before .before .before .call-due .ensures) ∙ c .before .before .before .before .before .if1 .taken) in
+    let stepped = c .before .before in
+    let entered = stepped .before .before .before in
+    let tested = entered .before in
+    let looped = tested .before in
+    let due =
+    due-facts (looped .loop .progress) (sym (tested .call-due .ensures) ∙ entered .if1 .taken) in
     omega (
       arith,
-      positive (c .before .before .before .before .before .before .before .loop .progress .left) (due .some-left),
-      c .before .before .take-step .ensures .left-is,
+      positive (looped .loop .progress .left) (due .some-left),
+      stepped .take-step .ensures .left-is,
     )
 
 loop-again : tie.Need-loop-again Inv-loop μ-loop
 loop-again c =
-    let due = due-facts (c .before .before .before .before .before .before .before .loop .progress) (sym (c .before .before .before .before .before .before .call-due .ensures) ∙ c .before .before .before .before .before .if1 .taken) in
-    going-on due (c .before .before .before .before .before .before .before .loop .inv) (c .before .before .take-step .kept .1 .1 .1 .0)
-    (c .before .before .take-step .ensures)
+    let stepped = c .before .before in
+    let entered = stepped .before .before .before in
+    let tested = entered .before in
+    let looped = tested .before in
+    let due =
+    due-facts (looped .loop .progress) (sym (tested .call-due .ensures) ∙ entered .if1 .taken) in
+    going-on due (looped .loop .inv) (stepped .take-step .kept .1 .1 .1 .0)
+    (stepped .take-step .ensures)
 
 same-length : tie.Need-same-length Inv-loop μ-loop
 same-length c = c .before .before .loop .inv .same-length

@@ -44,15 +44,18 @@ same-length-2 c = search needs
 
 returns-2 : tie.Need-returns-2
 returns-2 c =
-    let start = c .before .before .before .before .before .before .before .before .before .before .before in
+    let beginning = c .before .before .before .before in
+    let fitting = beginning .before .before in
+    let tested = fitting .before in
+    let start = tested .before .before .before .before in
     let settings = start .args .settings in
     let arrival = start .args .arrival in
     let sites = start .args .sites in
     let coordinator = start .args .coordinator in
     let siteMemory = now (start .args .site-memory) in
     let given = heldBy sites coordinator siteMemory (now (start .args .coordinator-memory)) in
-    let none = sym (c .before .before .before .before .before .before .before .memory-refusal .ensures) ∙ c .before .before .before .before .before .before .if1 .left in
-    let begun = c .before .before .before .before .begin in
+    let none = sym (tested .memory-refusal .ensures) ∙ fitting .if1 .left in
+    let begun = beginning .begin in
     refused-says given _ _
     (refusal-of-site settings given arrival (begun .result .refusal) none (begun .ensures .refusal))
     (c .if2 .taken)
@@ -62,9 +65,12 @@ returns-2 c =
 
 deliver-requires : tie.Need-deliver-requires
 deliver-requires c κs =
-    let start = c .before .before .before .before .before .before .before .before .before .before .before .before .before in
-    let none = sym (c .before .before .before .before .before .before .before .before .before .memory-refusal .ensures) ∙ c .before .before .before .before .before .before .before .before .if1 .left in
-    let begun = c .before .before .before .before .before .before .begin in
+    let beginning = c .before .before .before .before .before .before in
+    let fitting = beginning .before .before in
+    let tested = fitting .before in
+    let start = tested .before .before .before .before in
+    let none = sym (tested .memory-refusal .ensures) ∙ fitting .if1 .left in
+    let begun = beginning .begin in
     record {
       fits = fits-kept {before = now (start .args .site-memory)} (fits-of-accepted none)
           (begun .kept .1 .1 .1 .1 .0);
@@ -83,24 +89,30 @@ same-length-4 c = search needs
 
 returns-3 : tie.Need-returns-3
 returns-3 c =
-    let start = c .before .before .before .before .before .before .before .before .before .before .before .before .before .before .before .before .before .before .before in
+    let completed = c .before .before in
+    let delivered = completed .before .before .before in
+    let accepting = delivered .before .before .before in
+    let beginning = accepting .before .before .before .before in
+    let fitting = beginning .before .before in
+    let tested = fitting .before in
+    let start = tested .before .before .before .before in
     let settings = start .args .settings in
     let arrival = start .args .arrival in
     let sites = start .args .sites in
     let coordinator = start .args .coordinator in
     let siteMemory = now (start .args .site-memory) in
     let given = heldBy sites coordinator siteMemory (now (start .args .coordinator-memory)) in
-    let none = sym (c .before .before .before .before .before .before .before .before .before .before .before .before .before .before .before .memory-refusal .ensures) ∙ c .before .before .before .before .before .before .before .before .before .before .before .before .before .before .if1 .left in
-    let begun = c .before .before .before .before .before .before .before .before .before .before .before .before .begin in
-    let accepts = c .before .before .before .before .before .before .before .before .if2 .left in
+    let none = sym (tested .memory-refusal .ensures) ∙ fitting .if1 .left in
+    let begun = beginning .begin in
+    let accepts = accepting .if2 .left in
     accepted-says given _ _
     (sym accepts
     ∙ refusal-of-site settings given arrival (begun .result .refusal) none
     (begun .ensures .refusal))
     refl
     (λ before held-is nothing-waits.
-    delivered-says _ (begun .ensures) accepts (c .before .before .before .before .before .deliver .ensures)
-    (c .before .before .is-complete .ensures) before held-is nothing-waits)
+    delivered-says _ (begun .ensures) accepts (delivered .deliver .ensures)
+    (completed .is-complete .ensures) before held-is nothing-waits)
 
 pub deliver-arrival-spec : {M : Type 1} → statement M
 deliver-arrival-spec =

@@ -18,11 +18,13 @@ same-length c = search needs
 
 returns : tie.Need-returns
 returns c =
-    let start = c .before .before .before .before .before .before .before .before .before .before .before in
-    let answer = c .before .before .before .before .before .receive in
+    let received = c .before .before .before .before .before in
+    let start = received .before .before .before .before .before .before in
+    let answer = received .receive in
     λ siteMemory.
     rw (c .stop .ensures)
-    (coordinator-stops (start .pre) (answer .result) (answer .ensures) (c .before .if1 .taken) siteMemory)
+    (coordinator-stops (start .pre) (answer .result) (answer .ensures) (c .before .if1 .taken)
+    siteMemory)
 
 take-head-requires : tie.Need-take-head-requires
 take-head-requires c κs = search needs
@@ -35,8 +37,9 @@ same-length-2 c = search needs
 
 returns-2 : tie.Need-returns-2
 returns-2 c =
-    let start = c .before .before .before .before .before .before .before .before .before .before .before .before .before .before in
-    let answer = c .before .before .before .before .before .before .before .before .receive in
+    let received = c .before .before .before .before .before .before .before .before in
+    let start = received .before .before .before .before .before .before in
+    let answer = received .receive in
     coordinator-goes (start .pre) (answer .result) (answer .ensures) (c .join-answer .result)
     (c .join-answer .ensures
     ∙ ap (λ (q : Queue). joinedIf (answer .result .count) q (answer .result .out))

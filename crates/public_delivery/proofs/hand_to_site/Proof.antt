@@ -65,7 +65,8 @@ part-part-end c = search needs
 record-at-requires : tie.Need-record-at-requires
 record-at-requires c κs =
     let start = c .before .before .before .before .before .before .before .before .before .before in
-    site-few (start .pre .0) (start .args .progress .waiting .first .site) (c .before .before .before .if1 .left)
+    site-few (start .pre .0) (start .args .progress .waiting .first .site)
+    (c .before .before .before .if1 .left)
 
 receive-requires : tie.Need-receive-requires
 receive-requires c κs = search needs
@@ -75,20 +76,25 @@ stop-requires-2 c κs = search needs
 
 returns-2 : tie.Need-returns-2
 returns-2 c =
-    let start = c .before .before .before .before .before .before .before .before .before .before .before .before .before .before .before in
-    let numbers = c .before .before .before .before .record-at in
-    let words = c .before .before .before .before .before .before .site-words in
-    let answer = c .before .before .before .receive in
+    let received = c .before .before .before in
+    let recorded = received .before in
+    let sized = recorded .before .before in
+    let known = sized .before .before in
+    let start = known .before .before .before .before .before .before .before in
+    let numbers = recorded .record-at in
+    let words = sized .site-words in
+    let answer = received .receive in
     λ memory.
     rw (c .stop2 .ensures)
-    (site-stops (start .pre .0) (start .pre .1) (c .before .before .before .before .before .before .before .before .if1 .left) (numbers .result)
+    (site-stops (start .pre .0) (start .pre .1) (known .if1 .left) (numbers .result)
     (words .result) (numbers .ensures) (words .ensures) (answer .result) (answer .ensures)
     (c .before .if2 .taken) memory)
 
 with-record-requires : tie.Need-with-record-requires
 with-record-requires c κs =
-    let start = c .before .before .before .before .before .before .before .before .before .before .before .before .before .before .before .before in
-    site-few (start .pre .0) (start .args .progress .waiting .first .site) (c .before .before .before .before .before .before .before .before .before .if1 .left)
+    let known = c .before .before .before .before .before .before .before .before .before in
+    let start = known .before .before .before .before .before .before .before in
+    site-few (start .pre .0) (start .args .progress .waiting .first .site) (known .if1 .left)
 
 take-head-requires : tie.Need-take-head-requires
 take-head-requires c κs = search needs
@@ -98,18 +104,23 @@ join-answer-requires c κs = search needs
 
 returns-3 : tie.Need-returns-3
 returns-3 c =
-    let start = c .before .before .before .before .before .before .before .before .before .before .before .before .before .before .before .before .before .before .before in
-    let numbers = c .before .before .before .before .before .before .before .before .record-at in
-    let words = c .before .before .before .before .before .before .before .before .before .before .site-words in
-    let answer = c .before .before .before .before .before .before .before .receive in
+    let accepts = c .before .before .before .before .before in
+    let received = accepts .before .before in
+    let recorded = received .before in
+    let sized = recorded .before .before in
+    let known = sized .before .before in
+    let start = known .before .before .before .before .before .before .before in
+    let numbers = recorded .record-at in
+    let words = sized .site-words in
+    let answer = received .receive in
     let changed = c .before .before .with-record in
-    site-goes (start .pre .0) (start .pre .1) (c .before .before .before .before .before .before .before .before .before .before .before .before .if1 .left) (numbers .result)
+    site-goes (start .pre .0) (start .pre .1) (known .if1 .left) (numbers .result)
     (words .result) (numbers .ensures) (words .ensures) (answer .result) (answer .ensures)
     (changed .result) (c .join-answer .result) (changed .ensures)
     (c .join-answer .ensures
     ∙ ap (λ (q : Queue). joinedIf (answer .result .count) q (answer .result .reply))
     (c .before .take-head .ensures))
-    (c .before .before .before .before .before .if2 .left)
+    (accepts .if2 .left)
 
 pub hand-to-site-spec : {M : Type 1} → statement M
 hand-to-site-spec =

@@ -11,7 +11,8 @@ join-requires : tie.Need-join-requires
 join-requires c κs = search needs
 
 returns-2 : tie.Need-returns-2
-returns-2 c = rw (c .join .ensures, ne-eqb (c .before .before .args .count) 0 (c .before .if1 .left))
+returns-2 c =
+    rw (c .join .ensures, ne-eqb (c .before .before .args .count) 0 (c .before .if1 .left))
 
 pub join-answer-spec : {M : Type 1} → statement M
 join-answer-spec = tie.close (tie.spec returns join-requires returns-2)

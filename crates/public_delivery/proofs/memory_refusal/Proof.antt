@@ -37,7 +37,8 @@ site-words-requires c κs = search needs
 mul-if2 : tie.Need-mul-if2
 mul-if2 c =
     let settings = c .before .before .before .before .before .args .settings in
-    let none = sym (c .before .before .before .test-settings .ensures) ∙ c .before .before .if1 .left in
+    let none = sym (c .before .before .before .test-settings .ensures)
+    ∙ c .before .before .if1 .left in
     let words = c .site-words in
     omega (arith, all-words settings (words .result) none (words .ensures))
 
@@ -47,7 +48,8 @@ returns-2 c =
     let settings = start .args .settings in
     let memory = now (start .args .site-memory) in
     let none : settingsRefusal settings ≡ accepted =
-    sym (c .before .before .before .before .test-settings .ensures) ∙ c .before .before .before .if1 .left in
+    sym (c .before .before .before .before .test-settings .ensures)
+    ∙ c .before .before .before .if1 .left in
     let all = ap (λ (z : ℕ). settings .sites * z) (c .before .site-words .ensures) in
     rw (none, lt-ltb (length memory) (sitesWords settings) (omega (arith, c .if2 .taken, all)))
 
@@ -57,7 +59,8 @@ returns-3 c =
     let settings = start .args .settings in
     let memory = now (start .args .site-memory) in
     let none : settingsRefusal settings ≡ accepted =
-    sym (c .before .before .before .before .test-settings .ensures) ∙ c .before .before .before .if1 .left in
+    sym (c .before .before .before .before .test-settings .ensures)
+    ∙ c .before .before .before .if1 .left in
     let all = ap (λ (z : ℕ). settings .sites * z) (c .before .site-words .ensures) in
     rw (none, le-ltb (length memory) (sitesWords settings) (omega (arith, c .if2 .left, all)))
 

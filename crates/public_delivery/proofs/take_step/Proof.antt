@@ -20,7 +20,9 @@ same-length : tie.Need-same-length
 same-length c = search needs
 
 returns : tie.Need-returns
-returns c = c .ask .ensures (now (c .before .before .before .before .before .before .before .args .site-memory))
+returns c =
+    let start = c .before .before .before .before .before .before .before in
+    c .ask .ensures (now (start .args .site-memory))
 
 to-coordinator-requires : tie.Need-to-coordinator-requires
 to-coordinator-requires c κs = search needs
@@ -39,7 +41,11 @@ same-length-2 : tie.Need-same-length-2
 same-length-2 c = search needs
 
 returns-2 : tie.Need-returns-2
-returns-2 c = c .before .before .hand-to-coordinator .ensures (now (c .before .before .before .before .before .before .before .before .before .before .before .before .args .site-memory))
+returns-2 c =
+    let handed = c .before .before in
+    let told = handed .before .before .before in
+    let start = told .before .before .before .before .before .before .before in
+    handed .hand-to-coordinator .ensures (now (start .args .site-memory))
 
 hand-to-site-requires : tie.Need-hand-to-site-requires
 hand-to-site-requires c κs =
@@ -55,7 +61,9 @@ hand-to-site-requires c κs =
     )
 
 returns-3 : tie.Need-returns-3
-returns-3 c = c .hand-to-site .ensures (now (c .before .before .before .before .before .before .before .before .before .args .coordinator-memory))
+returns-3 c =
+    let start = c .before .before .before .before .before .before .before .before .before in
+    c .hand-to-site .ensures (now (start .args .coordinator-memory))
 
 pub take-step-spec : {M : Type 1} → statement M
 take-step-spec =

@@ -23,35 +23,27 @@ enum-told-4 c = search needs
 
 returns-2 : tie.Need-returns-2
 returns-2 c =
-    let progress = c .before .before .before .before .before .before .args .progress in
-    rw (
-      eq-eqb (progress .waiting .count) 0 (c .before .before .before .if1 .left),
-      c .enum-told .given .1,
-    )
+    let none-waits = c .before .before .before in
+    let progress = none-waits .before .before .before .args .progress in
+    rw (eq-eqb (progress .waiting .count) 0 (none-waits .if1 .left), c .enum-told .given .1)
 
 returns-3 : tie.Need-returns-3
 returns-3 c =
-    let progress = c .before .before .before .before .before .before .args .progress in
-    rw (
-      eq-eqb (progress .waiting .count) 0 (c .before .before .before .if1 .left),
-      c .enum-told2 .given .1,
-    )
+    let none-waits = c .before .before .before in
+    let progress = none-waits .before .before .before .args .progress in
+    rw (eq-eqb (progress .waiting .count) 0 (none-waits .if1 .left), c .enum-told2 .given .1)
 
 returns-4 : tie.Need-returns-4
 returns-4 c =
-    let progress = c .before .before .before .before .before .before .args .progress in
-    rw (
-      eq-eqb (progress .waiting .count) 0 (c .before .before .before .if1 .left),
-      c .enum-told3 .given .1,
-    )
+    let none-waits = c .before .before .before in
+    let progress = none-waits .before .before .before .args .progress in
+    rw (eq-eqb (progress .waiting .count) 0 (none-waits .if1 .left), c .enum-told3 .given .1)
 
 returns-5 : tie.Need-returns-5
 returns-5 c =
-    let progress = c .before .before .before .before .before .before .args .progress in
-    rw (
-      eq-eqb (progress .waiting .count) 0 (c .before .before .before .if1 .left),
-      c .enum-told4 .given .1,
-    )
+    let none-waits = c .before .before .before in
+    let progress = none-waits .before .before .before .args .progress in
+    rw (eq-eqb (progress .waiting .count) 0 (none-waits .if1 .left), c .enum-told4 .given .1)
 
 pub is-complete-spec : {M : Type 1} → statement M
 is-complete-spec =

@@ -57,7 +57,8 @@ pub extern "C" fn tracker_allowance(
     arrivals: u64,
     messages: &mut u64,
 ) -> u32
-    ensures { λ r. ⌜ AllowanceExported (settingsWith sites epsilon phi rank capacity universe) arrivals (now (messages .entry)) (now (messages .exit)) r ⌝ }
+    ensures { λ r. ⌜ AllowanceExported (settingsWith sites epsilon phi rank capacity universe)
+        arrivals (now (messages .entry)) (now (messages .exit)) r ⌝ }
 {
     let settings = settings_from(sites, epsilon, phi, rank, capacity, universe);
     let allowance = message_allowance(settings, arrivals);
@@ -76,7 +77,10 @@ pub extern "C" fn tracker_test_line(
     value: &mut u32,
     used: &mut usize,
 ) -> u32
-    ensures { λ r. ⌜ LineExported (now (bytes .entry)) (lineNumbers (now (site .entry)) (now (item .entry)) (now (value .entry)) (now (used .entry))) (lineNumbers (now (site .exit)) (now (item .exit)) (now (value .exit)) (now (used .exit))) r ⌝ }
+    ensures { λ r. ⌜ LineExported (now (bytes .entry)) (lineNumbers (now (site .entry))
+        (now (item .entry)) (now (value .entry)) (now (used .entry)))
+        (lineNumbers (now (site .exit)) (now (item .exit)) (now (value .exit)) (now (used .exit)))
+        r ⌝ }
 {
     let line = test_line(bytes);
     if line.refusal == ACCEPTED {

@@ -29,7 +29,8 @@ fn serve(
     list: &mut [u32],
     out: &mut [u8],
 ) -> bool
-    requires { ⌜ Lends (now input) (now «site_memory») (now «coordinator_memory») (now log) (now list) (now out) ⌝ }
+    requires { ⌜ Lends (now input) (now «site_memory») (now «coordinator_memory») (now log)
+        (now list) (now out) ⌝ }
     ensures { λ r. ⌜ r ≡ false ⌝ }
 {
     let first = session::begin(input, site_memory, coordinator_memory, out);

@@ -104,7 +104,8 @@ fn record_at(sites: Sites, which: usize) -> SiteRecord
 // The next kind 7 is asked for, and waits.
 fn ask(settings: Settings, progress: Progress, coordinator_memory: &[u64]) -> Progress
     requires { ⌜ AskAsks progress ⌝ }
-    ensures { λ r. ⌜ ((siteMemory : List ℕ) → StepSays settings siteMemory (now («coordinator_memory» .entry)) (now («coordinator_memory» .entry)) progress r) ⌝ }
+    ensures { λ r. ⌜ ((siteMemory : List ℕ) → StepSays settings siteMemory
+        (now («coordinator_memory» .entry)) (now («coordinator_memory» .entry)) progress r) ⌝ }
 {
     let coordinator = progress.coordinator;
     let answer = coordinator::next_announcement(settings, coordinator, coordinator_memory);
@@ -127,7 +128,8 @@ fn hand_to_coordinator(
     coordinator_memory: &mut [u64],
 ) -> Progress
     requires { ⌜ HandAsks true progress ⌝ }
-    ensures { λ r. ⌜ ((siteMemory : List ℕ) → StepSays settings siteMemory (now («coordinator_memory» .entry)) (now («coordinator_memory» .exit)) progress r) ⌝ }
+    ensures { λ r. ⌜ ((siteMemory : List ℕ) → StepSays settings siteMemory
+        (now («coordinator_memory» .entry)) (now («coordinator_memory» .exit)) progress r) ⌝ }
 {
     let coordinator = progress.coordinator;
     let waiting = progress.waiting;
@@ -147,7 +149,8 @@ fn hand_to_coordinator(
 // The message that waits first is handed to the site that it names; the reply waits last.
 fn hand_to_site(settings: Settings, progress: Progress, site_memory: &[Word]) -> Progress
     requires { ⌜ SitesFit settings (now «site_memory») × HandAsks false progress ⌝ }
-    ensures { λ r. ⌜ ((coordinatorMemory : List ℕ) → StepSays settings (now («site_memory» .entry)) coordinatorMemory coordinatorMemory progress r) ⌝ }
+    ensures { λ r. ⌜ ((coordinatorMemory : List ℕ) → StepSays settings
+        (now («site_memory» .entry)) coordinatorMemory coordinatorMemory progress r) ⌝ }
 {
     let sites = progress.sites;
     let waiting = progress.waiting;
@@ -203,7 +206,8 @@ fn take_step(
     coordinator_memory: &mut [u64],
 ) -> Progress
     requires { ⌜ SitesFit settings (now «site_memory») × DueAsks progress ⌝ }
-    ensures { λ r. ⌜ StepSays settings (now («site_memory» .entry)) (now («coordinator_memory» .entry)) (now («coordinator_memory» .exit)) progress r ⌝ }
+    ensures { λ r. ⌜ StepSays settings (now («site_memory» .entry))
+        (now («coordinator_memory» .entry)) (now («coordinator_memory» .exit)) progress r ⌝ }
 {
     let waiting = progress.waiting;
     if waiting.count == 0 {
@@ -224,7 +228,8 @@ fn deliver(
     coordinator_memory: &mut [u64],
 ) -> Progress
     requires { ⌜ DeliverAsks settings (now «site_memory») first ⌝ }
-    ensures { λ r. ⌜ DeliverSays settings (now («site_memory» .entry)) (now («coordinator_memory» .entry)) (now («coordinator_memory» .exit)) first r ⌝ }
+    ensures { λ r. ⌜ DeliverSays settings (now («site_memory» .entry))
+        (now («coordinator_memory» .entry)) (now («coordinator_memory» .exit)) first r ⌝ }
 {
     let mut progress = first;
     while call_due(progress) {
@@ -261,7 +266,8 @@ fn begin(
     site_memory: &mut [Word],
 ) -> Progress
     requires { ⌜ SitesFit settings (now «site_memory») ⌝ }
-    ensures { λ r. ⌜ BeginSays settings arrival sites coordinator (now («site_memory» .entry)) (now («site_memory» .exit)) r ⌝ }
+    ensures { λ r. ⌜ BeginSays settings arrival sites coordinator (now («site_memory» .entry))
+        (now («site_memory» .exit)) r ⌝ }
 {
     let which = site_asked(settings, arrival) as usize;
     let start = which * site_memory::site_words(settings);
@@ -323,7 +329,10 @@ pub fn deliver_arrival(
     site_memory: &mut [Word],
     coordinator_memory: &mut [u64],
 ) -> DeliveryAnswer
-    ensures { λ r. ⌜ DeliverySays settings arrival (heldBy sites coordinator (now («site_memory» .entry)) (now («coordinator_memory» .entry))) (heldBy (r .sites) (r .coordinator) (now («site_memory» .exit)) (now («coordinator_memory» .exit))) r ⌝ }
+    ensures { λ r. ⌜ DeliverySays settings arrival (heldBy sites coordinator
+        (now («site_memory» .entry)) (now («coordinator_memory» .entry)))
+        (heldBy (r .sites) (r .coordinator) (now («site_memory» .exit))
+        (now («coordinator_memory» .exit))) r ⌝ }
 {
     let refusal = memory_refusal(settings, site_memory);
     if refusal != ACCEPTED {

@@ -56,7 +56,8 @@ pub const SESSION_COORDINATOR_NUMBERS: usize = 2024;
 // Writes the lines of a log's first messages, each where it fits.
 fn put_messages(log: &[u64], count: usize, out: &mut [u8]) -> usize
     requires { ⌜ 4 * count ≤ length (now log) ⌝ }
-    ensures { λ r. ⌜ MessagesWritten (now (log .entry)) count (now (out .entry)) (now (out .exit)) r ⌝ }
+    ensures { λ r. ⌜ MessagesWritten (now (log .entry)) count (now (out .entry)) (now (out .exit))
+        r ⌝ }
 {
     let mut place: usize = 0;
     let mut done: usize = 0;
@@ -122,7 +123,8 @@ fn start_refusal(
     site_numbers: usize,
     coordinator_numbers: usize,
 ) -> u32
-    ensures { λ r. ⌜ r ≡ startRefusalOf (read .refusal) (read .settings) bytes «site_numbers» «coordinator_numbers» ⌝ }
+    ensures { λ r. ⌜ r ≡ startRefusalOf (read .refusal) (read .settings) bytes «site_numbers»
+        «coordinator_numbers» ⌝ }
 {
     if read.refusal != ACCEPTED {
         return read.refusal;
@@ -179,7 +181,10 @@ pub fn begin(
     coordinator_memory: &mut [u64],
     out: &mut [u8],
 ) -> Turn
-    ensures { λ r. ⌜ BeginSays (now (input .entry)) (lent (now («site_memory» .entry)) (now («coordinator_memory» .entry)) [] [] (now (out .entry))) (lent (now («site_memory» .exit)) (now («coordinator_memory» .exit)) [] [] (now (out .exit))) r ⌝ }
+    ensures { λ r. ⌜ BeginSays (now (input .entry)) (lent (now («site_memory» .entry))
+        (now («coordinator_memory» .entry)) [] [] (now (out .entry)))
+        (lent (now («site_memory» .exit)) (now («coordinator_memory» .exit)) [] []
+        (now (out .exit))) r ⌝ }
 {
     let read = reader::read_settings(input);
     let settings = read.settings;
@@ -210,7 +215,10 @@ fn take_draw(
     log: &mut [u64],
     out: &mut [u8],
 ) -> Turn
-    ensures { λ r. ⌜ DrawSays session step (lent (now («site_memory» .entry)) (now («coordinator_memory» .entry)) (now (log .entry)) [] (now (out .entry))) (lent (now («site_memory» .exit)) (now («coordinator_memory» .exit)) (now (log .exit)) [] (now (out .exit))) r ⌝ }
+    ensures { λ r. ⌜ DrawSays session step (lent (now («site_memory» .entry))
+        (now («coordinator_memory» .entry)) (now (log .entry)) [] (now (out .entry)))
+        (lent (now («site_memory» .exit)) (now («coordinator_memory» .exit)) (now (log .exit)) []
+        (now (out .exit))) r ⌝ }
 {
     let settings = session.settings;
     let sites = session.sites;
@@ -248,7 +256,8 @@ fn take_draw(
 // Writes the results and ends: the list, the class and the count of messages, or why there is no
 // list.
 fn finish(session: Session, memory: &[u64], list: &mut [u32], out: &mut [u8]) -> Turn
-    ensures { λ r. ⌜ Finishes session (now (memory .entry)) (now (list .entry)) (now (out .entry)) (now (list .exit)) (now (out .exit)) r ⌝ }
+    ensures { λ r. ⌜ Finishes session (now (memory .entry)) (now (list .entry)) (now (out .entry))
+        (now (list .exit)) (now (out .exit)) r ⌝ }
 {
     let settings = session.settings;
     let coordinator = session.coordinator;
@@ -274,7 +283,11 @@ pub fn advance(
     list: &mut [u32],
     out: &mut [u8],
 ) -> Turn
-    ensures { λ r. ⌜ AdvanceSays (now (input .entry)) session (lent (now («site_memory» .entry)) (now («coordinator_memory» .entry)) (now (log .entry)) (now (list .entry)) (now (out .entry))) (lent (now («site_memory» .exit)) (now («coordinator_memory» .exit)) (now (log .exit)) (now (list .exit)) (now (out .exit))) r ⌝ }
+    ensures { λ r. ⌜ AdvanceSays (now (input .entry)) session
+        (lent (now («site_memory» .entry)) (now («coordinator_memory» .entry)) (now (log .entry))
+        (now (list .entry)) (now (out .entry))) (lent (now («site_memory» .exit))
+        (now («coordinator_memory» .exit)) (now (log .exit)) (now (list .exit)) (now (out .exit)))
+        r ⌝ }
 {
     let step = reader::read_at(input, session.at, session.line);
     if step.found {

@@ -68,7 +68,8 @@ fn write_text(text: &[u8], out: &mut [u8], at: usize) -> usize
 // Writes a line of a word and a number, where it fits.
 fn put_counted(word: &[u8], n: u64, out: &mut [u8], at: usize) -> usize
     requires { ⌜ at + length (countedLine (now word) n) ≤ length (now out) ⌝ }
-    ensures { λ r. ⌜ Put (countedLine (now (word .entry)) n) at (now (out .entry)) (now (out .exit)) r ⌝ }
+    ensures { λ r. ⌜ Put (countedLine (now (word .entry)) n) at (now (out .entry))
+        (now (out .exit)) r ⌝ }
 {
     let after_word = put_text(word, out, at);
     let after_number = put_spaced(n, out, after_word);
@@ -77,7 +78,8 @@ fn put_counted(word: &[u8], n: u64, out: &mut [u8], at: usize) -> usize
 
 // Writes a line of a word and a number.
 fn write_counted(word: &[u8], n: u64, out: &mut [u8], at: usize) -> usize
-    ensures { λ r. ⌜ LineWritten (countedLine (now (word .entry)) n) at (now (out .entry)) (now (out .exit)) r ⌝ }
+    ensures { λ r. ⌜ LineWritten (countedLine (now (word .entry)) n) at (now (out .entry))
+        (now (out .exit)) r ⌝ }
 {
     let need = word.len() + spaced_length(n) + 1;
     if has_room(out.len(), at, need) {
@@ -89,7 +91,8 @@ fn write_counted(word: &[u8], n: u64, out: &mut [u8], at: usize) -> usize
 // Writes the line of a message, where it fits.
 fn put_message(kind: u64, site: u64, a: u64, b: u64, out: &mut [u8], at: usize) -> usize
     requires { ⌜ at + length (messageLine (message kind site a b)) ≤ length (now out) ⌝ }
-    ensures { λ r. ⌜ Put (messageLine (message kind site a b)) at (now (out .entry)) (now (out .exit)) r ⌝ }
+    ensures { λ r. ⌜ Put (messageLine (message kind site a b)) at (now (out .entry))
+        (now (out .exit)) r ⌝ }
 {
     let after_kind = at + write_decimal(kind, out, at);
     let after_site = put_spaced(site, out, after_kind);
@@ -101,7 +104,8 @@ fn put_message(kind: u64, site: u64, a: u64, b: u64, out: &mut [u8], at: usize) 
 // A message by its four numbers, as a log holds them. The line feed stands for the space that the
 // first number lacks.
 pub fn write_record(kind: u64, site: u64, a: u64, b: u64, out: &mut [u8], at: usize) -> usize
-    ensures { λ r. ⌜ RecordWritten (message kind site a b) at (now (out .entry)) (now (out .exit)) r ⌝ }
+    ensures { λ r. ⌜ RecordWritten (message kind site a b) at (now (out .entry)) (now (out .exit))
+        r ⌝ }
 {
     let head = spaced_length(kind) + spaced_length(site);
     let need = head + spaced_length(a) + spaced_length(b);
@@ -159,7 +163,8 @@ fn put_numbers(items: &[u32], out: &mut [u8], at: usize) -> usize
 // Writes the line of listed items, where it fits.
 fn put_listed(items: &[u32], out: &mut [u8], at: usize) -> usize
     requires { ⌜ at + length (listedLine (now items)) ≤ length (now out) ⌝ }
-    ensures { λ r. ⌜ Put (listedLine (now (items .entry))) at (now (out .entry)) (now (out .exit)) r ⌝ }
+    ensures { λ r. ⌜ Put (listedLine (now (items .entry))) at (now (out .entry)) (now (out .exit))
+        r ⌝ }
 {
     let after_word = put_text(b"listed", out, at);
     let after_items = put_numbers(items, out, after_word);
@@ -168,7 +173,8 @@ fn put_listed(items: &[u32], out: &mut [u8], at: usize) -> usize
 
 // Writes the line of listed items: seven bytes beside the items.
 fn write_items(items: &[u32], out: &mut [u8], at: usize) -> usize
-    ensures { λ r. ⌜ LineWritten (listedLine (now (items .entry))) at (now (out .entry)) (now (out .exit)) r ⌝ }
+    ensures { λ r. ⌜ LineWritten (listedLine (now (items .entry))) at (now (out .entry))
+        (now (out .exit)) r ⌝ }
 {
     if has_room(out.len(), at, 7) {
         if numbers_fit(items, out.len() - at - 7) {
@@ -190,7 +196,8 @@ fn lesser(a: usize, b: usize) -> usize
 
 // "listed" and the first so many items, or all if there are fewer.
 pub fn write_listed(items: &[u32], count: usize, out: &mut [u8], at: usize) -> usize
-    ensures { λ r. ⌜ LineWritten (listedLine (take count (now (items .entry)))) at (now (out .entry)) (now (out .exit)) r ⌝ }
+    ensures { λ r. ⌜ LineWritten (listedLine (take count (now (items .entry)))) at
+        (now (out .entry)) (now (out .exit)) r ⌝ }
 {
     let listed = lesser(count, items.len());
     write_items(&items[..listed], out, at)
@@ -198,7 +205,8 @@ pub fn write_listed(items: &[u32], count: usize, out: &mut [u8], at: usize) -> u
 
 // "class" and the value, or `none`.
 pub fn write_class(quantile: Quantile, out: &mut [u8], at: usize) -> usize
-    ensures { λ r. ⌜ LineWritten (endLine (classWord ++ quantileWord quantile)) at (now (out .entry)) (now (out .exit)) r ⌝ }
+    ensures { λ r. ⌜ LineWritten (endLine (classWord ++ quantileWord quantile)) at
+        (now (out .entry)) (now (out .exit)) r ⌝ }
 {
     match quantile {
         Quantile::Nothing => write_text(b"class none\n", out, at),
@@ -208,7 +216,8 @@ pub fn write_class(quantile: Quantile, out: &mut [u8], at: usize) -> usize
 
 // "messages" and their count.
 pub fn write_count(messages: u64, out: &mut [u8], at: usize) -> usize
-    ensures { λ r. ⌜ LineWritten (countedLine messagesWord messages) at (now (out .entry)) (now (out .exit)) r ⌝ }
+    ensures { λ r. ⌜ LineWritten (countedLine messagesWord messages) at (now (out .entry))
+        (now (out .exit)) r ⌝ }
 {
     write_counted(b"messages", messages, out, at)
 }

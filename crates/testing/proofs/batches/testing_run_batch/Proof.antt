@@ -6,6 +6,7 @@
 --   Parameters   what the function is called with, and what it has to hand back
 --   Lends        what the three calls are given
 --   Locals       its locals, where the body begins and after the first two calls
+--   Reborrow     how the MIR lends a slice on
 --   Closing      the answer's numbers, and the return
 --   Running      the tracker's call
 --   Opening      the body from its beginning
@@ -15,6 +16,7 @@
 mod Parameters
 mod Lends
 mod Locals
+mod Reborrow
 mod Closing
 mod Running
 mod Opening

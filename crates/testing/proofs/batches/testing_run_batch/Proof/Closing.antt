@@ -3,8 +3,8 @@
 --
 --   exits    what is had then is what the contract promises
 --   closes   the body of the function after the tracker's call
--- Numbers behind `look`, `init`, `forget`, `move` and `free1` count the context's items, as in
--- Opening.
+-- Numbers behind `reborrows`, `look`, `init`, `forget`, `move` and `free1` count the context's
+-- items, as in Opening.
 use mathlib.Core.Path.{_≡_, refl, _∙_}
 use Prim.Native.Nat.{ℕ}
 use mathlib.Core.List.{List, [], _∷_}
@@ -14,8 +14,7 @@ use mir.Val.{Val}
 use base.Logic.{ent, id⊢}
 use base.Fml.{ftrue}
 use types.Kit.{Item, ‵, raw, _⊛_, ⋆, atRet, Sq, runs, _$_, _∵_, !, qed, by, move, drop, use1, group, split, join, fsplit, fjoin, feqL, suffices, frame, done}
-use types.Part.{agg, whole, sub, look-in}
-use types.Run.{look, init, forget, stop, hop, fld, from, load, addr, and-then, no-more, assigns, land, returns, free1, free0}
+use types.Run.{look, init, forget, stop, from, load, and-then, no-more, land, returns, free1, free0}
 use sound.WpLaws.{fmOf}
 use denote.Laws.{Is}
 use denote.Plain.{uint-makes, uint-lawful}
@@ -36,6 +35,7 @@ use Rattle.testing.proofs.batches.testing_run_batch as fun
 use Rattle.testing.proofs.batches.testing_run_batch.Code.Mir as m
 use Rattle.testing.proofs.batches.testing_run_batch.Proof.Parameters.{Called, Rooms, AfterOpening, AfterBatch, stayed, bound, Post, Closes′, Logic}
 use Rattle.testing.proofs.batches.testing_run_batch.Proof.Lends.{closes-passed, closes-to, closes-goes}
+use Rattle.testing.proofs.batches.testing_run_batch.Proof.Reborrow.{reborrows}
 use Rattle.testing.proofs.batches.testing_run_batch.Proof.Locals.{Places, locals, token, Ran}
 
 module _ {M : Type 1} (logic : Logic M) (f : Called) (room : Rooms f) (l : Places)
@@ -134,30 +134,9 @@ module _ {M : Type 1} (logic : Logic M) (f : Called) (room : Rooms f) (l : Place
       (runs (𝓣 .C) (𝓣 .Λ) (locals logic f l) m.t-14
       (atRet (locals logic f l) (Post 𝓤 H A mem run f)))
   closes =
-      assigns !
-      (addr ! (from ! (fld ! refl (hop ! (look-in ! 66 (sub ! 0 refl (whole !))) (stop !)))))
-      (from ! (stop !)) (init ! 26 refl (tt, tt)) $
-      assigns ! (agg ! (and-then ! (load ! (from ! (stop !)) (look ! 26 refl))
-      (and-then ! (load ! (from ! (fld ! refl (stop !))) (look-in ! 66 (sub ! 1 refl (whole !))))
-      (no-more !))))
-      (from ! (stop !))
-      (init ! 24 refl (tt, (tt, (record { fits = room .sites-room .0 }, tt)))) $
-      assigns !
-      (addr ! (from ! (fld ! refl (hop ! (look-in ! 64 (sub ! 0 refl (whole !))) (stop !)))))
-      (from ! (stop !)) (init ! 22 refl (tt, tt)) $
-      assigns ! (agg ! (and-then ! (load ! (from ! (stop !)) (look ! 22 refl))
-      (and-then ! (load ! (from ! (fld ! refl (stop !))) (look-in ! 64 (sub ! 1 refl (whole !))))
-      (no-more !))))
-      (from ! (stop !))
-      (init ! 20 refl (tt, (tt, (record { fits = room .coordinator-room .0 }, tt)))) $
-      assigns !
-      (addr ! (from ! (fld ! refl (hop ! (look-in ! 54 (sub ! 0 refl (whole !))) (stop !)))))
-      (from ! (stop !)) (init ! 18 refl (tt, tt)) $
-      assigns ! (agg ! (and-then ! (load ! (from ! (stop !)) (look ! 18 refl))
-      (and-then ! (load ! (from ! (fld ! refl (stop !))) (look-in ! 54 (sub ! 1 refl (whole !))))
-      (no-more !))))
-      (from ! (stop !))
-      (init ! 16 refl (tt, (tt, (record { fits = room .out-room .0 }, tt)))) $
+      reborrows ! 66 26 24 refl refl refl refl refl refl refl refl (room .sites-room .0) $
+      reborrows ! 64 22 20 refl refl refl refl refl refl refl refl (room .coordinator-room .0) $
+      reborrows ! 54 18 16 refl refl refl refl refl refl refl refl (room .out-room .0) $
       move ! (11 ∷ 9 ∷ 15 ∷ 10 ∷ 8 ∷ 14 ∷ []) $ group ! 6 $
       use1 W (raw (Closes′ 𝓤 H A mem run .pre (closes-to logic f o b)))
       (closes-goes logic f o b) $

@@ -2,8 +2,8 @@
 -- come back; then the rest of the body.
 --
 --   begins   the body of the function
--- Numbers behind `look`, `init`, `forget` and `move` count the context's items: sixteen that are
--- owned, then two to a local, the last local first.
+-- Numbers behind `reborrows`, `look`, `init`, `forget` and `move` count the context's items:
+-- sixteen that are owned, then two to a local, the last local first.
 use mathlib.Core.Path.{refl, ap, subst}
 use Prim.Native.Nat.{ℕ}
 use mathlib.Core.List.{List, [], _∷_}
@@ -14,8 +14,8 @@ use mir.Val.{Val}
 use base.Logic.{id⊢}
 use base.Fml.{ftrue, fat, flft}
 use types.Kit.{‵, raw, _⊛_, atRet, Sq, runs, _$_, !, move, drop, use1, group, split, rewrite, fsplit, feqL}
-use types.Part.{agg, whole, sub, look-in}
-use types.Run.{look, init, forget, stop, hop, fld, from, load, addr, of-opd, and-then, no-more, assigns, land}
+use types.Part.{whole, sub, look-in}
+use types.Run.{look, init, forget, stop, fld, from, load, of-opd, and-then, no-more, assigns, land}
 use sound.WpLaws.{fmOf}
 use denote.Laws.{Is}
 use denote.Builtin.{u32, u64}
@@ -37,6 +37,7 @@ use Rattle.testing.proofs.batches.open_lent as opener
 use Rattle.testing.proofs.batches.testing_run_batch.Code.Mir as m
 use Rattle.testing.proofs.batches.testing_run_batch.Proof.Parameters.{Called, Rooms, as-lent, Post, Opens′, Logic}
 use Rattle.testing.proofs.batches.testing_run_batch.Proof.Lends.{OpensWith, opens-passed, opens-to, opens-goes}
+use Rattle.testing.proofs.batches.testing_run_batch.Proof.Reborrow.{reborrows}
 use Rattle.testing.proofs.batches.testing_run_batch.Proof.Locals.{Places, locals, token, Begun}
 use Rattle.testing.proofs.batches.testing_run_batch.Proof.Running.{runs-batch}
 
@@ -57,22 +58,8 @@ module _ {M : Type 1} (logic : Logic M) (f : Called) (room : Rooms f) (l : Place
       (runs (𝓣 .C) (𝓣 .Λ) (locals logic f l) m.t-1
       (atRet (locals logic f l) (Post 𝓤 H A mem run f)))
   begins =
-      assigns !
-      (addr ! (from ! (fld ! refl (hop ! (look-in ! 66 (sub ! 0 refl (whole !))) (stop !)))))
-      (from ! (stop !)) (init ! 48 refl (tt, tt)) $
-      assigns ! (agg ! (and-then ! (load ! (from ! (stop !)) (look ! 48 refl))
-      (and-then ! (load ! (from ! (fld ! refl (stop !))) (look-in ! 66 (sub ! 1 refl (whole !))))
-      (no-more !))))
-      (from ! (stop !))
-      (init ! 46 refl (tt, (tt, (record { fits = room .sites-room .0 }, tt)))) $
-      assigns !
-      (addr ! (from ! (fld ! refl (hop ! (look-in ! 64 (sub ! 0 refl (whole !))) (stop !)))))
-      (from ! (stop !)) (init ! 44 refl (tt, tt)) $
-      assigns ! (agg ! (and-then ! (load ! (from ! (stop !)) (look ! 44 refl))
-      (and-then ! (load ! (from ! (fld ! refl (stop !))) (look-in ! 64 (sub ! 1 refl (whole !))))
-      (no-more !))))
-      (from ! (stop !))
-      (init ! 42 refl (tt, (tt, (record { fits = room .coordinator-room .0 }, tt)))) $
+      reborrows ! 66 48 46 refl refl refl refl refl refl refl refl (room .sites-room .0) $
+      reborrows ! 64 44 42 refl refl refl refl refl refl refl refl (room .coordinator-room .0) $
       assigns !
       (of-opd ! (load ! (from ! (fld ! refl (stop !))) (look-in ! 54 (sub ! 1 refl (whole !)))))
       (from ! (stop !)) (init ! 40 refl (tt, record { fits = room .out-room .0 })) $

@@ -2,7 +2,8 @@
 -- `run_batch`; then the rest of the body.
 --
 --   runs-batch   the body of the function after the opening
--- Numbers behind `look`, `init`, `forget` and `move` count the context's items, as in Opening.
+-- Numbers behind `reborrows`, `look`, `init`, `forget` and `move` count the context's items, as in
+-- Opening.
 use mathlib.Core.Path.{refl, ap, subst}
 use Prim.Native.Nat.{ℕ}
 use mathlib.Core.List.{List, [], _∷_}
@@ -12,8 +13,8 @@ use mir.Val.{Val}
 use base.Logic.{id⊢}
 use base.Fml.{ftrue, fat}
 use types.Kit.{‵, raw, _⊛_, atRet, Sq, runs, _$_, !, move, drop, use1, group, split, rewrite, fsplit, feqL}
-use types.Part.{agg, whole, sub, look-in}
-use types.Run.{look, init, forget, stop, hop, fld, from, load, addr, and-then, no-more, assigns, land}
+use types.Part.{whole, sub, look-in}
+use types.Run.{look, init, forget, stop, fld, from, load, and-then, no-more, land}
 use sound.WpLaws.{fmOf}
 use denote.Laws.{Is}
 use denote.Slice.{shr-slice-copy}
@@ -33,6 +34,7 @@ use Rattle.tracker.proofs.run_batch as batch
 use Rattle.testing.proofs.batches.testing_run_batch.Code.Mir as m
 use Rattle.testing.proofs.batches.testing_run_batch.Proof.Parameters.{Called, Rooms, as-lent, AfterOpening, asked, Post, Runs′, Logic}
 use Rattle.testing.proofs.batches.testing_run_batch.Proof.Lends.{runs-passed, runs-to, runs-goes}
+use Rattle.testing.proofs.batches.testing_run_batch.Proof.Reborrow.{reborrows}
 use Rattle.testing.proofs.batches.testing_run_batch.Proof.Locals.{Places, locals, token, Opened}
 use Rattle.testing.proofs.batches.testing_run_batch.Proof.Closing.{closes}
 
@@ -61,30 +63,10 @@ module _ {M : Type 1} (logic : Logic M) (f : Called) (room : Rooms f) (l : Place
       (runs (𝓣 .C) (𝓣 .Λ) (locals logic f l) m.t-7
       (atRet (locals logic f l) (Post 𝓤 H A mem run f)))
   runs-batch =
-      assigns !
-      (addr ! (from ! (fld ! refl (hop ! (look-in ! 60 (sub ! 0 refl (whole !))) (stop !)))))
-      (from ! (stop !)) (init ! 38 refl (tt, tt)) $
-      assigns ! (agg ! (and-then ! (load ! (from ! (stop !)) (look ! 38 refl))
-      (and-then ! (load ! (from ! (fld ! refl (stop !))) (look-in ! 60 (sub ! 1 refl (whole !))))
-      (no-more !))))
-      (from ! (stop !))
-      (init ! 36 refl (tt, (tt, (record { fits = room .site-memory-room .0 }, tt)))) $
-      assigns !
-      (addr ! (from ! (fld ! refl (hop ! (look-in ! 58 (sub ! 0 refl (whole !))) (stop !)))))
-      (from ! (stop !)) (init ! 34 refl (tt, tt)) $
-      assigns ! (agg ! (and-then ! (load ! (from ! (stop !)) (look ! 34 refl))
-      (and-then ! (load ! (from ! (fld ! refl (stop !))) (look-in ! 58 (sub ! 1 refl (whole !))))
-      (no-more !))))
-      (from ! (stop !))
-      (init ! 32 refl (tt, (tt, (record { fits = room .coordinator-memory-room .0 }, tt)))) $
-      assigns !
-      (addr ! (from ! (fld ! refl (hop ! (look-in ! 56 (sub ! 0 refl (whole !))) (stop !)))))
-      (from ! (stop !)) (init ! 30 refl (tt, tt)) $
-      assigns ! (agg ! (and-then ! (load ! (from ! (stop !)) (look ! 30 refl))
-      (and-then ! (load ! (from ! (fld ! refl (stop !))) (look-in ! 56 (sub ! 1 refl (whole !))))
-      (no-more !))))
-      (from ! (stop !))
-      (init ! 28 refl (tt, (tt, (record { fits = room .log-room .0 }, tt)))) $
+      reborrows ! 60 38 36 refl refl refl refl refl refl refl refl (room .site-memory-room .0) $
+      reborrows ! 58 34 32 refl refl refl refl refl refl refl refl
+      (room .coordinator-memory-room .0) $
+      reborrows ! 56 30 28 refl refl refl refl refl refl refl refl (room .log-room .0) $
       move ! (10 ∷ []) $
       use1 W (‵ (Looked T.the-row (f .arrivals) (named 3))
       ⊛ ‵ (Looked T.the-row (f .arrivals) (named 3)))

@@ -97,7 +97,7 @@ pub fn record_of(sites: Sites, which: usize) -> SiteRecord
     sites.records[which]
 }
 
-// The record of one site changed.
+// The record of one site changed. Internal, as `record_of`.
 pub fn with_record(sites: Sites, which: usize, numbers: SiteRecord) -> Sites
     requires { ⌜ which < 32 ⌝ }
     ensures { λ r. ⌜ r ≡ withRecord sites which numbers ⌝ }

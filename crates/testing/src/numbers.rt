@@ -40,7 +40,7 @@ pub fn zero_settings() -> Settings
     }
 }
 
-// The settings of six numbers.
+// The settings of six numbers. Internal: `openings` tests the lengths.
 pub fn settings_from(numbers: &[u32]) -> Settings
     requires { ⌜ 6 ≤ length (now numbers) ⌝ }
     ensures { λ r. ⌜ r ≡ settingsFrom (given numbers) ⌝ }
@@ -83,7 +83,7 @@ pub fn zero_sites() -> Sites
     }
 }
 
-// The site's record of four numbers.
+// The site's record of four numbers. Internal: `openings` tests the lengths.
 pub fn site_from(numbers: &[u64]) -> SiteRecord
     requires { ⌜ 4 ≤ length (now numbers) ⌝ }
     ensures { λ r. ⌜ r ≡ siteFrom (given numbers) ⌝ }
@@ -96,7 +96,7 @@ pub fn site_from(numbers: &[u64]) -> SiteRecord
     }
 }
 
-// The four numbers of a site's record.
+// The four numbers of a site's record. Internal: `openings` tests the lengths.
 pub fn write_site(numbers: &mut [u64], site: SiteRecord)
     requires { ⌜ 4 ≤ length (now numbers) ⌝ }
     ensures { λ r. ⌜ Writes (siteNumbers site) (lent numbers) ⌝ }
@@ -107,7 +107,7 @@ pub fn write_site(numbers: &mut [u64], site: SiteRecord)
     numbers[3] = site.used;
 }
 
-// All records and the count of messages.
+// All records and the count of messages. Internal: `openings` tests the lengths.
 pub fn sites_from(numbers: &[u64]) -> Sites
     requires { ⌜ 129 ≤ length (now numbers) ⌝ }
     ensures { λ r. ⌜ r ≡ sitesFrom (given numbers) ⌝ }
@@ -136,7 +136,7 @@ pub fn sites_from(numbers: &[u64]) -> Sites
     }
 }
 
-// Their numbers.
+// Their numbers. Internal: `openings` tests the lengths.
 pub fn write_sites(numbers: &mut [u64], sites: Sites)
     requires { ⌜ 129 ≤ length (now numbers) ⌝ }
     ensures { λ r. ⌜ Writes (sitesNumbers sites) (lent numbers) ⌝ }
@@ -154,7 +154,7 @@ pub fn write_sites(numbers: &mut [u64], sites: Sites)
     numbers[128] = sites.messages;
 }
 
-// One message and how many there are.
+// One message and how many there are. Internal: `openings` tests the lengths.
 pub fn write_message(numbers: &mut [u64], count: u32, message: Message)
     requires { ⌜ 5 ≤ length (now numbers) ⌝ }
     ensures { λ r. ⌜ Writes (oneMessage count message) (lent numbers) ⌝ }
@@ -166,7 +166,7 @@ pub fn write_message(numbers: &mut [u64], count: u32, message: Message)
     numbers[4] = message.b;
 }
 
-// Two messages and how many there are.
+// Two messages and how many there are. Internal: `openings` tests the lengths.
 pub fn write_messages(numbers: &mut [u64], count: u32, first: Message, second: Message)
     requires { ⌜ 9 ≤ length (now numbers) ⌝ }
     ensures { λ r. ⌜ Writes (twoMessages count first second) (lent numbers) ⌝ }
@@ -247,7 +247,7 @@ pub fn zero_coordinator() -> CoordinatorRecord
     }
 }
 
-// The coordinator's record of ten numbers.
+// The coordinator's record of ten numbers. Internal: `openings` tests the lengths.
 pub fn coordinator_from(numbers: &[u64]) -> CoordinatorRecord
     requires { ⌜ (10 ≤ length (now numbers)) × (greatestHeld (now numbers) ≤ 4294967295) ⌝ }
     ensures { λ r. ⌜ r ≡ coordinatorFrom (given numbers) ⌝ }
@@ -302,7 +302,7 @@ fn phase_numbers(phase: Phase) -> PhaseNumbers
     }
 }
 
-// The ten numbers of the coordinator's record.
+// The ten numbers of the coordinator's record. Internal: `openings` tests the lengths.
 pub fn write_coordinator(numbers: &mut [u64], coordinator: CoordinatorRecord)
     requires { ⌜ 10 ≤ length (now numbers) ⌝ }
     ensures { λ r. ⌜ Writes (coordinatorNumbers coordinator) (lent numbers) ⌝ }
@@ -340,7 +340,7 @@ fn found_numbers(quantile: Quantile) -> FoundNumbers
     }
 }
 
-// The two numbers of a quantile, written.
+// The two numbers of a quantile, written. Internal: `openings` tests the lengths.
 pub fn write_quantile(numbers: &mut [u64], quantile: Quantile)
     requires { ⌜ 2 ≤ length (now numbers) ⌝ }
     ensures { λ r. ⌜ Writes (quantileNumbers quantile) (lent numbers) ⌝ }

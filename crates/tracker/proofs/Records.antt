@@ -119,8 +119,8 @@ module _ (answer : BatchAnswer) (good : Is K.the-row answer (VK answer ∷ [])) 
 
   abbrev sites-good : Fields P.the-type P′.the-laws (answer .sites)
   sites-good =
-      LL.owed P.the-type P′.the-laws (answer .sites) (LL.vals P.the-type P′.the-laws (answer .sites))
-      (fields-good .1 .1 .1 .0)
+      LL.owed P.the-type P′.the-laws (answer .sites)
+      (LL.vals P.the-type P′.the-laws (answer .sites)) (fields-good .1 .1 .1 .0)
 
   pub many-records : length records ≡ 32
   many-records = sym (length-map records (R.the-type .to)) ∙ sites-good .0 .1 .0 .1
@@ -146,8 +146,11 @@ module _ (answer : BatchAnswer) (good : Is K.the-row answer (VK answer ∷ [])) 
       let is : Is (Array Element 32) (map (R.the-type .to) (set records k r)) (arrayVal us ∷ []) = (
         us,
         (
-          (refl, length-map (set records k r) (R.the-type .to) ∙ length-set records k r
-          ∙ many-records),
+          (
+            refl,
+            length-map (set records k r) (R.the-type .to) ∙ length-set records k r
+                ∙ many-records,
+          ),
           set-good records (sites-good .0 .0) k r (sites-good .0 .1 .1) r-good,
         ),
       ) in

@@ -238,7 +238,14 @@ pub fn run_one(
     let which = place_of(arrival);
     let sites_then = answer.sites;
     let own = delivery::record_of(sites_then, which);
-    let turn = take_turn(settings, own, answer.written, arrival, log.len(), site_memory);
+    let turn = take_turn(
+        settings,
+        own,
+        answer.written,
+        arrival,
+        log.len(),
+        site_memory,
+    );
     let next = count_turn(answer, which, turn);
     if turn.out.count == 0 {
         return next;
@@ -282,7 +289,14 @@ pub fn run_batch(
         let arrival = arrivals[i];
         let which = place_of(arrival);
         let own = answer.sites.records[which];
-        let turn = take_turn(settings, own, answer.written, arrival, log.len(), site_memory);
+        let turn = take_turn(
+            settings,
+            own,
+            answer.written,
+            arrival,
+            log.len(),
+            site_memory,
+        );
         answer.sites.records[which] = turn.site;
         answer.refusal = turn.refusal;
         answer.accepted = answer.accepted + turn.taken;

@@ -151,7 +151,8 @@ module _ {M : Type 1} (logic : Logic M) (f : Called) (ok : Typed f) where
     unfolding afterTurn
     ends i s X past e =
         qed W (At logic f l i s) ∵
-        exec ! (𝓣 .C) (𝓣 .Λ) (locals logic f l) m.turn-1 (anyQ (afterTurn 𝓤 H X (Left logic f l))) $
+        exec ! (𝓣 .C) (𝓣 .Λ) (locals logic f l) m.turn-1
+        (anyQ (afterTurn 𝓤 H X (Left logic f l))) $
         -- the length of the run, and the first test, which fails
         assigns ! (of-opd ! (load ! (from ! (fld ! refl (stop !)))
         (look-in ! (cell 4) (sub ! 1 refl (whole !))))) (from ! (stop !))
@@ -161,8 +162,8 @@ module _ {M : Type 1} (logic : Logic M) (f : Called) (ok : Typed f) where
         (init ! (cell 19) refl (tt, tt)) $
         rewrite ! (cell 19) (λ (t : Bool). ‵ (fat fullShare tyBool (l 19) 0 (vbool t)))
         (le-ltb i (length (f .arrivals .list)) past) refl $
-        first ! $ branches ! (load ! (from ! (stop !)) (look ! (cell 19) refl)) (λ z. absurd z) (λ _.
-        jumps ! $ forget ! (cell 20) refl $ forget ! (cell 19) refl $ by ! (leaves i s e))
+        first ! $ branches ! (load ! (from ! (stop !)) (look ! (cell 19) refl)) (λ z. absurd z)
+        (λ _. jumps ! $ forget ! (cell 20) refl $ forget ! (cell 19) refl $ by ! (leaves i s e))
 
     pub refuses : (i : ℕ) (s : Point f) (X : SProp 𝓤) → i < length (f .arrivals .list)
         → eqb (s .answer .refusal) 0 ≡ false
@@ -172,7 +173,8 @@ module _ {M : Type 1} (logic : Logic M) (f : Called) (ok : Typed f) where
     unfolding afterTurn
     refuses i s X within refused e =
         qed W (At logic f l i s) ∵
-        exec ! (𝓣 .C) (𝓣 .Λ) (locals logic f l) m.turn-1 (anyQ (afterTurn 𝓤 H X (Left logic f l))) $
+        exec ! (𝓣 .C) (𝓣 .Λ) (locals logic f l) m.turn-1
+        (anyQ (afterTurn 𝓤 H X (Left logic f l))) $
         -- the length of the run, and the first test, which holds
         assigns ! (of-opd ! (load ! (from ! (fld ! refl (stop !)))
         (look-in ! (cell 4) (sub ! 1 refl (whole !))))) (from ! (stop !))
@@ -189,7 +191,8 @@ module _ {M : Type 1} (logic : Logic M) (f : Called) (ok : Typed f) where
         (init ! (cell 21) refl (tt, record { fits = refusal-fits (s .answer) (s .good) })) $
         assigns ! (bin ! (load ! (from ! (stop !)) (look ! (cell 21) refl)) (lit ! tt) tt)
         (from ! (stop !)) (store ! (cell 19) refl (tt, tt)) $
-        rewrite ! (cell 19) (λ (t : Bool). ‵ (fat fullShare tyBool (l 19) 0 (vbool t))) refused refl $
+        rewrite ! (cell 19) (λ (t : Bool). ‵ (fat fullShare tyBool (l 19) 0 (vbool t))) refused
+        refl $
         assigns ! (of-opd ! (load ! (from ! (stop !)) (look ! (cell 19) refl))) (from ! (stop !))
         (init ! (cell 22) refl (tt, tt)) $
         branches ! (load ! (from ! (stop !)) (look ! (cell 22) refl)) (λ z. absurd z) (λ _.

@@ -108,7 +108,8 @@ module _ {M : Type 1} (logic : Logic M) (f : Called) (ok : Typed f) (l : Places)
       qed W (Counted logic f l i turn s) ∵
       exec ! (𝓣 .C) (𝓣 .Λ) (locals logic f l) last (anyQ (afterTurn 𝓤 H X (Left logic f l))) $
       assigns-last ! (bin ! (load ! (from ! (stop !)) (look ! (cell 9) refl)) (lit ! tt)
-      (record { fits = fits })) (from ! (stop !)) (store ! (cell 9) refl (tt, record { fits = fits })) $
+      (record { fits = fits })) (from ! (stop !))
+      (store ! (cell 9) refl (tt, record { fits = fits })) $
       forget ! (cell 13) refl $ by ! k
 
   -- ---- The messages
@@ -133,8 +134,8 @@ module _ {M : Type 1} (logic : Logic M) (f : Called) (ok : Typed f) (l : Places)
         (anyQ (afterTurn 𝓤 H X (Left logic f l))))
     sends asks quiet loud =
         assigns ! (bin ! (load ! (from ! (fld ! refl (fld ! refl (stop !))))
-        (look-in ! (cell 13) (sub ! 0 refl (sub ! 3 refl (whole !))))) (lit ! tt) tt) (from ! (stop !))
-        (init ! (cell 34) refl (tt, tt)) $
+        (look-in ! (cell 13) (sub ! 0 refl (sub ! 3 refl (whole !))))) (lit ! tt) tt)
+        (from ! (stop !)) (init ! (cell 34) refl (tt, tt)) $
         first ! $ branches ! (load ! (from ! (stop !)) (look ! (cell 34) refl)) (λ test.
         let some = some-of (turn .out .count) test in
         assigns ! (of-opd ! (load ! (from ! (stop !)) (look ! (cell 8) refl))) (from ! (stop !))
@@ -144,20 +145,20 @@ module _ {M : Type 1} (logic : Logic M) (f : Called) (ok : Typed f) (l : Places)
         assigns ! (addr ! (from ! (fld ! refl (hop ! (look-in ! (cell 5) (sub ! 0 refl (whole !)))
         (stop !))))) (from ! (stop !)) (init ! (cell 37) refl (tt, tt)) $
         assigns ! (agg ! (and-then ! (load ! (from ! (stop !)) (look ! (cell 37) refl))
-        (and-then ! (load ! (from ! (fld ! refl (stop !))) (look-in ! (cell 5) (sub ! 1 refl (whole !))))
-        (no-more !)))) (from ! (stop !))
+        (and-then ! (load ! (from ! (fld ! refl (stop !)))
+        (look-in ! (cell 5) (sub ! 1 refl (whole !)))) (no-more !)))) (from ! (stop !))
         (init ! (cell 38) refl (tt, (tt, (record { fits = ok .site-memory-room .0 }, tt)))) $
         assigns ! (addr ! (from ! (fld ! refl (hop ! (look-in ! (cell 6) (sub ! 0 refl (whole !)))
         (stop !))))) (from ! (stop !)) (init ! (cell 39) refl (tt, tt)) $
         assigns ! (agg ! (and-then ! (load ! (from ! (stop !)) (look ! (cell 39) refl))
-        (and-then ! (load ! (from ! (fld ! refl (stop !))) (look-in ! (cell 6) (sub ! 1 refl (whole !))))
-        (no-more !)))) (from ! (stop !))
+        (and-then ! (load ! (from ! (fld ! refl (stop !)))
+        (look-in ! (cell 6) (sub ! 1 refl (whole !)))) (no-more !)))) (from ! (stop !))
         (init ! (cell 40) refl (tt, (tt, (record { fits = ok .coordinator-memory-room .0 }, tt)))) $
         assigns ! (addr ! (from ! (fld ! refl (hop ! (look-in ! (cell 7) (sub ! 0 refl (whole !)))
         (stop !))))) (from ! (stop !)) (init ! (cell 41) refl (tt, tt)) $
         assigns ! (agg ! (and-then ! (load ! (from ! (stop !)) (look ! (cell 41) refl))
-        (and-then ! (load ! (from ! (fld ! refl (stop !))) (look-in ! (cell 7) (sub ! 1 refl (whole !))))
-        (no-more !)))) (from ! (stop !))
+        (and-then ! (load ! (from ! (fld ! refl (stop !)))
+        (look-in ! (cell 7) (sub ! 1 refl (whole !)))) (no-more !)))) (from ! (stop !))
         (init ! (cell 42) refl (tt, (tt, (record { fits = ok .log-room .0 }, tt)))) $
         move ! (2 ∷ 3 ∷ []) $
         lends u32 (f .siteMemory) (named 1) (named 0) (s .lent .siteMemory) ! tt (λ ν₁ δ₁.

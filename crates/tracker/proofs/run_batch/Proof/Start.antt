@@ -56,14 +56,14 @@ module _ {M : Type 1} (logic : Logic M) (f : Called) (ok : Typed f) (l : Places)
       assigns ! (addr ! (from ! (fld ! refl (hop ! (look-in ! (cell 5) (sub ! 0 refl (whole !)))
       (stop !))))) (from ! (stop !)) (init ! (cell 15) refl (tt, tt)) $
       assigns ! (agg ! (and-then ! (load ! (from ! (stop !)) (look ! (cell 15) refl))
-      (and-then ! (load ! (from ! (fld ! refl (stop !))) (look-in ! (cell 5) (sub ! 1 refl (whole !))))
-      (no-more !)))) (from ! (stop !))
+      (and-then ! (load ! (from ! (fld ! refl (stop !)))
+      (look-in ! (cell 5) (sub ! 1 refl (whole !)))) (no-more !)))) (from ! (stop !))
       (init ! (cell 16) refl (tt, (tt, (record { fits = ok .site-memory-room .0 }, tt)))) $
       assigns ! (addr ! (from ! (fld ! refl (hop ! (look-in ! (cell 6) (sub ! 0 refl (whole !)))
       (stop !))))) (from ! (stop !)) (init ! (cell 17) refl (tt, tt)) $
       assigns ! (agg ! (and-then ! (load ! (from ! (stop !)) (look ! (cell 17) refl))
-      (and-then ! (load ! (from ! (fld ! refl (stop !))) (look-in ! (cell 6) (sub ! 1 refl (whole !))))
-      (no-more !)))) (from ! (stop !))
+      (and-then ! (load ! (from ! (fld ! refl (stop !)))
+      (look-in ! (cell 6) (sub ! 1 refl (whole !)))) (no-more !)))) (from ! (stop !))
       (init ! (cell 18) refl (tt, (tt, (record { fits = ok .coordinator-memory-room .0 }, tt)))) $
       -- both memories are lent again
       move ! (2 ∷ 3 ∷ []) $

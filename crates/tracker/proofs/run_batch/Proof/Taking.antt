@@ -1,4 +1,5 @@
--- A turn of `run_batch`'s loop at its site: the sites' memory is lent to `take_turn` and comes back.
+-- A turn of `run_batch`'s loop at its site: the sites' memory is lent to `take_turn` and comes
+-- back.
 --
 --   moved        a point of the loop, with other memory of the sites
 --   takes-turn   from where the record was read to where the turn was taken

@@ -1,5 +1,5 @@
--- A turn of `run_batch`'s loop that takes one arrival: both tests hold, the arrival is read, and the
--- record of its site is read where it stands; then the turn is taken, counted and delivered.
+-- A turn of `run_batch`'s loop that takes one arrival: both tests hold, the arrival is read, and
+-- the record of its site is read where it stands; then the turn is taken, counted and delivered.
 --
 --   reads   from the loop's test to where the record was read
 --   takes   such a turn leads to the loop's test again, at the next index
@@ -113,7 +113,8 @@ module _ {M : Type 1} (logic : Logic M) (f : Called) (ok : Typed f) (l : Places)
       (look-in ! (cell 4) (sub ! 0 refl (whole !))))
       (load ! (from ! (stop !)) (look ! (cell 20) refl)) tt)
       (from ! (stop !)) (init ! (cell 23) refl (tt, tt)) $
-      rewrite ! (cell 23) (λ (z : ℕ). ‵ (fat fullShare tyPtr (l 23) 0 (vptr (f .arrivals .block) z)))
+      rewrite ! (cell 23)
+      (λ (z : ℕ). ‵ (fat fullShare tyPtr (l 23) 0 (vptr (f .arrivals .block) z)))
       (sym (place-is 12 (f .arrivals .offset) i)) refl $
       elem-opens T.the-row (LL.vals T.the-type T′.the-laws) none (f .arrivals) i ! tt (named 0)
       (LL.tells T.the-type T′.the-laws) (LL.copy T.the-type T′.the-copy 𝓤 H A W) within (λ q′ is.

@@ -4,4 +4,5 @@ pub mod batches;
 pub mod coordinators;
 pub mod numbers;
 pub mod openings;
+pub mod public_deliveries;
 pub mod sites;

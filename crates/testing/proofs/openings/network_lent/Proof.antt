@@ -1,8 +1,8 @@
--- Test by test, as `batchFits`.
+-- Test by test, as `networkLent`.
 use mathlib.Core.Path.{sym, _∙_}
 use borrow.Author.Needs.{needs}
-use Rattle.testing.proofs.batches.batch_fits.Statement.{statement}
-use Rattle.testing.proofs.batches.batch_fits.Tie as tie
+use Rattle.testing.proofs.openings.network_lent.Statement.{statement}
+use Rattle.testing.proofs.openings.network_lent.Tie as tie
 
 coordinator-lent-requires : tie.Need-coordinator-lent-requires
 coordinator-lent-requires c κs = search needs
@@ -13,5 +13,5 @@ returns c = rw (sym (c .before .coordinator-lent .ensures) ∙ c .if1 .taken)
 returns-2 : tie.Need-returns-2
 returns-2 c = rw (sym (c .before .coordinator-lent .ensures) ∙ c .if1 .left)
 
-pub batch-fits-spec : {M : Type 1} → statement M
-batch-fits-spec = tie.close (tie.spec coordinator-lent-requires returns returns-2)
+pub network-lent-spec : {M : Type 1} → statement M
+network-lent-spec = tie.close (tie.spec coordinator-lent-requires returns returns-2)

@@ -3,12 +3,12 @@
 ghost use mathlib.Core.Path.{_≡_};
 ghost use Rattle.testing.specs.Openings.{given, lent};
 ghost use Rattle.testing.specs.Batch.{batchFits, noOpening, Opens, ClosesAsk, Closes, BatchExported};
-use crate::numbers::coordinator_from;
+use crate::coordinator_numbers::coordinator_from;
+use crate::coordinator_numbers::write_coordinator;
+use crate::coordinator_numbers::zero_coordinator;
 use crate::numbers::settings_from;
 use crate::numbers::sites_from;
-use crate::numbers::write_coordinator;
 use crate::numbers::write_sites;
-use crate::numbers::zero_coordinator;
 use crate::numbers::zero_settings;
 use crate::numbers::zero_sites;
 use crate::openings::UNFIT;

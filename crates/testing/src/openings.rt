@@ -1,14 +1,14 @@
 // Whether what is lent fits the boundary, and the records made from it.
 ghost use mathlib.Core.Path.{_≡_};
 ghost use Rattle.testing.specs.Openings.{given, placesLent, siteLent, coordinatorLent, networkLent, OpensPlaces, OpensSite, OpensCoordinator};
+use crate::coordinator_numbers::coordinator_fits;
+use crate::coordinator_numbers::coordinator_from;
+use crate::coordinator_numbers::zero_coordinator;
 use crate::numbers::SETTINGS_NUMBERS;
 use crate::numbers::SITE_NUMBERS;
 use crate::numbers::SITES_NUMBERS;
-use crate::numbers::coordinator_fits;
-use crate::numbers::coordinator_from;
 use crate::numbers::settings_from;
 use crate::numbers::site_from;
-use crate::numbers::zero_coordinator;
 use crate::numbers::zero_settings;
 use crate::numbers::zero_site;
 use model::CoordinatorRecord;

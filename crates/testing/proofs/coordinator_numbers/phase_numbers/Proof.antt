@@ -1,7 +1,7 @@
 -- By phase, as `phaseNumbers`.
 use borrow.Author.Needs.{needs}
-use Rattle.testing.proofs.numbers.phase_numbers.Statement.{statement}
-use Rattle.testing.proofs.numbers.phase_numbers.Tie as tie
+use Rattle.testing.proofs.coordinator_numbers.phase_numbers.Statement.{statement}
+use Rattle.testing.proofs.coordinator_numbers.phase_numbers.Tie as tie
 
 enum-told : tie.Need-enum-told
 enum-told c = search needs

@@ -3,8 +3,8 @@ use mathlib.Core.Path.{ap}
 use lib.ListN.{getD}
 use borrow.Author.Needs.{needs}
 use Rattle.model.specs.declared.Phase.{Phase}
-use Rattle.testing.proofs.numbers.coordinator_from.Statement.{statement}
-use Rattle.testing.proofs.numbers.coordinator_from.Tie as tie
+use Rattle.testing.proofs.coordinator_numbers.coordinator_from.Statement.{statement}
+use Rattle.testing.proofs.coordinator_numbers.coordinator_from.Tie as tie
 
 shared-slice-read-site : tie.Need-shared-slice-read-site
 shared-slice-read-site c = search needs

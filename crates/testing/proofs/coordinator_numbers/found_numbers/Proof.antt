@@ -1,7 +1,7 @@
 -- By the quantile, as `foundNumbers`.
 use borrow.Author.Needs.{needs}
-use Rattle.testing.proofs.numbers.found_numbers.Statement.{statement}
-use Rattle.testing.proofs.numbers.found_numbers.Tie as tie
+use Rattle.testing.proofs.coordinator_numbers.found_numbers.Statement.{statement}
+use Rattle.testing.proofs.coordinator_numbers.found_numbers.Tie as tie
 
 enum-told : tie.Need-enum-told
 enum-told c = search needs

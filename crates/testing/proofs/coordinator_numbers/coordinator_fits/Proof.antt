@@ -5,8 +5,8 @@ use Prim.Native.Nat.{ℕ, max}
 use lib.Dec.{leb}
 use borrow.Author.Tests.{lt-leb, le-leb}
 use borrow.Author.Needs.{needs}
-use Rattle.testing.proofs.numbers.coordinator_fits.Statement.{statement}
-use Rattle.testing.proofs.numbers.coordinator_fits.Tie as tie
+use Rattle.testing.proofs.coordinator_numbers.coordinator_fits.Statement.{statement}
+use Rattle.testing.proofs.coordinator_numbers.coordinator_fits.Tie as tie
 
 returns : tie.Need-returns
 returns c = rw (lt-leb 10 _ (c .if1 .taken))

@@ -4,11 +4,11 @@ use native.Mathlib.Omega.{arith}
 use lib.ListN.{length-set}
 use borrow.Author.Needs.{needs}
 use Rattle.model.specs.SiteMemory.{overwrite}
-use Rattle.testing.specs.declared.numbers.PhaseNumbers.{PhaseNumbers}
+use Rattle.testing.specs.declared.coordinator_numbers.PhaseNumbers.{PhaseNumbers}
 use Rattle.testing.specs.Numbers.{tenNumbers}
 use Rattle.testing.proofs.Writing.{written}
-use Rattle.testing.proofs.numbers.write_coordinator.Statement.{statement}
-use Rattle.testing.proofs.numbers.write_coordinator.Tie as tie
+use Rattle.testing.proofs.coordinator_numbers.write_coordinator.Statement.{statement}
+use Rattle.testing.proofs.coordinator_numbers.write_coordinator.Tie as tie
 
 phase-numbers-requires : tie.Need-phase-numbers-requires
 phase-numbers-requires c κs = search needs

@@ -3,11 +3,11 @@ use mathlib.Core.Path.{ap, _∙_}
 use native.Mathlib.Omega.{arith}
 use borrow.Author.Needs.{needs}
 use Rattle.model.specs.SiteMemory.{overwrite}
-use Rattle.testing.specs.declared.numbers.FoundNumbers.{FoundNumbers}
+use Rattle.testing.specs.declared.coordinator_numbers.FoundNumbers.{FoundNumbers}
 use Rattle.testing.specs.Numbers.{twoNumbers}
 use Rattle.testing.proofs.Writing.{written}
-use Rattle.testing.proofs.numbers.write_quantile.Statement.{statement}
-use Rattle.testing.proofs.numbers.write_quantile.Tie as tie
+use Rattle.testing.proofs.coordinator_numbers.write_quantile.Statement.{statement}
+use Rattle.testing.proofs.coordinator_numbers.write_quantile.Tie as tie
 
 found-numbers-requires : tie.Need-found-numbers-requires
 found-numbers-requires c κs = search needs

@@ -4,8 +4,8 @@ use native.Mathlib.Omega.{arith}
 use lib.ListN.{length, length-map}
 use Rattle.public_delivery.proofs.QueueLaws.{getD-within}
 use borrow.Author.Needs.{needs}
-use Rattle.public_delivery.proofs.record_at.Statement.{statement}
-use Rattle.public_delivery.proofs.record_at.Tie as tie
+use Rattle.public_delivery.proofs.calls.record_at.Statement.{statement}
+use Rattle.public_delivery.proofs.calls.record_at.Tie as tie
 
 mul-result : tie.Need-mul-result
 mul-result c = search needs

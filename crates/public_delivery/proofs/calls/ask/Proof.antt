@@ -1,8 +1,8 @@
 -- `public_delivery::ask` meets its contract: by whether the coordinator accepts.
 use Rattle.public_delivery.proofs.StepLaws.{ask-goes, ask-stops}
 use borrow.Author.Needs.{needs}
-use Rattle.public_delivery.proofs.ask.Statement.{statement}
-use Rattle.public_delivery.proofs.ask.Tie as tie
+use Rattle.public_delivery.proofs.calls.ask.Statement.{statement}
+use Rattle.public_delivery.proofs.calls.ask.Tie as tie
 
 next-announcement-requires : tie.Need-next-announcement-requires
 next-announcement-requires c κs = search needs

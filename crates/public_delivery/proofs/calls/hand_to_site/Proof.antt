@@ -8,8 +8,8 @@ use Rattle.network_tests.proofs.PartLaws.{site-few, starts-small, starts-within
 use Rattle.public_delivery.specs.Progress.{joinedIf}
 use Rattle.public_delivery.proofs.SiteStepLaws.{site-unknown, site-stops, site-goes}
 use borrow.Author.Needs.{needs}
-use Rattle.public_delivery.proofs.hand_to_site.Statement.{statement}
-use Rattle.public_delivery.proofs.hand_to_site.Tie as tie
+use Rattle.public_delivery.proofs.calls.hand_to_site.Statement.{statement}
+use Rattle.public_delivery.proofs.calls.hand_to_site.Tie as tie
 
 stop-requires : tie.Need-stop-requires
 stop-requires c κs = search needs

@@ -3,8 +3,8 @@
 use mathlib.Core.Path.{sym, _∙_}
 use denote.Ref.{now}
 use borrow.Author.Needs.{needs}
-use Rattle.public_delivery.proofs.take_step.Statement.{statement}
-use Rattle.public_delivery.proofs.take_step.Tie as tie
+use Rattle.public_delivery.proofs.calls.take_step.Statement.{statement}
+use Rattle.public_delivery.proofs.calls.take_step.Tie as tie
 
 ask-requires : tie.Need-ask-requires
 ask-requires c κs =

@@ -1,8 +1,8 @@
 -- `public_delivery::join_answer` meets its contract: by whether the answer hands out a message.
 use borrow.Author.Tests.{eq-eqb, ne-eqb}
 use borrow.Author.Needs.{needs}
-use Rattle.public_delivery.proofs.join_answer.Statement.{statement}
-use Rattle.public_delivery.proofs.join_answer.Tie as tie
+use Rattle.public_delivery.proofs.calls.join_answer.Statement.{statement}
+use Rattle.public_delivery.proofs.calls.join_answer.Tie as tie
 
 returns : tie.Need-returns
 returns c = rw (eq-eqb (c .before .args .count) 0 (c .if1 .taken))

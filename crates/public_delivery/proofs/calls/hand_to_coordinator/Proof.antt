@@ -4,8 +4,8 @@ use Rattle.delivery.specs.declared.Queue.{Queue}
 use Rattle.public_delivery.specs.Progress.{joinedIf}
 use Rattle.public_delivery.proofs.StepLaws.{coordinator-goes, coordinator-stops}
 use borrow.Author.Needs.{needs}
-use Rattle.public_delivery.proofs.hand_to_coordinator.Statement.{statement}
-use Rattle.public_delivery.proofs.hand_to_coordinator.Tie as tie
+use Rattle.public_delivery.proofs.calls.hand_to_coordinator.Statement.{statement}
+use Rattle.public_delivery.proofs.calls.hand_to_coordinator.Tie as tie
 
 receive-requires : tie.Need-receive-requires
 receive-requires c κs = search needs

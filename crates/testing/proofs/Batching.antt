@@ -1,6 +1,6 @@
 -- The batch call of the boundary: what fits, both parts around the tracker's call, and the whole.
 --
---   BatchFits, batch-fits       what the test shows
+--   batch-fits                  what the test shows
 --   opening-made                records made from numbers that fit
 --   closes-ask                  what the second part asks, from the first
 --   batch-exported              the calls make the whole
@@ -20,25 +20,15 @@ use Rattle.tracker.specs.declared.BatchAnswer.{BatchAnswer}
 use Rattle.tracker.specs.Batch.{BatchSays}
 use Rattle.testing.specs.declared.batches.Opening.{Opening}
 use Rattle.testing.specs.Numbers.{settingsFrom, sitesFrom, coordinatorFrom}
-use Rattle.testing.specs.Openings.{Lent, change, coordinatorLent}
+use Rattle.testing.specs.Openings.{Lent, change}
 use Rattle.testing.specs.Calls.{Kept}
 use Rattle.testing.specs.Batch.{batchFits, openingOf, noOpening, openingFrom, Opens, ClosesAsk, Closes, BatchLends, allLent, callOf, leftBy, BatchExports}
-use Rattle.testing.proofs.Lending.{CoordinatorLent, coordinator-is}
-
-pub record BatchFits (settings sites coordinator : List ℕ) (places : ℕ) : Type 0 where
-  pub lends : CoordinatorLent settings coordinator places 2
-  pub sites-long : 129 ≤ length sites
+use Rattle.testing.proofs.Lending.{NetworkLent, network-is}
 
 pub batch-fits : (settings sites coordinator : List ℕ) (places : ℕ)
     → batchFits settings sites coordinator places ≡ true
-    → BatchFits settings sites coordinator places
-batch-fits settings sites coordinator places fits =
-    let both =
-    both-true (coordinatorLent settings coordinator places 2) (leb 129 (length sites)) fits in
-    record {
-      lends = coordinator-is settings coordinator places 2 (both .first-true);
-      sites-long = leb-true _ _ (both .second-true);
-    }
+    → NetworkLent settings sites coordinator places 2
+batch-fits settings sites coordinator places = network-is settings sites coordinator places 2
 
 -- ---- The opening
 
@@ -81,7 +71,7 @@ closes-ask {settings} {sites} {coordinator} {out} {opening} opens =
     }
   where
     shown : opening .fits ≡ true
-        → BatchFits settings (sites .before) (coordinator .before) (length out)
+        → NetworkLent settings (sites .before) (coordinator .before) (length out) 2
     shown fit =
         batch-fits settings (sites .before) (coordinator .before) (length out)
         (fits-of-opened settings (sites .before) (coordinator .before) (length out)

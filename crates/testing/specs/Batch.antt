@@ -19,15 +19,14 @@ use Rattle.tracker.specs.declared.BatchAnswer.{BatchAnswer}
 use Rattle.tracker.specs.Batch.{BatchCall, BatchLent, BatchSays}
 use Rattle.testing.specs.declared.batches.Opening.{Opening}
 use Rattle.testing.specs.Numbers.{settingsFrom, zeroSettings, sitesFrom, zeroSites, sitesNumbers, coordinatorFrom, zeroCoordinator, coordinatorNumbers}
-use Rattle.testing.specs.Openings.{Slice, given, Lent, lent, coordinatorLent, Writes}
+use Rattle.testing.specs.Openings.{Slice, given, Lent, lent, networkLent, Writes}
 use Rattle.testing.specs.Calls.{Kept, Exported}
 
 -- ---- What is lent
 
--- Settings, the coordinator's record and 129 numbers for the sites, and two places for the answer.
+-- Settings, both records' numbers, and two places for the answer.
 abbrev pub batchFits : List ℕ → List ℕ → List ℕ → ℕ → Bool
-batchFits settings sites coordinator places =
-    coordinatorLent settings coordinator places 2 && leb 129 (length sites)
+batchFits settings sites coordinator places = networkLent settings sites coordinator places 2
 
 -- A lent run of arrivals.
 abbrev pub Arrivals : Type 0

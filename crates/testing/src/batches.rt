@@ -3,17 +3,16 @@
 ghost use mathlib.Core.Path.{_≡_};
 ghost use Rattle.testing.specs.Openings.{given, lent};
 ghost use Rattle.testing.specs.Batch.{batchFits, noOpening, Opens, ClosesAsk, Closes, BatchExported};
-use crate::numbers::SITES_NUMBERS;
-use crate::numbers::coordinator_from;
+use crate::coordinator_numbers::coordinator_from;
+use crate::coordinator_numbers::write_coordinator;
+use crate::coordinator_numbers::zero_coordinator;
 use crate::numbers::settings_from;
 use crate::numbers::sites_from;
-use crate::numbers::write_coordinator;
 use crate::numbers::write_sites;
-use crate::numbers::zero_coordinator;
 use crate::numbers::zero_settings;
 use crate::numbers::zero_sites;
 use crate::openings::UNFIT;
-use crate::openings::coordinator_lent;
+use crate::openings::network_lent;
 use model::Arrival;
 use model::CoordinatorRecord;
 use model::Settings;
@@ -32,10 +31,7 @@ pub struct Opening {
 fn batch_fits(settings: &[u32], sites: &[u64], coordinator: &[u64], places: usize) -> bool
     ensures { λ r. ⌜ r ≡ batchFits (given settings) (given sites) (given coordinator) places ⌝ }
 {
-    if coordinator_lent(settings, coordinator, places, 2) {
-        return SITES_NUMBERS <= sites.len();
-    }
-    false
+    network_lent(settings, sites, coordinator, places, 2)
 }
 
 // Settings that are refused, and records of zeros.

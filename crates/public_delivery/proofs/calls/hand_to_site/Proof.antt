@@ -1,0 +1,145 @@
+-- `public_delivery::hand_to_site` meets its contract: no site has the number, or by whether the
+-- site accepts.
+use mathlib.Core.Path.{ap, _∙_}
+use Prim.Native.Nat.{ℕ, _*_}
+use native.Mathlib.Omega.{arith}
+use Rattle.delivery.specs.declared.Queue.{Queue}
+use Rattle.network_tests.proofs.PartLaws.{site-few, starts-small, starts-within}
+use Rattle.public_delivery.specs.Progress.{joinedIf}
+use Rattle.public_delivery.proofs.SiteStepLaws.{site-unknown, site-stops, site-goes}
+use borrow.Author.Needs.{needs}
+use Rattle.public_delivery.proofs.calls.hand_to_site.Statement.{statement}
+use Rattle.public_delivery.proofs.calls.hand_to_site.Tie as tie
+
+stop-requires : tie.Need-stop-requires
+stop-requires c κs = search needs
+
+returns : tie.Need-returns
+returns c =
+    let start = c .before .before .before .before .before .before .before .before in
+    λ memory.
+    rw (c .stop .ensures)
+    (site-unknown (start .pre .0) (start .pre .1) (c .before .if1 .taken) memory)
+
+cast-which : tie.Need-cast-which
+cast-which c = search needs
+
+site-words-requires : tie.Need-site-words-requires
+site-words-requires c κs = search needs
+
+mul-start : tie.Need-mul-start
+mul-start c =
+    let start = c .before .before .before .before .before .before .before .before .before in
+    let known = c .before .before .if1 .left in
+    let j = start .args .progress .waiting .first .site in
+    let at-start = ap (λ (z : ℕ). j * z) (c .site-words .ensures) in
+    omega (arith, starts-small (start .pre .0) j known, at-start)
+
+mul-part : tie.Need-mul-part
+mul-part c =
+    let start = c .before .before .before .before .before .before .before .before .before in
+    let known = c .before .before .if1 .left in
+    let j = start .args .progress .waiting .first .site in
+    let at-start = ap (λ (z : ℕ). j * z) (c .site-words .ensures) in
+    omega (arith, starts-small (start .pre .0) j known, at-start)
+
+sub-part : tie.Need-sub-part
+sub-part c =
+    let start = c .before .before .before .before .before .before .before .before .before in
+    let known = c .before .before .if1 .left in
+    let j = start .args .progress .waiting .first .site in
+    let at-start = ap (λ (z : ℕ). j * z) (c .site-words .ensures) in
+    omega (arith, starts-within (start .pre .0) j known, at-start)
+
+part-part-start : tie.Need-part-part-start
+part-part-start c =
+    let start = c .before .before .before .before .before .before .before .before .before in
+    let known = c .before .before .if1 .left in
+    let j = start .args .progress .waiting .first .site in
+    let at-start = ap (λ (z : ℕ). j * z) (c .site-words .ensures) in
+    omega (arith, starts-within (start .pre .0) j known, at-start)
+
+part-part-end : tie.Need-part-part-end
+part-part-end c = search needs
+
+record-at-requires : tie.Need-record-at-requires
+record-at-requires c κs =
+    let start = c .before .before .before .before .before .before .before .before .before .before in
+    site-few (start .pre .0) (start .args .progress .waiting .first .site)
+    (c .before .before .before .if1 .left)
+
+receive-requires : tie.Need-receive-requires
+receive-requires c κs = search needs
+
+stop-requires-2 : tie.Need-stop-requires-2
+stop-requires-2 c κs = search needs
+
+returns-2 : tie.Need-returns-2
+returns-2 c =
+    let received = c .before .before .before in
+    let recorded = received .before in
+    let sized = recorded .before .before in
+    let known = sized .before .before in
+    let start = known .before .before .before .before .before .before .before in
+    let numbers = recorded .record-at in
+    let words = sized .site-words in
+    let answer = received .receive in
+    λ memory.
+    rw (c .stop2 .ensures)
+    (site-stops (start .pre .0) (start .pre .1) (known .if1 .left) (numbers .result)
+    (words .result) (numbers .ensures) (words .ensures) (answer .result) (answer .ensures)
+    (c .before .if2 .taken) memory)
+
+with-record-requires : tie.Need-with-record-requires
+with-record-requires c κs =
+    let known = c .before .before .before .before .before .before .before .before .before in
+    let start = known .before .before .before .before .before .before .before in
+    site-few (start .pre .0) (start .args .progress .waiting .first .site) (known .if1 .left)
+
+take-head-requires : tie.Need-take-head-requires
+take-head-requires c κs = search needs
+
+join-answer-requires : tie.Need-join-answer-requires
+join-answer-requires c κs = search needs
+
+returns-3 : tie.Need-returns-3
+returns-3 c =
+    let accepts = c .before .before .before .before .before in
+    let received = accepts .before .before in
+    let recorded = received .before in
+    let sized = recorded .before .before in
+    let known = sized .before .before in
+    let start = known .before .before .before .before .before .before .before in
+    let numbers = recorded .record-at in
+    let words = sized .site-words in
+    let answer = received .receive in
+    let changed = c .before .before .with-record in
+    site-goes (start .pre .0) (start .pre .1) (known .if1 .left) (numbers .result)
+    (words .result) (numbers .ensures) (words .ensures) (answer .result) (answer .ensures)
+    (changed .result) (c .join-answer .result) (changed .ensures)
+    (c .join-answer .ensures
+    ∙ ap (λ (q : Queue). joinedIf (answer .result .count) q (answer .result .reply))
+    (c .before .take-head .ensures))
+    (accepts .if2 .left)
+
+pub hand-to-site-spec : {M : Type 1} → statement M
+hand-to-site-spec =
+    tie.close
+    (tie.spec
+    stop-requires
+    returns
+    cast-which
+    site-words-requires
+    mul-start
+    mul-part
+    sub-part
+    part-part-start
+    part-part-end
+    record-at-requires
+    receive-requires
+    stop-requires-2
+    returns-2
+    with-record-requires
+    take-head-requires
+    join-answer-requires
+    returns-3)

@@ -121,9 +121,12 @@ module _ {M : Type 1} (logic : Logic M) (f : Called) (ok : Typed f) where
       (LL.lawful D.the-type D′.the-laws 𝓤 H A W .typed (f .coordinator) _
       (ok .coordinator-good) .0)) $
       pass1 ! (init ! (behind 0 4) refl (tt, (tt, (record { fits = ok .arrivals-room .0 }, tt)))) $
-      pass1 ! (init ! (behind 0 5) refl (tt, (tt, (record { fits = ok .site-memory-room .0 }, tt)))) $
-      pass1 ! (init ! (behind 0 6) refl (tt, (tt, (record { fits = ok .coordinator-memory-room .0 }, tt)))) $
-      pass1 ! (init ! (behind 0 7) refl (tt, (tt, (record { fits = ok .log-room .0 }, tt)))) $ pass0 ! $
+      pass1 ! (init ! (behind 0 5) refl
+      (tt, (tt, (record { fits = ok .site-memory-room .0 }, tt)))) $
+      pass1 ! (init ! (behind 0 6) refl
+      (tt, (tt, (record { fits = ok .coordinator-memory-room .0 }, tt)))) $
+      pass1 ! (init ! (behind 0 7) refl (tt, (tt, (record { fits = ok .log-room .0 }, tt)))) $
+      pass0 ! $
       -- [_42; …; _0; …; the tokens; what is owned]
       move ! (86 ∷ []) $ split ! $ move ! (1 ∷ []) $ split ! $ move ! (1 ∷ []) $ split ! $
       move ! (1 ∷ []) $ split ! $ move ! (1 ∷ []) $ drop ! $

@@ -17,10 +17,10 @@ use Rattle.model.specs.declared.Arrival.{Arrival}
 use Rattle.model.specs.Choice.{if_then_else_}
 use Rattle.tracker.specs.declared.BatchAnswer.{BatchAnswer}
 use Rattle.tracker.specs.Batch.{BatchCall, BatchLent, BatchSays}
-use Rattle.testing.specs.declared.batches.Opening.{Opening}
+use Rattle.testing_batches.specs.declared.Opening.{Opening}
 use Rattle.testing.specs.Numbers.{settingsFrom, zeroSettings, sitesFrom, zeroSites, sitesNumbers, coordinatorFrom, zeroCoordinator, coordinatorNumbers}
 use Rattle.testing.specs.Openings.{Slice, given, Lent, lent, networkLent, Writes}
 use Rattle.testing.specs.Calls.{Kept, Exported}
 
 -- ---- What is lent
 

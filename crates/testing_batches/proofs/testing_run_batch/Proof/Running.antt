@@ -31,12 +31,12 @@ use Rattle.tracker.proofs.Lending.{value}
 use Rattle.tracker.proofs.Promised.{promised}
 use Rattle.tracker.proofs.Elem.{Looked}
 use Rattle.tracker.proofs.run_batch as batch
-use Rattle.testing.proofs.batches.testing_run_batch.Code.Mir as m
-use Rattle.testing.proofs.batches.testing_run_batch.Proof.Parameters.{Called, Rooms, as-lent, AfterOpening, asked, Post, Runs′, Logic}
-use Rattle.testing.proofs.batches.testing_run_batch.Proof.Lends.{runs-passed, runs-to, runs-goes}
-use Rattle.testing.proofs.batches.testing_run_batch.Proof.Reborrow.{reborrows}
-use Rattle.testing.proofs.batches.testing_run_batch.Proof.Locals.{Places, locals, token, Opened}
-use Rattle.testing.proofs.batches.testing_run_batch.Proof.Closing.{closes}
+use Rattle.testing_batches.proofs.testing_run_batch.Code.Mir as m
+use Rattle.testing_batches.proofs.testing_run_batch.Proof.Parameters.{Called, Rooms, as-lent, AfterOpening, asked, Post, Runs′, Logic}
+use Rattle.testing_batches.proofs.testing_run_batch.Proof.Lends.{runs-passed, runs-to, runs-goes}
+use Rattle.testing_batches.proofs.testing_run_batch.Proof.Reborrow.{reborrows}
+use Rattle.testing_batches.proofs.testing_run_batch.Proof.Locals.{Places, locals, token, Opened}
+use Rattle.testing_batches.proofs.testing_run_batch.Proof.Closing.{closes}
 
 module _ {M : Type 1} (logic : Logic M) (f : Called) (room : Rooms f) (l : Places)
     (o : AfterOpening f) where

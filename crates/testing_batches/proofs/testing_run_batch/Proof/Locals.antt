@@ -20,11 +20,11 @@ use denote.Builtin.{u32, u64}
 use denote.Slice.{sliceTy, finally}
 use Rattle.model.proofs.Arrival as T
 use Rattle.tracker.proofs.BatchAnswer.Laws as K′
-use Rattle.testing.proofs.batches.Opening.Laws as O′
+use Rattle.testing_batches.proofs.Opening.Laws as O′
 use Rattle.tracker.proofs.Lending.{Lending, value}
 use Rattle.tracker.proofs.Again.{Held-at}
 use Rattle.tracker.proofs.Elem.{Looked}
-use Rattle.testing.proofs.batches.testing_run_batch.Proof.Parameters.{VK, VO, Called, AfterOpening, AfterBatch, Logic}
+use Rattle.testing_batches.proofs.testing_run_batch.Proof.Parameters.{VK, VO, Called, AfterOpening, AfterBatch, Logic}
 
 pub record Places : Type 0 where
   pub l₀ : ℕ

@@ -24,22 +24,22 @@ use denote.Steps.{only}
 use denote.Struct.Laws as LL
 use denote.Triple.Call.{calls-at}
 use denote.Triple.Clauses.{lasts}
-use Rattle.testing.specs.declared.batches.Opening.{Opening}
+use Rattle.testing_batches.specs.declared.Opening.{Opening}
 use Rattle.testing.specs.Openings.{change}
-use Rattle.testing.specs.Batch.{Opens}
-use Rattle.testing.proofs.batches.Opening as O
-use Rattle.testing.proofs.batches.Opening.Laws as O′
+use Rattle.testing_batches.specs.Batch.{Opens}
+use Rattle.testing_batches.proofs.Opening as O
+use Rattle.testing_batches.proofs.Opening.Laws as O′
 use Rattle.tracker.proofs.Lending.{value}
 use Rattle.tracker.proofs.Again.{lends, returned}
 use Rattle.tracker.proofs.Promised.{promised}
 use Rattle.tracker.proofs.Elem.{Looked}
-use Rattle.testing.proofs.batches.open_lent as opener
-use Rattle.testing.proofs.batches.testing_run_batch.Code.Mir as m
-use Rattle.testing.proofs.batches.testing_run_batch.Proof.Parameters.{Called, Rooms, as-lent, Post, Opens′, Logic}
-use Rattle.testing.proofs.batches.testing_run_batch.Proof.Lends.{OpensWith, opens-passed, opens-to, opens-goes}
-use Rattle.testing.proofs.batches.testing_run_batch.Proof.Reborrow.{reborrows}
-use Rattle.testing.proofs.batches.testing_run_batch.Proof.Locals.{Places, locals, token, Begun}
-use Rattle.testing.proofs.batches.testing_run_batch.Proof.Running.{runs-batch}
+use Rattle.testing_batches.proofs.open_lent as opener
+use Rattle.testing_batches.proofs.testing_run_batch.Code.Mir as m
+use Rattle.testing_batches.proofs.testing_run_batch.Proof.Parameters.{Called, Rooms, as-lent, Post, Opens′, Logic}
+use Rattle.testing_batches.proofs.testing_run_batch.Proof.Lends.{OpensWith, opens-passed, opens-to, opens-goes}
+use Rattle.testing_batches.proofs.testing_run_batch.Proof.Reborrow.{reborrows}
+use Rattle.testing_batches.proofs.testing_run_batch.Proof.Locals.{Places, locals, token, Begun}
+use Rattle.testing_batches.proofs.testing_run_batch.Proof.Running.{runs-batch}
 
 module _ {M : Type 1} (logic : Logic M) (f : Called) (room : Rooms f) (l : Places) where
   open Logic logic using (𝓤, H, A, W, mem, run, 𝓣, opens-known)

@@ -40,9 +40,9 @@ use Rattle.model.specs.declared.Sites.{Sites}
 use Rattle.model.specs.declared.CoordinatorRecord.{CoordinatorRecord}
 use Rattle.tracker.specs.declared.BatchAnswer.{BatchAnswer}
 use Rattle.tracker.specs.Batch.{BatchCall, BatchLent, BatchSays}
-use Rattle.testing.specs.declared.batches.Opening.{Opening}
+use Rattle.testing_batches.specs.declared.Opening.{Opening}
 use Rattle.testing.specs.Openings.{change}
-use Rattle.testing.specs.Batch.{Opens}
+use Rattle.testing_batches.specs.Batch.{Opens}
 use Rattle.model.proofs.Settings as S
 use Rattle.model.proofs.Settings.Laws as S′
 use Rattle.model.proofs.Sites as P
@@ -52,16 +52,16 @@ use Rattle.model.proofs.CoordinatorRecord.Laws as D′
 use Rattle.model.proofs.Arrival as T
 use Rattle.tracker.proofs.BatchAnswer as K
 use Rattle.tracker.proofs.BatchAnswer.Laws as K′
-use Rattle.testing.proofs.batches.Opening as O
-use Rattle.testing.proofs.batches.Opening.Laws as O′
+use Rattle.testing_batches.proofs.Opening as O
+use Rattle.testing_batches.proofs.Opening.Laws as O′
 use Rattle.tracker.proofs.Lending.{Lending, listed, value}
-use Rattle.testing.proofs.batches.open_lent as opener
-use Rattle.testing.proofs.batches.open_lent.Symbol.{name as #open-lent}
+use Rattle.testing_batches.proofs.open_lent as opener
+use Rattle.testing_batches.proofs.open_lent.Symbol.{name as #open-lent}
 use Rattle.tracker.proofs.run_batch as batch
 use Rattle.tracker.proofs.run_batch.Symbol.{name as #run-batch}
-use Rattle.testing.proofs.batches.close_lent as closer
-use Rattle.testing.proofs.batches.close_lent.Symbol.{name as #close-lent}
-use Rattle.testing.proofs.batches.testing_run_batch as fun
+use Rattle.testing_batches.proofs.close_lent as closer
+use Rattle.testing_batches.proofs.close_lent.Symbol.{name as #close-lent}
+use Rattle.testing_batches.proofs.testing_run_batch as fun
 
 -- ---- The machine's value of each struct
 

@@ -1,8 +1,8 @@
 -- Part by part.
 use mathlib.Core.Bool.{false}
 use borrow.Author.Needs.{needs}
-use Rattle.testing.proofs.batches.no_opening.Statement.{statement}
-use Rattle.testing.proofs.batches.no_opening.Tie as tie
+use Rattle.testing_batches.proofs.no_opening.Statement.{statement}
+use Rattle.testing_batches.proofs.no_opening.Tie as tie
 
 zero-settings-requires : tie.Need-zero-settings-requires
 zero-settings-requires c κs = search needs

@@ -43,22 +43,22 @@ use denote.Triple.Walked.{goes-none-slice, goes-gave-slice, Walks, walked, walk-
 use denote.Exit.{yes}
 use Rattle.model.proofs.Arrival as T
 use Rattle.tracker.proofs.Lending.{Lending, value}
-use Rattle.testing.proofs.batches.open_lent.Symbol as open-def
-use Rattle.testing.proofs.batches.open_lent.Symbol.{name as #open-lent}
-use Rattle.testing.proofs.batches.open_lent.Met as open-thm
+use Rattle.testing_batches.proofs.open_lent.Symbol as open-def
+use Rattle.testing_batches.proofs.open_lent.Symbol.{name as #open-lent}
+use Rattle.testing_batches.proofs.open_lent.Met as open-thm
 use Rattle.tracker.proofs.run_batch.Symbol as batch-def
 use Rattle.tracker.proofs.run_batch.Symbol.{name as #run-batch}
 use Rattle.tracker.proofs.run_batch.Met as batch-thm
-use Rattle.testing.proofs.batches.close_lent.Symbol as close-def
-use Rattle.testing.proofs.batches.close_lent.Symbol.{name as #close-lent}
-use Rattle.testing.proofs.batches.close_lent.Met as close-thm
-use Rattle.testing.proofs.batches.testing_run_batch.Key.{name as #testing-run-batch}
-use Rattle.testing.proofs.batches.testing_run_batch as fun
-use Rattle.testing.proofs.batches.testing_run_batch.Statement as stated
-use Rattle.testing.proofs.batches.testing_run_batch.Code as code
-use Rattle.testing.proofs.batches.testing_run_batch.Proof.Parameters.{Called, Rooms, stayed, bound, Post, Opens′, Runs′, Closes′, Logic}
-use Rattle.testing.proofs.batches.testing_run_batch.Proof.Locals.{token}
-use Rattle.testing.proofs.batches.testing_run_batch.Proof.Opening.{begins}
+use Rattle.testing_batches.proofs.close_lent.Symbol as close-def
+use Rattle.testing_batches.proofs.close_lent.Symbol.{name as #close-lent}
+use Rattle.testing_batches.proofs.close_lent.Met as close-thm
+use Rattle.testing_batches.proofs.testing_run_batch.Key.{name as #testing-run-batch}
+use Rattle.testing_batches.proofs.testing_run_batch as fun
+use Rattle.testing_batches.proofs.testing_run_batch.Statement as stated
+use Rattle.testing_batches.proofs.testing_run_batch.Code as code
+use Rattle.testing_batches.proofs.testing_run_batch.Proof.Parameters.{Called, Rooms, stayed, bound, Post, Opens′, Runs′, Closes′, Logic}
+use Rattle.testing_batches.proofs.testing_run_batch.Proof.Locals.{token}
+use Rattle.testing_batches.proofs.testing_run_batch.Proof.Opening.{begins}
 
 module _ {M : Type 1} (logic : Logic M) (f : Called) (room : Rooms f) where
   open Logic logic using (𝓤, H, A, W, mem, run, 𝓣)
@@ -269,11 +269,11 @@ testing-run-batch-spec 𝓤 H 𝓜 𝓖 𝓡 =
       𝓣 = tablesOf 𝓤 H 𝓜 calls;
       opens-known =
           cited 𝓤 H (Opens′ 𝓤 H (𝓖 .A) (𝓜 .mem) (𝓡 .run)) 𝓜 𝓡 code.env #open-lent
-          open-def.routine code.calls-testing·batches·open-lent (open-thm.met 𝓤 H 𝓜 𝓖 𝓡);
+          open-def.routine code.calls-testing-batches·open-lent (open-thm.met 𝓤 H 𝓜 𝓖 𝓡);
       runs-known =
           cited 𝓤 H (Runs′ 𝓤 H (𝓖 .A) (𝓜 .mem) (𝓡 .run)) 𝓜 𝓡 code.env #run-batch
           batch-def.routine code.calls-tracker·run-batch (batch-thm.met 𝓤 H 𝓜 𝓖 𝓡);
       closes-known =
           cited 𝓤 H (Closes′ 𝓤 H (𝓖 .A) (𝓜 .mem) (𝓡 .run)) 𝓜 𝓡 code.env #close-lent
-          close-def.routine code.calls-testing·batches·close-lent (close-thm.met 𝓤 H 𝓜 𝓖 𝓡);
+          close-def.routine code.calls-testing-batches·close-lent (close-thm.met 𝓤 H 𝓜 𝓖 𝓡);
     }))

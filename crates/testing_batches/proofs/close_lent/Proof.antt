@@ -2,12 +2,12 @@
 use mathlib.Core.Path.{refl}
 use lib.ListN.{length-set}
 use native.Mathlib.Omega.{arith}
-use Rattle.testing.specs.Batch.{countsNumbers}
+use Rattle.testing_batches.specs.Batch.{countsNumbers}
 use Rattle.testing.proofs.Lending.{exported-handed, exported-kept}
 use Rattle.testing.proofs.Writing.{written}
 use borrow.Author.Needs.{needs}
-use Rattle.testing.proofs.batches.close_lent.Statement.{statement}
-use Rattle.testing.proofs.batches.close_lent.Tie as tie
+use Rattle.testing_batches.proofs.close_lent.Statement.{statement}
+use Rattle.testing_batches.proofs.close_lent.Tie as tie
 
 write-sites-requires : tie.Need-write-sites-requires
 write-sites-requires c κs =

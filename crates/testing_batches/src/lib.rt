@@ -1,18 +1,18 @@
 // The batch call, over a lent run of arrivals. Before it the records are made from the numbers, and
 // after it they are written back; what does not fit becomes settings that the tracker refuses.
 ghost use mathlib.Core.Path.{_≡_};
 ghost use Rattle.testing.specs.Openings.{given, lent};
-ghost use Rattle.testing.specs.Batch.{batchFits, noOpening, Opens, ClosesAsk, Closes, BatchExported};
-use crate::coordinator_numbers::coordinator_from;
-use crate::coordinator_numbers::write_coordinator;
-use crate::coordinator_numbers::zero_coordinator;
-use crate::numbers::settings_from;
-use crate::numbers::sites_from;
-use crate::numbers::write_sites;
-use crate::numbers::zero_settings;
-use crate::numbers::zero_sites;
-use crate::openings::UNFIT;
-use crate::openings::network_lent;
+ghost use Rattle.testing_batches.specs.Batch.{batchFits, noOpening, Opens, ClosesAsk, Closes, BatchExported};
+use testing::coordinator_numbers::coordinator_from;
+use testing::coordinator_numbers::write_coordinator;
+use testing::coordinator_numbers::zero_coordinator;
+use testing::numbers::settings_from;
+use testing::numbers::sites_from;
+use testing::numbers::write_sites;
+use testing::numbers::zero_settings;
+use testing::numbers::zero_sites;
+use testing::openings::UNFIT;
+use testing::openings::network_lent;
 use model::Arrival;
 use model::CoordinatorRecord;
 use model::Settings;

@@ -1,9 +1,9 @@
 -- The records where what is lent fits; else settings that are refused.
 use mathlib.Core.Path.{refl, sym, _∙_}
-use Rattle.testing.proofs.Batching.{batch-fits, opening-made}
+use Rattle.testing_batches.proofs.Batching.{batch-fits, opening-made}
 use borrow.Author.Needs.{needs}
-use Rattle.testing.proofs.batches.open_lent.Statement.{statement}
-use Rattle.testing.proofs.batches.open_lent.Tie as tie
+use Rattle.testing_batches.proofs.open_lent.Statement.{statement}
+use Rattle.testing_batches.proofs.open_lent.Tie as tie
 
 batch-fits-requires : tie.Need-batch-fits-requires
 batch-fits-requires c κs = search needs

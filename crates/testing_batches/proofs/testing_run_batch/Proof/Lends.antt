@@ -28,8 +28,8 @@ use Rattle.model.specs.declared.Arrival.{Arrival}
 use Rattle.model.specs.declared.Sites.{Sites}
 use Rattle.model.specs.declared.CoordinatorRecord.{CoordinatorRecord}
 use Rattle.tracker.specs.declared.BatchAnswer.{BatchAnswer}
-use Rattle.testing.specs.declared.batches.Opening.{Opening}
-use Rattle.testing.proofs.Batching.{closes-ask}
+use Rattle.testing_batches.specs.declared.Opening.{Opening}
+use Rattle.testing_batches.proofs.Batching.{closes-ask}
 use Rattle.model.proofs.Settings as S
 use Rattle.model.proofs.Settings.Laws as S′
 use Rattle.model.proofs.Sites as P
@@ -39,12 +39,12 @@ use Rattle.model.proofs.CoordinatorRecord.Laws as D′
 use Rattle.model.proofs.Arrival as T
 use Rattle.tracker.proofs.BatchAnswer as K
 use Rattle.tracker.proofs.BatchAnswer.Laws as K′
-use Rattle.testing.proofs.batches.Opening as O
-use Rattle.testing.proofs.batches.Opening.Laws as O′
+use Rattle.testing_batches.proofs.Opening as O
+use Rattle.testing_batches.proofs.Opening.Laws as O′
 use Rattle.tracker.proofs.Lending.{listed, value}
 use Rattle.tracker.proofs.Again.{Held-at, Again}
 use Rattle.tracker.proofs.Elem.{Looked}
-use Rattle.testing.proofs.batches.testing_run_batch.Proof.Parameters.{VS, VP, VD, VK, VO, Called, Rooms, as-lent, AfterOpening, AfterBatch, Opens′, Runs′, Closes′, Logic}
+use Rattle.testing_batches.proofs.testing_run_batch.Proof.Parameters.{VS, VP, VD, VK, VO, Called, Rooms, as-lent, AfterOpening, AfterBatch, Opens′, Runs′, Closes′, Logic}
 
 pub record OpensWith : Type 0 where
   pub ν₁ : ℕ

@@ -3,6 +3,10 @@
 ghost use mathlib.Core.Path.{_≡_};
 ghost use Rattle.testing.specs.Openings.{given, lent};
 ghost use Rattle.testing_batches.specs.Batch.{batchFits, noOpening, Opens, ClosesAsk, Closes, BatchExported};
+use model::Arrival;
+use model::CoordinatorRecord;
+use model::Settings;
+use model::Sites;
 use testing::coordinator_numbers::coordinator_from;
 use testing::coordinator_numbers::write_coordinator;
 use testing::coordinator_numbers::zero_coordinator;
@@ -13,10 +17,6 @@ use testing::numbers::zero_settings;
 use testing::numbers::zero_sites;
 use testing::openings::UNFIT;
 use testing::openings::network_lent;
-use model::Arrival;
-use model::CoordinatorRecord;
-use model::Settings;
-use model::Sites;
 use tracker::BatchAnswer;
 
 // What the batch call is given, and whether what is lent fits.

@@ -9,5 +9,6 @@ pub mod Lending
 pub mod Frame
 pub mod Again
 pub mod Promised
+pub mod Reborrow
 pub mod Elem
 pub mod Tail

@@ -3,9 +3,9 @@
 --   turn-places, turn-refused, turn-taken   the turn, as the code takes it
 --   turn-asks, count-asks, deliver-asks     what each part asks, from a batch that is held
 --   quiet-says, loud-says                   the arrival without messages, and with them
-use mathlib.Core.Path.{_≡_, refl, sym, ap, _∙_, subst, subst⁻¹}
+use mathlib.Core.Path.{_≡_, refl, sym, ap, _∙_, subst⁻¹}
 use mathlib.Core.List.{List}
-use Prim.Native.Nat.{ℕ, _+_, _*_, _≤_, _<_}
+use Prim.Native.Nat.{ℕ, _+_, _≤_}
 use native.Mathlib.Omega.{arith}
 use native.Mathlib.Nat.{add-zero}
 use lib.ListN.{length, getD}
@@ -16,16 +16,15 @@ use Rattle.model.specs.Refusals.{accepted}
 use Rattle.model.specs.Runs.{Batch}
 use Rattle.site_steps.specs.declared.Observed.{Observed}
 use Rattle.network_memory.specs.Records.{noRecord}
-use Rattle.delivery.specs.declared.Underway.{Underway}
 use Rattle.delivery.specs.Log.{logRoom}
 use Rattle.delivery.specs.Holding.{state}
-use Rattle.delivery.specs.Arriving.{ArrivalAsks, Taken, SiteAsks, SiteSays, MessagesAsk, outOf, putBack}
+use Rattle.delivery.specs.Arriving.{ArrivalAsks, SiteAsks, SiteSays, MessagesAsk, outOf, putBack}
 use Rattle.delivery.proofs.SiteLaws.{site-few}
 use Rattle.delivery.proofs.TakenLaws.{quiet-rests}
 use Rattle.tracker.specs.declared.BatchAnswer.{BatchAnswer}
 use Rattle.tracker.specs.declared.Turn.{Turn}
 use Rattle.tracker.specs.Batch.{BatchLent}
-use Rattle.tracker.specs.Steps.{placesRefusal, PlacesAsk, oneRefusal, batchOne, withOne, underwayOf, BatchHolds, OneAsks, OneSays, lentOf}
+use Rattle.tracker.specs.Steps.{placesRefusal, PlacesAsk, oneRefusal, batchOne, underwayOf, BatchHolds, OneAsks, OneSays, lentOf}
 use Rattle.tracker.specs.Turns.{placeOf, ownOf, refusedTurn, TurnAsks, RefusedTurn, TakenTurn, TurnTold, refused, taken, TurnSays, counted, CountAsks, DeliverAsks, DeliverSays}
 use Rattle.tracker.proofs.InArray.{set-same}
 use Rattle.tracker.proofs.RefusalLaws.{place-known, place-within}

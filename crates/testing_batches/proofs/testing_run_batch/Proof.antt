@@ -6,7 +6,6 @@
 --   Parameters   what the function is called with, and what it has to hand back
 --   Lends        what the three calls are given
 --   Locals       its locals, where the body begins and after the first two calls
---   Reborrow     how the MIR lends a slice on
 --   Closing      the answer's numbers, and the return
 --   Running      the tracker's call
 --   Opening      the body from its beginning
@@ -16,7 +15,6 @@
 mod Parameters
 mod Lends
 mod Locals
-mod Reborrow
 mod Closing
 mod Running
 mod Opening
@@ -25,7 +23,7 @@ use mathlib.Core.List.{List, [], _∷_}
 use mir.Syntax.{named}
 use mir.Val.{Val}
 use base.Logic.{ent, emp, via, fst∗}
-use base.Fml.{Lft, Share, ftrue}
+use base.Fml.{ftrue}
 use prog.Wp.{WpFn}
 use contract.Running.{givenOf, tables, tablesOf}
 use types.Kit.{‵, _⊛_, _$_, _∵_, !, qed, move, drop, split, fsplit}
@@ -33,7 +31,6 @@ use types.Run.{init, enter, alloc1, alloc0, params1, pass1, pass0}
 use sound.WpLaws.{WpFn-mono}
 use denote.RattleType.{owns}
 use denote.Builtin.{u32, u64}
-use denote.Ref.{RefT}
 use denote.Signature.{plain}
 use denote.Slice.{ShrSlice, MutSlice, slice-vals, shr-slice-tells, mut-slice-tells}
 use denote.Triple.Entry.{onEntry}
@@ -42,7 +39,8 @@ use denote.Triple.Table.{entered, cited}
 use denote.Triple.Walked.{goes-none-slice, goes-gave-slice, Walks, walked, walk-meets}
 use denote.Exit.{yes}
 use Rattle.model.proofs.Arrival as T
-use Rattle.tracker.proofs.Lending.{Lending, value}
+use Rattle.tracker.proofs.Frame.{placed}
+use Rattle.tracker.proofs.Lending.{lending, value}
 use Rattle.testing_batches.proofs.open_lent.Symbol as open-def
 use Rattle.testing_batches.proofs.open_lent.Symbol.{name as #open-lent}
 use Rattle.testing_batches.proofs.open_lent.Met as open-thm
@@ -111,48 +109,11 @@ module _ {M : Type 1} (logic : Logic M) (f : Called) (room : Rooms f) where
       move ! (64 ∷ []) $ fsplit ! $ move ! (1 ∷ []) $ fsplit ! $ move ! (1 ∷ []) $ fsplit ! $
       move ! (1 ∷ []) $ fsplit ! $ move ! (1 ∷ []) $ fsplit ! $ move ! (1 ∷ []) $ fsplit ! $
       move ! (1 ∷ []) $ fsplit ! $ move ! (1 ∷ []) $ fsplit ! $ move ! (1 ∷ []) $ drop ! $
-      begins logic f room (record {
-        l₀ = l₀;
-        l₁ = l₁;
-        l₂ = l₂;
-        l₃ = l₃;
-        l₄ = l₄;
-        l₅ = l₅;
-        l₆ = l₆;
-        l₇ = l₇;
-        l₈ = l₈;
-        l₉ = l₉;
-        l₁₀ = l₁₀;
-        l₁₁ = l₁₁;
-        l₁₂ = l₁₂;
-        l₁₃ = l₁₃;
-        l₁₄ = l₁₄;
-        l₁₅ = l₁₅;
-        l₁₆ = l₁₆;
-        l₁₇ = l₁₇;
-        l₁₈ = l₁₈;
-        l₁₉ = l₁₉;
-        l₂₀ = l₂₀;
-        l₂₁ = l₂₁;
-        l₂₂ = l₂₂;
-        l₂₃ = l₂₃;
-        l₂₄ = l₂₄;
-        l₂₅ = l₂₅;
-        l₂₆ = l₂₆;
-        l₂₇ = l₂₇;
-      })))))))))))))))))))))))))))))
+      begins logic f room (placed (l₀ ∷ l₁ ∷ l₂ ∷ l₃ ∷ l₄ ∷ l₅ ∷ l₆ ∷ l₇ ∷ l₈ ∷ l₉ ∷
+      l₁₀ ∷ l₁₁ ∷ l₁₂ ∷ l₁₃ ∷ l₁₄ ∷ l₁₅ ∷ l₁₆ ∷ l₁₇ ∷ l₁₈ ∷ l₁₉ ∷ l₂₀ ∷ l₂₁ ∷ l₂₂ ∷ l₂₃ ∷
+      l₂₄ ∷ l₂₅ ∷ l₂₆ ∷ l₂₇ ∷ []))))))))))))))))))))))))))))))
 
 -- ---- What is given at entry, put in order
-
-abbrev lending : {X : Type 0} → Lft → Share → RefT (List X) → Lending X
-lending κ q r = record {
-  life = κ;
-  share = q;
-  block = r .ptr .0;
-  offset = r .ptr .1;
-  name = r .name;
-  list = r .now;
-}
 
 module _ {M : Type 1} (logic : Logic M) where
   open Logic logic using (𝓤, H, A, W, mem, run, 𝓣)

@@ -33,7 +33,7 @@ use mathlib.Core.List.{List, [], _∷_}
 use mir.Syntax.{named}
 use mir.Val.{Val}
 use base.Logic.{ent, emp, via, fst∗}
-use base.Fml.{Lft, Share, ftrue, flft}
+use base.Fml.{ftrue, flft}
 use prog.Wp.{WpFn}
 use contract.Running.{givenOf, tables, tablesOf}
 use types.Kit.{‵, _⊛_, _$_, _∵_, !, qed, move, drop, split, fsplit}
@@ -42,7 +42,6 @@ use sound.WpLaws.{WpFn-mono}
 use denote.RattleType.{owns}
 use denote.Builtin.{u32, u64}
 use denote.Signature.{plain}
-use denote.Ref.{RefT}
 use denote.Slice.{ShrSlice, MutSlice, slice-vals, shr-slice-tells, mut-slice-tells}
 use denote.Struct.Laws as LL
 use denote.Triple.Entry.{onEntry}
@@ -58,7 +57,7 @@ use Rattle.model.proofs.CoordinatorRecord as D
 use Rattle.model.proofs.CoordinatorRecord.Laws as D′
 use Rattle.model.proofs.Arrival as T
 use Rattle.tracker.proofs.Frame.{placed}
-use Rattle.tracker.proofs.Lending.{Lending, value}
+use Rattle.tracker.proofs.Lending.{lending, value}
 use Rattle.tracker.proofs.open_batch.Symbol as open-def
 use Rattle.tracker.proofs.open_batch.Symbol.{name as #tracker·open-batch}
 use Rattle.tracker.proofs.open_batch.Met as open-thm
@@ -143,16 +142,6 @@ module _ {M : Type 1} (logic : Logic M) (f : Called) (ok : Typed f) where
       )))))))))))))))))))))))))))))))))))))))))))
 
 -- ---- What is given at entry, put in order
-
-abbrev lending : {X : Type 0} → Lft → Share → RefT (List X) → Lending X
-lending κ q r = record {
-  life = κ;
-  share = q;
-  block = r .ptr .0;
-  offset = r .ptr .1;
-  name = r .name;
-  list = r .now;
-}
 
 module _ {M : Type 1} (logic : Logic M) where
   open Logic logic using (𝓤, H, A, W, mem, run, 𝓣)

@@ -28,15 +28,16 @@ use Rattle.testing.specs.Openings.{change}
 use Rattle.testing_batches.specs.Batch.{Closes, BatchLends}
 use Rattle.testing_batches.proofs.Batching.{batch-exported}
 use Rattle.model.proofs.Arrival as T
+use Rattle.tracker.proofs.Frame.{Places}
 use Rattle.tracker.proofs.Promised.{promised}
+use Rattle.tracker.proofs.Reborrow.{reborrows}
 use Rattle.tracker.proofs.Elem.{Looked}
 use Rattle.testing_batches.proofs.close_lent as closer
 use Rattle.testing_batches.proofs.testing_run_batch as fun
 use Rattle.testing_batches.proofs.testing_run_batch.Code.Mir as m
 use Rattle.testing_batches.proofs.testing_run_batch.Proof.Parameters.{Called, Rooms, AfterOpening, AfterBatch, stayed, bound, Post, Closes′, Logic}
 use Rattle.testing_batches.proofs.testing_run_batch.Proof.Lends.{closes-passed, closes-to, closes-goes}
-use Rattle.testing_batches.proofs.testing_run_batch.Proof.Reborrow.{reborrows}
-use Rattle.testing_batches.proofs.testing_run_batch.Proof.Locals.{Places, locals, token, Ran}
+use Rattle.testing_batches.proofs.testing_run_batch.Proof.Locals.{locals, token, Ran}
 
 module _ {M : Type 1} (logic : Logic M) (f : Called) (room : Rooms f) (l : Places)
     (o : AfterOpening f) (b : AfterBatch f (o .opening)) where

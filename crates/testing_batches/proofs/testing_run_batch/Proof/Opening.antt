@@ -31,19 +31,19 @@ use Rattle.testing_batches.proofs.Opening as O
 use Rattle.testing_batches.proofs.Opening.Laws as O′
 use Rattle.tracker.proofs.Lending.{value}
 use Rattle.tracker.proofs.Again.{lends, returned}
+use Rattle.tracker.proofs.Frame.{Places}
 use Rattle.tracker.proofs.Promised.{promised}
+use Rattle.tracker.proofs.Reborrow.{reborrows}
 use Rattle.tracker.proofs.Elem.{Looked}
 use Rattle.testing_batches.proofs.open_lent as opener
 use Rattle.testing_batches.proofs.testing_run_batch.Code.Mir as m
 use Rattle.testing_batches.proofs.testing_run_batch.Proof.Parameters.{Called, Rooms, as-lent, Post, Opens′, Logic}
 use Rattle.testing_batches.proofs.testing_run_batch.Proof.Lends.{OpensWith, opens-passed, opens-to, opens-goes}
-use Rattle.testing_batches.proofs.testing_run_batch.Proof.Reborrow.{reborrows}
-use Rattle.testing_batches.proofs.testing_run_batch.Proof.Locals.{Places, locals, token, Begun}
+use Rattle.testing_batches.proofs.testing_run_batch.Proof.Locals.{locals, token, Begun}
 use Rattle.testing_batches.proofs.testing_run_batch.Proof.Running.{runs-batch}
 
 module _ {M : Type 1} (logic : Logic M) (f : Called) (room : Rooms f) (l : Places) where
   open Logic logic using (𝓤, H, A, W, mem, run, 𝓣, opens-known)
-  open Places l using (l₉)
 
   -- What `open_lent` promises, with the lists that its parameters were left at.
   abbrev Lasts : Type 0
@@ -93,7 +93,7 @@ module _ {M : Type 1} (logic : Logic M) (f : Called) (room : Rooms f) (l : Place
       -- [the tokens; the last lists; settings; kept; kept; out; …]
       land ! (from ! (stop !))
       (init ! 51 refl (LL.lawful O.the-type O′.the-laws 𝓤 H A W .typed opening _ good .0)) $
-      rewrite ! 51 (λ (w : Val). ‵ (fat fullShare O′.mir l₉ 0 w))
+      rewrite ! 51 (λ (w : Val). ‵ (fat fullShare O′.mir (l 9) 0 w))
       (ap only (LL.tells O.the-type O′.the-laws opening (u ∷ []) good)) refl $
       move ! (1 ∷ []) $ fsplit ! $ drop ! $ fsplit ! $ fsplit ! $ move ! (1 ∷ []) $
       feqL ! (λ same₁.

@@ -28,20 +28,20 @@ use Rattle.model.proofs.Arrival as T
 use Rattle.tracker.proofs.BatchAnswer as K
 use Rattle.tracker.proofs.BatchAnswer.Laws as K′
 use Rattle.tracker.proofs.Lending.{value}
+use Rattle.tracker.proofs.Frame.{Places}
 use Rattle.tracker.proofs.Promised.{promised}
+use Rattle.tracker.proofs.Reborrow.{reborrows}
 use Rattle.tracker.proofs.Elem.{Looked}
 use Rattle.tracker.proofs.run_batch as batch
 use Rattle.testing_batches.proofs.testing_run_batch.Code.Mir as m
 use Rattle.testing_batches.proofs.testing_run_batch.Proof.Parameters.{Called, Rooms, as-lent, AfterOpening, asked, Post, Runs′, Logic}
 use Rattle.testing_batches.proofs.testing_run_batch.Proof.Lends.{runs-passed, runs-to, runs-goes}
-use Rattle.testing_batches.proofs.testing_run_batch.Proof.Reborrow.{reborrows}
-use Rattle.testing_batches.proofs.testing_run_batch.Proof.Locals.{Places, locals, token, Opened}
+use Rattle.testing_batches.proofs.testing_run_batch.Proof.Locals.{locals, token, Opened}
 use Rattle.testing_batches.proofs.testing_run_batch.Proof.Closing.{closes}
 
 module _ {M : Type 1} (logic : Logic M) (f : Called) (room : Rooms f) (l : Places)
     (o : AfterOpening f) where
   open Logic logic using (𝓤, H, A, W, mem, run, 𝓣, runs-known)
-  open Places l using (l₁₀)
 
   -- What `run_batch` promises, with the lists that its parameters were left at.
   abbrev Lasts : Type 0
@@ -97,7 +97,7 @@ module _ {M : Type 1} (logic : Logic M) (f : Called) (room : Rooms f) (l : Place
       -- [the tokens; the last lists; the run; coordinator; …]
       land ! (from ! (stop !))
       (init ! 45 refl (LL.lawful K.the-type K′.the-laws 𝓤 H A W .typed answer _ good .0)) $
-      rewrite ! 45 (λ (w : Val). ‵ (fat fullShare K′.mir l₁₀ 0 w))
+      rewrite ! 45 (λ (w : Val). ‵ (fat fullShare K′.mir (l 10) 0 w))
       (ap only (LL.tells K.the-type K′.the-laws answer (u ∷ []) good)) refl $
       move ! (1 ∷ []) $
       fsplit ! $ drop ! $ fsplit ! $ drop ! $ fsplit ! $ drop ! $ fsplit ! $ drop ! $

@@ -16,13 +16,12 @@ use base.Fml.{fat}
 use prog.Wp.{afterTurn}
 use types.Kit.{‵, anyQ, Sq, runs, _$_, !, rewrite}
 use types.Part.{whole, sub, look-in, store-in}
-use types.Run.{look, init, store, forget, stop, hop, fld, from, load, addr, lit, of-opd, bin, assigns}
+use types.Run.{look, init, forget, stop, hop, fld, from, load, addr, lit, of-opd, bin, assigns}
 use denote.Laws.{Is}
 use denote.Array.{arrayVal}
 use denote.Index.{place-is}
 use denote.Struct.Laws as LL
 use Rattle.model.specs.declared.Arrival.{Arrival}
-use Rattle.model.specs.declared.SiteRecord.{SiteRecord}
 use Rattle.model.specs.Limits.{mostSites}
 use Rattle.network_memory.specs.Records.{noRecord}
 use Rattle.tracker.specs.declared.BatchAnswer.{BatchAnswer}
@@ -33,11 +32,10 @@ use Rattle.model.proofs.SiteRecord.Laws as R′
 use Rattle.tracker.proofs.BatchAnswer as K
 use Rattle.tracker.proofs.BatchAnswer.Laws as K′
 use Rattle.tracker.proofs.Turn as N
-use Rattle.tracker.proofs.Turn.Laws as N′
 use Rattle.tracker.proofs.Frame.{Places}
 use Rattle.tracker.proofs.InArray.{elem}
 use Rattle.tracker.proofs.Records.{VR, VK, VN, values, length-values, values-set, many-records, turn-refusal-fits, turn-record-good, counted-good}
-use Rattle.tracker.proofs.run_batch.Proof.Parameters.{VD, Called, Typed, Point, answered, Logic}
+use Rattle.tracker.proofs.run_batch.Proof.Parameters.{VD, Called, Point, answered, Logic}
 use Rattle.tracker.proofs.run_batch.Proof.Locals.{cell, locals, Told, Counted, Left}
 use Rattle.tracker.proofs.run_batch.Proof.Sending.{taken, sending}
 

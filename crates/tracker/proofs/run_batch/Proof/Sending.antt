@@ -20,8 +20,8 @@ use base.Logic.{SProp, ent, id⊢}
 use base.Fml.{ftrue, fat, flft}
 use prog.Wp.{Wp, afterTurn}
 use types.Kit.{‵, raw, _⊛_, ⋆, anyQ, Sq, runs, _$_, _∵_, !, qed, by, move, drop, use1, group, split, rewrite, fsplit, feqL}
-use types.Part.{agg, whole, sub, look-in}
-use types.Run.{look, init, store, forget, stop, hop, fld, from, load, addr, lit, of-opd, bin, and-then, no-more, assigns, assigns-last, branches, skips, first, exec, land}
+use types.Part.{whole, sub, look-in}
+use types.Run.{look, init, store, forget, stop, fld, from, load, lit, of-opd, bin, and-then, no-more, assigns, assigns-last, branches, skips, first, exec, land}
 use sound.WpLaws.{fmOf}
 use denote.Laws.{Is}
 use denote.Builtin.{u32, u64}
@@ -39,6 +39,7 @@ use Rattle.tracker.proofs.Turn as N
 use Rattle.tracker.proofs.Again.{lends, returned}
 use Rattle.tracker.proofs.Frame.{Places}
 use Rattle.tracker.proofs.Promised.{promised}
+use Rattle.tracker.proofs.Reborrow.{reborrows}
 use Rattle.tracker.proofs.Records.{VN}
 use Rattle.tracker.proofs.deliver_turn as delivering
 use Rattle.tracker.proofs.run_batch.Code.Mir as m
@@ -142,24 +143,12 @@ module _ {M : Type 1} (logic : Logic M) (f : Called) (ok : Typed f) (l : Places)
         (init ! (cell 36) refl
         (LL.lawful K.the-type K′.the-laws 𝓤 H A W .typed (s .answer) _ (s .good) .0)) $
         -- both memories and the log are lent again
-        assigns ! (addr ! (from ! (fld ! refl (hop ! (look-in ! (cell 5) (sub ! 0 refl (whole !)))
-        (stop !))))) (from ! (stop !)) (init ! (cell 37) refl (tt, tt)) $
-        assigns ! (agg ! (and-then ! (load ! (from ! (stop !)) (look ! (cell 37) refl))
-        (and-then ! (load ! (from ! (fld ! refl (stop !)))
-        (look-in ! (cell 5) (sub ! 1 refl (whole !)))) (no-more !)))) (from ! (stop !))
-        (init ! (cell 38) refl (tt, (tt, (record { fits = ok .site-memory-room .0 }, tt)))) $
-        assigns ! (addr ! (from ! (fld ! refl (hop ! (look-in ! (cell 6) (sub ! 0 refl (whole !)))
-        (stop !))))) (from ! (stop !)) (init ! (cell 39) refl (tt, tt)) $
-        assigns ! (agg ! (and-then ! (load ! (from ! (stop !)) (look ! (cell 39) refl))
-        (and-then ! (load ! (from ! (fld ! refl (stop !)))
-        (look-in ! (cell 6) (sub ! 1 refl (whole !)))) (no-more !)))) (from ! (stop !))
-        (init ! (cell 40) refl (tt, (tt, (record { fits = ok .coordinator-memory-room .0 }, tt)))) $
-        assigns ! (addr ! (from ! (fld ! refl (hop ! (look-in ! (cell 7) (sub ! 0 refl (whole !)))
-        (stop !))))) (from ! (stop !)) (init ! (cell 41) refl (tt, tt)) $
-        assigns ! (agg ! (and-then ! (load ! (from ! (stop !)) (look ! (cell 41) refl))
-        (and-then ! (load ! (from ! (fld ! refl (stop !)))
-        (look-in ! (cell 7) (sub ! 1 refl (whole !)))) (no-more !)))) (from ! (stop !))
-        (init ! (cell 42) refl (tt, (tt, (record { fits = ok .log-room .0 }, tt)))) $
+        reborrows ! (cell 5) (cell 37) (cell 38) refl refl refl refl refl refl refl refl
+        (ok .site-memory-room .0) $
+        reborrows ! (cell 6) (cell 39) (cell 40) refl refl refl refl refl refl refl refl
+        (ok .coordinator-memory-room .0) $
+        reborrows ! (cell 7) (cell 41) (cell 42) refl refl refl refl refl refl refl refl
+        (ok .log-room .0) $
         move ! (2 ∷ 3 ∷ []) $
         lends u32 (f .siteMemory) (named 1) (named 0) (s .lent .siteMemory) ! tt (λ ν₁ δ₁.
         move ! (5 ∷ 6 ∷ []) $

@@ -13,8 +13,7 @@ use mir.Val.{Val}
 use base.Logic.{id⊢}
 use base.Fml.{ftrue, fat, flft}
 use types.Kit.{‵, raw, _⊛_, atRet, Sq, runs, _$_, !, move, drop, use1, group, split, rewrite, fsplit, feqL}
-use types.Part.{agg, whole, sub, look-in}
-use types.Run.{look, init, forget, stop, hop, fld, from, load, addr, lit, of-opd, and-then, no-more, assigns, land}
+use types.Run.{look, init, forget, stop, from, load, lit, of-opd, and-then, no-more, assigns, land}
 use sound.WpLaws.{fmOf}
 use denote.Laws.{Is}
 use denote.Builtin.{u32, u64}
@@ -30,6 +29,7 @@ use Rattle.tracker.proofs.BatchAnswer.Laws as K′
 use Rattle.tracker.proofs.Again.{lends, returned}
 use Rattle.tracker.proofs.Frame.{Places}
 use Rattle.tracker.proofs.Promised.{promised}
+use Rattle.tracker.proofs.Reborrow.{reborrows}
 use Rattle.tracker.proofs.open_batch as opening
 use Rattle.tracker.proofs.run_batch.Code.Mir as m
 use Rattle.tracker.proofs.run_batch.Proof.Parameters.{Called, Typed, asked, Post, Opens, Logic}
@@ -53,18 +53,10 @@ module _ {M : Type 1} (logic : Logic M) (f : Called) (ok : Typed f) (l : Places)
       (runs (𝓣 .C) (𝓣 .Λ) (locals logic f l) m.t-1
       (atRet (locals logic f l) (Post 𝓤 H A mem run f)))
   begins =
-      assigns ! (addr ! (from ! (fld ! refl (hop ! (look-in ! (cell 5) (sub ! 0 refl (whole !)))
-      (stop !))))) (from ! (stop !)) (init ! (cell 15) refl (tt, tt)) $
-      assigns ! (agg ! (and-then ! (load ! (from ! (stop !)) (look ! (cell 15) refl))
-      (and-then ! (load ! (from ! (fld ! refl (stop !)))
-      (look-in ! (cell 5) (sub ! 1 refl (whole !)))) (no-more !)))) (from ! (stop !))
-      (init ! (cell 16) refl (tt, (tt, (record { fits = ok .site-memory-room .0 }, tt)))) $
-      assigns ! (addr ! (from ! (fld ! refl (hop ! (look-in ! (cell 6) (sub ! 0 refl (whole !)))
-      (stop !))))) (from ! (stop !)) (init ! (cell 17) refl (tt, tt)) $
-      assigns ! (agg ! (and-then ! (load ! (from ! (stop !)) (look ! (cell 17) refl))
-      (and-then ! (load ! (from ! (fld ! refl (stop !)))
-      (look-in ! (cell 6) (sub ! 1 refl (whole !)))) (no-more !)))) (from ! (stop !))
-      (init ! (cell 18) refl (tt, (tt, (record { fits = ok .coordinator-memory-room .0 }, tt)))) $
+      reborrows ! (cell 5) (cell 15) (cell 16) refl refl refl refl refl refl refl refl
+      (ok .site-memory-room .0) $
+      reborrows ! (cell 6) (cell 17) (cell 18) refl refl refl refl refl refl refl refl
+      (ok .coordinator-memory-room .0) $
       -- both memories are lent again
       move ! (2 ∷ 3 ∷ []) $
       lends u32 (f .siteMemory) (named 1) (named 0) (f .siteMemory .list) ! tt (λ ν₁ δ₁.

@@ -15,8 +15,8 @@ use base.Logic.{SProp, id⊢}
 use base.Fml.{ftrue, fat, flft}
 use prog.Wp.{afterTurn}
 use types.Kit.{‵, raw, _⊛_, anyQ, Sq, runs, _$_, !, move, drop, use1, group, split, rewrite, fsplit, feqL}
-use types.Part.{agg, whole, sub, look-in}
-use types.Run.{look, init, store, forget, stop, hop, fld, from, load, addr, of-opd, and-then, no-more, assigns, land}
+use types.Part.{whole, sub, look-in}
+use types.Run.{look, init, forget, stop, fld, from, load, of-opd, and-then, no-more, assigns, land}
 use sound.WpLaws.{fmOf}
 use denote.Laws.{Is}
 use denote.Builtin.{u32}
@@ -34,6 +34,7 @@ use Rattle.tracker.proofs.Turn.Laws as N′
 use Rattle.tracker.proofs.Again.{lends, returned}
 use Rattle.tracker.proofs.Frame.{Places}
 use Rattle.tracker.proofs.Promised.{promised}
+use Rattle.tracker.proofs.Reborrow.{reborrows}
 use Rattle.tracker.proofs.Records.{VN, written-fits}
 use Rattle.tracker.proofs.take_turn as taking
 use Rattle.tracker.proofs.run_batch.Proof.Parameters.{VT, Called, Typed, Point, Takes, Logic}
@@ -87,12 +88,8 @@ module _ {M : Type 1} (logic : Logic M) (f : Called) (ok : Typed f) (l : Places)
       (look-in ! (cell 7) (sub ! 1 refl (whole !))))) (from ! (stop !))
       (init ! (cell 20) refl (tt, record { fits = ok .log-room .0 })) $
       -- the sites' memory is lent again
-      assigns ! (addr ! (from ! (fld ! refl (hop ! (look-in ! (cell 5) (sub ! 0 refl (whole !)))
-      (stop !))))) (from ! (stop !)) (init ! (cell 29) refl (tt, tt)) $
-      assigns ! (agg ! (and-then ! (load ! (from ! (stop !)) (look ! (cell 29) refl))
-      (and-then ! (load ! (from ! (fld ! refl (stop !)))
-      (look-in ! (cell 5) (sub ! 1 refl (whole !)))) (no-more !)))) (from ! (stop !))
-      (init ! (cell 30) refl (tt, (tt, (record { fits = ok .site-memory-room .0 }, tt)))) $
+      reborrows ! (cell 5) (cell 29) (cell 30) refl refl refl refl refl refl refl refl
+      (ok .site-memory-room .0) $
       move ! (2 ∷ 3 ∷ []) $
       lends u32 (f .siteMemory) (named 1) (named 0) (s .lent .siteMemory) ! tt (λ ν δ.
       -- [sites'; kept; ν; the run; κ; coordinator's; κ₂; log; κ₃; _42; …]

@@ -8,7 +8,7 @@ use mathlib.Core.Path.{_≡_, refl, sym, _∙_, ap, subst}
 use mathlib.Core.Bool.{Bool, true}
 use Prim.Native.Nat.{ℕ, _<_, _^_, _*_, _+_}
 use native.Mathlib.Omega.{arith}
-use mathlib.Core.List.{List, [], _∷_}
+use mathlib.Core.List.{[], _∷_}
 use lib.Dec.{T as Holds, eqb}
 use lib.ListN.{length, getD}
 use borrow.Author.Tests.{lt-ltb}
@@ -48,11 +48,11 @@ use Rattle.tracker.proofs.Records.{VR, values, length-values, values-at
 use Rattle.tracker.proofs.place_of as finding
 use Rattle.tracker.proofs.run_batch.Code.Mir as m
 use Rattle.tracker.proofs.run_batch.Proof.Parameters.{VT, Called, Typed, none, Point, answered, Finds, Logic}
-use Rattle.tracker.proofs.run_batch.Proof.LendsTurn.{numbers, finds-passed, finds-to, finds-goes}
+use Rattle.tracker.proofs.run_batch.Proof.LendsTurn.{finds-passed, finds-to, finds-goes}
 use Rattle.tracker.proofs.run_batch.Proof.Locals.{behind, cell, locals, At, Seen, Left}
 use Rattle.tracker.proofs.run_batch.Proof.Sending.{work, seen, sends}
 use Rattle.tracker.proofs.run_batch.Proof.Counting.{record-fits, counts}
-use Rattle.tracker.proofs.run_batch.Proof.Taking.{moved, Said, takes-turn}
+use Rattle.tracker.proofs.run_batch.Proof.Taking.{moved, takes-turn}
 
 -- An arrival is 12 bytes.
 offset-fits : (i n : ℕ) → i < n → n * 12 < 2 ^ 63 → i * 12 < 2 ^ 64

@@ -1,5 +1,6 @@
 -- `&mut *s` of a slice s that a local holds, which the MIR makes in two locals: the pointer, and a
--- slice of the pointer and of the length of s. It says nothing of the crate.
+-- slice of the pointer and of the length of s. It says nothing of the crate, and can be
+-- copied as it stands.
 --
 --   reborrows   both assignments
 -- Letters: s, d and e the three locals, p, p₁ and p₂ their places, n, m and k where they stand in

@@ -6,7 +6,7 @@
 ghost use mathlib.Core.Path.{_≡_};
 ghost use mathlib.Core.List.{[], _∷_};
 ghost use Rattle.tracker.specs.Batch.{BatchSays};
-ghost use Rattle.tracker.specs.Steps.{OpenSays, placesRefusal, PlacesAsk, lentOf};
+ghost use Rattle.tracker.specs.Steps.{OpenSays, OneAsks, OneSays, placesRefusal, PlacesAsk, lentOf};
 ghost use Rattle.tracker.specs.Turns.{placeOf, refusedTurn, counted, TurnAsks, TurnSays, CountAsks, DeliverAsks, DeliverSays};
 use counters::Word;
 use delivery::Queue;
@@ -203,6 +203,41 @@ fn deliver_turn(
     }
 }
 
+// One arrival of a batch, from its turn to its last message: what `run_batch` does in place.
+fn take_arrival(
+    settings: Settings,
+    answer: BatchAnswer,
+    arrival: Arrival,
+    site_memory: &mut [Word],
+    coordinator_memory: &mut [u64],
+    log: &mut [u64],
+) -> BatchAnswer
+    requires { ⌜ OneAsks settings answer
+        (lentOf (now «site_memory») (now «coordinator_memory») (now log)) ⌝ }
+    ensures { λ r. ⌜ OneSays settings arrival answer
+        (lentOf (now («site_memory» .entry)) (now («coordinator_memory» .entry)) (now (log .entry)))
+        r
+        (lentOf (now («site_memory» .exit)) (now («coordinator_memory» .exit)) (now (log .exit)))
+        ⌝ }
+{
+    let which = place_of(arrival);
+    let sites = answer.sites;
+    let own = delivery::record_of(sites, which);
+    let turn = take_turn(
+        settings,
+        own,
+        answer.written,
+        arrival,
+        log.len(),
+        site_memory,
+    );
+    let next = count_turn(answer, which, turn);
+    if turn.out.count == 0 {
+        return next;
+    }
+    deliver_turn(settings, next, turn, site_memory, coordinator_memory, log)
+}
+
 // A batch of one arrival: for callers that hold no run of arrivals.
 pub fn run_one(
     settings: Settings,
@@ -235,27 +270,19 @@ pub fn run_one(
     if answer.refusal != ACCEPTED {
         return answer;
     }
-    let which = place_of(arrival);
-    let sites_then = answer.sites;
-    let own = delivery::record_of(sites_then, which);
-    let turn = take_turn(
+    take_arrival(
         settings,
-        own,
-        answer.written,
+        answer,
         arrival,
-        log.len(),
         site_memory,
-    );
-    let next = count_turn(answer, which, turn);
-    if turn.out.count == 0 {
-        return next;
-    }
-    deliver_turn(settings, next, turn, site_memory, coordinator_memory, log)
+        coordinator_memory,
+        log,
+    )
 }
 
 // The batch call: a lent run of arrivals, walked one by one until one is refused. The site's record
-// is read and stored where it stands, and so is the count of arrivals (`count_turn` in place): the
-// answer is 1 KB, and a function that took it and gave it back would copy it at every arrival.
+// is read and stored where it stands, and so is the count of arrivals: the answer is 1 KB, and a
+// function that took it and gave it back (`take_arrival`) would copy it at every arrival.
 pub fn run_batch(
     settings: Settings,
     sites: Sites,

@@ -1,0 +1,108 @@
+-- `tracker::take_arrival` meets its contract: the turn, its count and its messages.
+use Rattle.tracker.specs.Steps.{lentOf}
+use Rattle.tracker.proofs.TurnLaws.{turn-asks, count-asks, deliver-asks, quiet-says, loud-says}
+use Rattle.tracker.proofs.RefusalLaws.{place-within}
+use borrow.Author.Needs.{needs}
+use Rattle.tracker.proofs.take_arrival.Statement.{statement}
+use Rattle.tracker.proofs.take_arrival.Tie as tie
+
+place-of-requires : tie.Need-place-of-requires
+place-of-requires c κs = search needs
+
+record-of-requires : tie.Need-record-of-requires
+record-of-requires c κs =
+    let places = c .before in
+    let start = places .before .before .before .before in
+    rw (places .place-of .ensures) (place-within (start .args .arrival))
+
+take-turn-requires : tie.Need-take-turn-requires
+take-turn-requires c κs =
+    let reads = c .before in
+    let places = reads .before .before in
+    let start = places .before .before .before .before in
+    turn-asks (start .args .arrival)
+    (rw (places .place-of .ensures) at (reads .record-of .ensures)) (start .pre)
+
+count-turn-requires : tie.Need-count-turn-requires
+count-turn-requires c κs =
+    let takes = c .before .before in
+    let reads = takes .before .before in
+    let places = reads .before .before in
+    let start = places .before .before .before .before in
+    let a = start .args in
+    let lent = lentOf (a .site-memory .now) (a .coordinator-memory .now) (a .log .now) in
+    rw (places .place-of .ensures)
+    (count-asks lent (a .arrival) (a .answer)
+    (rw (places .place-of .ensures) at (reads .record-of .ensures)) (takes .take-turn .ensures)
+    (start .pre))
+
+same-length : tie.Need-same-length
+same-length c = search needs
+
+returns : tie.Need-returns
+returns c =
+    let counts = c .before .before in
+    let takes = counts .before .before .before in
+    let reads = takes .before .before in
+    let places = reads .before .before in
+    let a = places .before .before .before .before .args in
+    let lent = lentOf (a .site-memory .now) (a .coordinator-memory .now) (a .log .now) in
+    quiet-says lent (a .arrival) (a .answer)
+    (rw (places .place-of .ensures) at (reads .record-of .ensures)) (takes .take-turn .ensures)
+    (counts .count-turn .result) (rw (places .place-of .ensures) at (counts .count-turn .ensures))
+    (c .if1 .taken)
+
+deliver-turn-requires : tie.Need-deliver-turn-requires
+deliver-turn-requires c κs =
+    let some = c .before .before .before in
+    let counts = some .before .before in
+    let takes = counts .before .before .before in
+    let reads = takes .before .before in
+    let places = reads .before .before in
+    let start = places .before .before .before .before in
+    let a = start .args in
+    let lent = lentOf (a .site-memory .now) (a .coordinator-memory .now) (a .log .now) in
+    deliver-asks lent (a .arrival) (a .answer)
+    (rw (places .place-of .ensures) at (reads .record-of .ensures)) (takes .take-turn .ensures)
+    (counts .count-turn .result) (rw (places .place-of .ensures) at (counts .count-turn .ensures))
+    (start .pre) (some .if1 .left)
+
+same-length-2 : tie.Need-same-length-2
+same-length-2 c = search needs
+
+same-length-3 : tie.Need-same-length-3
+same-length-3 c = search needs
+
+same-length-4 : tie.Need-same-length-4
+same-length-4 c = search needs
+
+returns-2 : tie.Need-returns-2
+returns-2 c =
+    let delivers = c .before .before .before .before .before .before in
+    let some = delivers .before .before .before .before in
+    let counts = some .before .before in
+    let takes = counts .before .before .before in
+    let reads = takes .before .before in
+    let places = reads .before .before in
+    let a = places .before .before .before .before .args in
+    let lent = lentOf (a .site-memory .now) (a .coordinator-memory .now) (a .log .now) in
+    loud-says lent (a .arrival) (a .answer)
+    (rw (places .place-of .ensures) at (reads .record-of .ensures)) (takes .take-turn .ensures)
+    (counts .count-turn .result) (rw (places .place-of .ensures) at (counts .count-turn .ensures))
+    (some .if1 .left) (delivers .deliver-turn .ensures)
+
+pub take-arrival-spec : {M : Type 1} → statement M
+take-arrival-spec =
+    tie.close
+    (tie.spec
+    place-of-requires
+    record-of-requires
+    take-turn-requires
+    count-turn-requires
+    same-length
+    returns
+    deliver-turn-requires
+    same-length-2
+    same-length-3
+    same-length-4
+    returns-2)

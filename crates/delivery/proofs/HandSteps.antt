@@ -30,24 +30,24 @@ use Rattle.delivery.specs.declared.Underway.{Underway}
 use Rattle.delivery.specs.declared.Change.{Change}
 use Rattle.delivery.specs.Sending.{trafficOf, underwayOf, withoutHead, SendAsks, AnswerSays}
 use Rattle.delivery.specs.Holding.{state, answered, Holds, Delivering, goesOn, StepSays}
-use Rattle.delivery.specs.Handing.{siteAsked, coordinatorChange, withWaiting, changed, Handed, HandSays}
+use Rattle.delivery.specs.Handing.{siteOfHead, coordinatorChange, withQueue, changed, Handed, HandSays}
 use Rattle.delivery.proofs.StepLaws.{handing, asking, asked-sends, asked-holds}
 use Rattle.delivery.proofs.HandToCoordinator.{coordinator-sends, coordinator-holds}
-use Rattle.delivery.proofs.HandToSite.{siteAsked-is, site-sends, site-holds}
+use Rattle.delivery.proofs.HandToSite.{siteOfHead-is, site-sends, site-holds}
 
 -- ---- What changes
 
 -- The coordinator's answer leaves the sites' records as they are.
 coordinator-changed : (underway : Underway) (own : SiteRecord) (waiting : Queue) (answer : Answered)
-    → own ≡ getD (underway .sites .records) (siteAsked (underway .waiting)) noRecord
+    → own ≡ getD (underway .sites .records) (siteOfHead (underway .waiting)) noRecord
     → changed underway (coordinatorChange own waiting answer)
     ≡ underwayOf (underway .sites .records) (answer .coordinator)
-    (withWaiting (trafficOf underway) waiting)
+    (withQueue (trafficOf underway) waiting)
 coordinator-changed underway own waiting answer own-is =
     let records = underway .sites .records in
-    let at = siteAsked (underway .waiting) in
+    let at = siteOfHead (underway .waiting) in
     ap (λ (after : List SiteRecord).
-    underwayOf after (answer .coordinator) (withWaiting (trafficOf underway) waiting))
+    underwayOf after (answer .coordinator) (withQueue (trafficOf underway) waiting))
     (ap (set records at) own-is ∙ set-getD records at noRecord)
 
 -- From what is under way then.
@@ -91,7 +91,7 @@ module _ {settings : Settings} {own : SiteRecord} {coordinator : CoordinatorReco
       (record {
         handed = λ records traffic own-is.
             handed-as _
-            (coordinator-changed (underwayOf records coordinator (withWaiting traffic waiting)) own
+            (coordinator-changed (underwayOf records coordinator (withQueue traffic waiting)) own
             waiting answer own-is)
             (λ log u. asked-sends u (asking u none goes) answer is)
             (λ log u. asked-holds u (asking u none goes) answer is);
@@ -116,7 +116,7 @@ module _ {settings : Settings} {own : SiteRecord} {coordinator : CoordinatorReco
         (record {
           handed = λ records traffic own-is.
               handed-as _
-              (coordinator-changed (underwayOf records coordinator (withWaiting traffic waiting))
+              (coordinator-changed (underwayOf records coordinator (withQueue traffic waiting))
               own queue answer own-is)
               (λ log u. coordinator-sends u (handing u some) way answer memory queue does queue-is)
               (λ log u. coordinator-holds u (handing u some) way answer memory queue does queue-is);
@@ -139,11 +139,11 @@ module _ {settings : Settings} {own : SiteRecord} {coordinator : CoordinatorReco
         })
     site-says way words words-are answer says = record {
       handed = λ records traffic own-is.
-          let at = siteAsked-is waiting some way in
+          let at = siteOfHead-is waiting some way in
           let numbers-are = own-is ∙ ap (λ (j : ℕ). getD records j noRecord) at in
           handed-as _
           (ap (λ (j : ℕ). underwayOf (set records j (answer .site)) coordinator
-          (withWaiting traffic queue)) at)
+          (withQueue traffic queue)) at)
           (λ log u.
           site-sends u (handing u some) way own words numbers-are words-are answer queue says
           queue-is)
@@ -161,7 +161,7 @@ module _ {settings : Settings} {coordinator : CoordinatorRecord}
     (traffic : Traffic)
     (log : List ℕ)
     (which : ℕ)
-    (which-is : which ≡ siteAsked (traffic .waiting))
+    (which-is : which ≡ siteOfHead (traffic .waiting))
     (says : HandSays settings (getD records which noRecord) coordinator (traffic .waiting)
     siteMemory coordinatorBefore coordinatorAfter by) where
   abbrev settled : Traffic → Underway
@@ -171,20 +171,20 @@ module _ {settings : Settings} {coordinator : CoordinatorRecord}
       coordinatorAfter by
   by-hand = says .handed records traffic (ap (λ (j : ℕ). getD records j noRecord) which-is)
 
-  settled-is : settled (withWaiting traffic (by .waiting))
+  settled-is : settled (withQueue traffic (by .waiting))
       ≡ changed (underwayOf records coordinator traffic) by
   settled-is =
       ap (λ (j : ℕ). underwayOf (set records j (by .site)) (by .coordinator)
-      (withWaiting traffic (by .waiting))) which-is
+      (withQueue traffic (by .waiting))) which-is
 
   pub send-asks : Delivering settings
       (state (underwayOf records coordinator traffic) siteMemory coordinatorBefore log)
       → (by .count ≡ 0 → ⊥)
-      → SendAsks (withWaiting traffic (by .waiting)) log
+      → SendAsks (withQueue traffic (by .waiting)) log
   send-asks = by-hand .sends log
 
   pub answered-step : {result : Traffic} {written : List ℕ}
-      → AnswerSays (by .count) (withWaiting traffic (by .waiting)) (by .out) log result written
+      → AnswerSays (by .count) (withQueue traffic (by .waiting)) (by .out) log result written
       → StepSays settings
       (state (underwayOf records coordinator traffic) siteMemory coordinatorBefore log)
       (state (settled result) siteMemory coordinatorAfter written)

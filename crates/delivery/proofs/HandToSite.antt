@@ -1,6 +1,6 @@
 -- A message for a site, handed over as the code does it. The site's memory is only read.
 --
---   siteAsked-is, asked-few    the site that the head is for, and that there is a record for it
+--   siteOfHead-is, head-few    the site that the head is for, and that there is a record for it
 --   site-known, site-few, starts-within, starts-small   the site that the message names, and where
 --                                                      its part starts
 --   site-asks     what the site's step requires
@@ -32,7 +32,7 @@ use Rattle.delivery.specs.declared.Underway.{Underway}
 use Rattle.network_memory.specs.Records.{noRecord, withRecord}
 use Rattle.delivery.specs.Sending.{trafficOf, withoutHead, SendAsks}
 use Rattle.delivery.specs.Holding.{State, state, answered, Holds, Fits, Delivering}
-use Rattle.delivery.specs.Handing.{siteAsked}
+use Rattle.delivery.specs.Handing.{siteOfHead}
 use Rattle.delivery.proofs.StageNumbers.{at-stage, site-ready}
 use Rattle.network_memory.proofs.SitePart.{few-sites, start-small, part, part-is}
 use Rattle.delivery.proofs.QuietSteps.{quiet-site}
@@ -41,11 +41,11 @@ use Rattle.delivery.proofs.GoingLaws.{going-fit, going-stage, going-sto
 use Rattle.delivery.proofs.StepLaws.{Handing, handing, answer-sends}
 use Rattle.delivery.proofs.HandLaws.{head-accepted, few-rest, rest-waits, room}
 
-pub siteAsked-is : (waiting : Queue)
+pub siteOfHead-is : (waiting : Queue)
     → (waiting .count ≡ 0 → ⊥)
     → toCoordinator (waiting .first) ≡ false
-    → siteAsked waiting ≡ waiting .first .site
-siteAsked-is waiting some way = rw (ne-eqb (waiting .count) 0 some, way)
+    → siteOfHead waiting ≡ waiting .first .site
+siteOfHead-is waiting some way = rw (ne-eqb (waiting .count) 0 some, way)
 
 module _ {settings : Settings} {held : State} (u : Delivering settings held)
     (hand : Handing settings held u) where
@@ -160,10 +160,10 @@ module _ {settings : Settings} {held : State} (u : Delivering settings held)
             (says .reply ∙ ap (λ (x : Site). getD (siteReceives x m .messages) 0 noMessage) read)
             (few-rest u hand) room-then)
 
--- There is a record for the site that is asked, or for site 0.
-pub asked-few : {settings : Settings} {held : State} → Delivering settings held
-    → siteAsked (held .underway .waiting) < 32
-asked-few {held = held} u = by-count (ℕ-discrete (queue .count) 0)
+-- There is a record for the site that the head is for, or for site 0.
+pub head-few : {settings : Settings} {held : State} → Delivering settings held
+    → siteOfHead (held .underway .waiting) < 32
+head-few {held = held} u = by-count (ℕ-discrete (queue .count) 0)
   where
     queue : Queue
     queue = held .underway .waiting
@@ -171,10 +171,10 @@ asked-few {held = held} u = by-count (ℕ-discrete (queue .count) 0)
     by-way : (queue .count ≡ 0 → ⊥)
         → (way : Bool)
         → toCoordinator (queue .first) ≡ way
-        → siteAsked queue < 32
+        → siteOfHead queue < 32
     by-way some true is = rw (ne-eqb (queue .count) 0 some, is) (omega arith)
-    by-way some false is = rw (siteAsked-is queue some is) (site-few u (handing u some) is)
+    by-way some false is = rw (siteOfHead-is queue some is) (site-few u (handing u some) is)
 
-    by-count : Dec (queue .count ≡ 0) → siteAsked queue < 32
+    by-count : Dec (queue .count ≡ 0) → siteOfHead queue < 32
     by-count (yes none) = rw (eq-eqb (queue .count) 0 none) (omega arith)
     by-count (no some) = by-way some (toCoordinator (queue .first)) refl

@@ -1,9 +1,11 @@
 -- A hand-over in a delivery: the head of the messages that wait goes to whom it is for, or, where
 -- none waits, the next kind 7 is asked for.
 --
---   siteAsked waiting         the site that the head is for; 0 if it is for none
+--   siteOfHead waiting        the site that the head is for; 0 if it is for none
 --   coordinatorChange ..      what the coordinator's answer changes
---   changed underway by       what is under way with these changes
+--   withQueue traffic ..      with other messages waiting
+--   changed underway by       what is under way with a hand-over's changes
+--   Handed                    they are a step of the delivery
 --   HandAsks, HandSays        what a hand-over requires, and what it comes to
 use mathlib.Core.Path.{_≡_}
 use mathlib.Core.Bool.{true}
@@ -25,8 +27,8 @@ use Rattle.delivery.specs.declared.Change.{Change}
 use Rattle.delivery.specs.Sending.{trafficOf, underwayOf, SendAsks}
 use Rattle.delivery.specs.Holding.{state, answered, Holds, Delivering, goesOn}
 
-abbrev pub siteAsked : Queue → ℕ
-siteAsked waiting =
+abbrev pub siteOfHead : Queue → ℕ
+siteOfHead waiting =
     if isZero (waiting .count) then 0
     else if toCoordinator (waiting .first) then 0
     else waiting .first .site
@@ -41,8 +43,8 @@ coordinatorChange own waiting answer = record {
   out = answer .out;
 }
 
-abbrev pub withWaiting : Traffic → Queue → Traffic
-withWaiting traffic waiting = record {
+abbrev pub withQueue : Traffic → Queue → Traffic
+withQueue traffic waiting = record {
   messages = traffic .messages;
   written = traffic .written;
   waiting = waiting;
@@ -51,9 +53,9 @@ withWaiting traffic waiting = record {
 abbrev pub changed : Underway → Change → Underway
 changed underway by =
     underwayOf
-    (set (underway .sites .records) (siteAsked (underway .waiting)) (by .site))
+    (set (underway .sites .records) (siteOfHead (underway .waiting)) (by .site))
     (by .coordinator)
-    (withWaiting (trafficOf underway) (by .waiting))
+    (withQueue (trafficOf underway) (by .waiting))
 
 -- With the answer going out, if there is one, the change is a step of the delivery.
 pub record Handed
@@ -72,7 +74,7 @@ pub record Handed
       (state (changed underway by) siteMemory coordinatorAfter log))
 
 -- Some delivery goes on. The log is not looked at while a message is handed over, nor are the
--- records of other sites than the one that is asked.
+-- records of other sites than the one that the head is for.
 pub record HandAsks
     (settings : Settings)
     (own : SiteRecord)
@@ -82,9 +84,9 @@ pub record HandAsks
   pub records : List SiteRecord
   pub traffic : Traffic
   pub log : List ℕ
-  pub own-is : own ≡ getD records (siteAsked waiting) noRecord
+  pub own-is : own ≡ getD records (siteOfHead waiting) noRecord
   pub delivering : Delivering settings
-      (state (underwayOf records coordinator (withWaiting traffic waiting)) siteMemory
+      (state (underwayOf records coordinator (withQueue traffic waiting)) siteMemory
       coordinatorMemory log)
   pub goes-on : goesOn coordinator waiting ≡ true
 
@@ -97,6 +99,6 @@ pub record HandSays
     (siteMemory coordinatorBefore coordinatorAfter : List ℕ)
     (by : Change) : Type 0 where
   pub handed : (records : List SiteRecord) (traffic : Traffic)
-      → own ≡ getD records (siteAsked waiting) noRecord
-      → Handed settings (underwayOf records coordinator (withWaiting traffic waiting)) siteMemory
+      → own ≡ getD records (siteOfHead waiting) noRecord
+      → Handed settings (underwayOf records coordinator (withQueue traffic waiting)) siteMemory
       coordinatorBefore coordinatorAfter by

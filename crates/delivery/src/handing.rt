@@ -4,7 +4,7 @@
 // it requires.
 ghost use mathlib.Core.Path.{_≡_};
 ghost use Rattle.delivery.specs.Holding.{goesOn};
-ghost use Rattle.delivery.specs.Handing.{siteAsked, coordinatorChange, HandAsks, HandSays};
+ghost use Rattle.delivery.specs.Handing.{siteOfHead, coordinatorChange, HandAsks, HandSays};
 use crate::Change;
 use crate::Queue;
 use crate::take_head;
@@ -34,8 +34,8 @@ pub fn goes_on(coordinator: CoordinatorRecord, waiting: Queue) -> bool
 
 // The site that the head of the messages that wait is for; 0 where it is for the coordinator, or
 // none waits.
-pub fn site_asked(waiting: Queue) -> usize
-    ensures { λ r. ⌜ r ≡ siteAsked waiting ⌝ }
+pub fn site_of_head(waiting: Queue) -> usize
+    ensures { λ r. ⌜ r ≡ siteOfHead waiting ⌝ }
 {
     if waiting.count == 0 {
         return 0;
@@ -63,7 +63,7 @@ fn coordinator_change(own: SiteRecord, waiting: Queue, answer: Answered) -> Chan
 }
 
 // One step of a delivery: the head of the messages that wait is handed over, or, where none waits,
-// the next announcement is asked for. `own` is the record of the site that is asked.
+// the next announcement is asked for. `own` is the record of the site that the head is for.
 pub fn hand_over(
     settings: Settings,
     own: SiteRecord,

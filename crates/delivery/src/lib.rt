@@ -14,7 +14,7 @@ ghost use Rattle.delivery.specs.Holding.{state, Delivering, EndSays};
 ghost use Rattle.delivery.specs.Arriving.{SiteAsks, SiteSays, MessagesAsk, MessagesSay};
 use crate::handing::goes_on;
 use crate::handing::hand_over;
-use crate::handing::site_asked;
+use crate::handing::site_of_head;
 use crate::sending::send_answer;
 use crate::sending::send_two;
 use counters::Word;
@@ -54,9 +54,9 @@ pub struct Traffic {
     pub waiting: Queue,
 }
 
-// What a hand-over changes: the record of the site that is asked, the coordinator's and the
-// messages that wait; and the answer, if `count` is 1. Where the coordinator is handed a message no
-// site's record changes, and that of site 0 stands here as it is.
+// What a hand-over changes: the record of the site that the head is for, the coordinator's and the
+// messages that wait; and the answer, if `count` is 1. Where the head is for no site, no site's
+// record changes, and that of site 0 stands here as it is.
 pub struct Change {
     pub site: SiteRecord,
     pub coordinator: CoordinatorRecord,
@@ -180,7 +180,7 @@ fn deliver(
         (now («coordinator_memory» .exit)) (now (log .exit))) ⌝ }
 {
     while goes_on(coordinator, traffic.waiting) {
-        let which = site_asked(traffic.waiting);
+        let which = site_of_head(traffic.waiting);
         let own = records[which];
         let by = hand_over(
             settings,

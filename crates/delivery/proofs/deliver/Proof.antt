@@ -11,7 +11,7 @@ use Rattle.delivery.specs.Holding.{state, Delivering}
 use Rattle.delivery.proofs.HoldingLaws.{coordinator-memory-length, log-length}
 use Rattle.delivery.proofs.GoingLaws.{going-stored, going-room}
 use Rattle.delivery.proofs.DeliverLaws.{leftToDo, After, left-less, after-start, delivering-after, after-step, after-end}
-use Rattle.delivery.proofs.HandToSite.{asked-few}
+use Rattle.delivery.proofs.HandToSite.{head-few}
 use Rattle.delivery.proofs.HandSteps.{send-asks, answered-step}
 use Rattle.delivery.proofs.deliver.Statement.{statement}
 use Rattle.delivery.proofs.deliver.Tie as tie
@@ -34,31 +34,32 @@ loop-holds c = λ u. after-start u
 goes-on-requires : tie.Need-goes-on-requires Inv-loop μ-loop
 goes-on-requires c κs = search needs
 
-site-asked-requires : tie.Need-site-asked-requires Inv-loop μ-loop
-site-asked-requires c κs = search needs
+site-of-head-requires : tie.Need-site-of-head-requires Inv-loop μ-loop
+site-of-head-requires c κs = search needs
 
 array-copy-out-own : tie.Need-array-copy-out-own Inv-loop μ-loop
 array-copy-out-own c =
     let looped = c .before .before .before in
     let u = looped .before .before .before .before .pre in
-    rw (c .site-asked .ensures) (asked-few (delivering-after u (looped .loop .inv u)))
+    rw (c .site-of-head .ensures) (head-few (delivering-after u (looped .loop .inv u)))
 
 mul-own : tie.Need-mul-own Inv-loop μ-loop
 mul-own c = omega (arith, array-copy-out-own c)
 
 hand-over-requires : tie.Need-hand-over-requires Inv-loop μ-loop
 hand-over-requires c κs =
-    let asked = c .before .before in
-    let looped = asked .before .before .before in
+    let found = c .before .before in
+    let looped = found .before .before .before in
     let u = looped .before .before .before .before .pre in
     record {
       records = looped .loop .records;
       traffic = looped .loop .traffic;
       log = looped .loop .log;
-      own-is = ap (λ (j : ℕ). getD (looped .loop .records) j noRecord) (asked .site-asked .ensures);
+      own-is = ap (λ (j : ℕ). getD (looped .loop .records) j noRecord)
+          (found .site-of-head .ensures);
       delivering = delivering-after u (looped .loop .inv u);
-      goes-on = sym (asked .before .before .goes-on .ensures)
-          ∙ asked .before .if1 .taken;
+      goes-on = sym (found .before .before .goes-on .ensures)
+          ∙ found .before .if1 .taken;
     }
 
 mul-records : tie.Need-mul-records Inv-loop μ-loop
@@ -71,24 +72,24 @@ array-set-from-records c =
 send-answer-requires : tie.Need-send-answer-requires Inv-loop μ-loop
 send-answer-requires c κs =
     let handed = c .before .before .before .before .before .before in
-    let asked = handed .before .before .before in
-    let looped = asked .before .before .before in
+    let found = handed .before .before .before in
+    let looped = found .before .before .before in
     let u = looped .before .before .before .before .pre in
     send-asks (looped .loop .records) (looped .loop .traffic) (looped .loop .log) _
-    (asked .site-asked .ensures) (handed .hand-over .ensures)
+    (found .site-of-head .ensures) (handed .hand-over .ensures)
     (delivering-after u (looped .loop .inv u))
 
 loop-less : tie.Need-loop-less Inv-loop μ-loop
 loop-less c =
     let sent = c .before .before in
     let handed = sent .before .before .before .before .before .before .before in
-    let asked = handed .before .before .before in
-    let looped = asked .before .before .before in
-    let goes = sym (asked .before .before .goes-on .ensures)
-    ∙ asked .before .if1 .taken in
+    let found = handed .before .before .before in
+    let looped = found .before .before .before in
+    let goes = sym (found .before .before .goes-on .ensures)
+    ∙ found .before .if1 .taken in
     let says =
     answered-step (looped .loop .records) (looped .loop .traffic) (looped .loop .log) _
-    (asked .site-asked .ensures) (handed .hand-over .ensures) (sent .send-answer .ensures) in
+    (found .site-of-head .ensures) (handed .hand-over .ensures) (sent .send-answer .ensures) in
     let u = looped .before .before .before .before .pre in
     let now = delivering-after u (looped .loop .inv u) in
     left-less now goes (says .next now)
@@ -97,13 +98,13 @@ loop-again : tie.Need-loop-again Inv-loop μ-loop
 loop-again c =
     let sent = c .before .before in
     let handed = sent .before .before .before .before .before .before .before in
-    let asked = handed .before .before .before in
-    let looped = asked .before .before .before in
-    let goes = sym (asked .before .before .goes-on .ensures)
-    ∙ asked .before .if1 .taken in
+    let found = handed .before .before .before in
+    let looped = found .before .before .before in
+    let goes = sym (found .before .before .goes-on .ensures)
+    ∙ found .before .if1 .taken in
     let says =
     answered-step (looped .loop .records) (looped .loop .traffic) (looped .loop .log) _
-    (asked .site-asked .ensures) (handed .hand-over .ensures) (sent .send-answer .ensures) in
+    (found .site-of-head .ensures) (handed .hand-over .ensures) (sent .send-answer .ensures) in
     λ u. after-step u (looped .loop .inv u) goes says
 
 same-length : tie.Need-same-length Inv-loop μ-loop
@@ -138,7 +139,7 @@ deliver-spec =
     μ-loop
     loop-holds
     goes-on-requires
-    site-asked-requires
+    site-of-head-requires
     mul-own
     array-copy-out-own
     hand-over-requires

@@ -7,7 +7,7 @@ use lib.ListN.{getD}
 use Rattle.network_memory.specs.Records.{noRecord}
 use Rattle.delivery.proofs.StepLaws.{handing, asking, ask-asks}
 use Rattle.delivery.proofs.HandToCoordinator.{coordinator-asks}
-use Rattle.delivery.proofs.HandToSite.{siteAsked-is, starts-within, starts-small, site-asks}
+use Rattle.delivery.proofs.HandToSite.{siteOfHead-is, starts-within, starts-small, site-asks}
 use Rattle.delivery.proofs.HandSteps.{asked-says, received-says, site-says}
 use borrow.Author.Needs.{needs}
 use Rattle.delivery.proofs.handing.hand_over.Statement.{statement}
@@ -112,7 +112,7 @@ receive-step-requires-2 c κs =
     ∙ words .before .before .if2 .left in
     let own-is = start .pre .own-is
     ∙ ap (λ (j : ℕ). getD (start .pre .records) j noRecord)
-    (siteAsked-is (start .args .waiting) some way) in
+    (siteOfHead-is (start .args .waiting) some way) in
     site-asks u (handing u some) way _ (words .site-words .result) own-is
     (words .site-words .ensures)
 

@@ -1,10 +1,10 @@
--- `delivery::handing::site_asked` meets its contract: none waits, or by whom the head is for.
+-- `delivery::handing::site_of_head` meets its contract: none waits, or by whom the head is for.
 use mathlib.Core.Path.{sym, _∙_}
 use borrow.Author.Tests.{eq-eqb, ne-eqb}
 use borrow.Author.Needs.{needs}
-use Rattle.delivery.proofs.HandToSite.{siteAsked-is}
-use Rattle.delivery.proofs.handing.site_asked.Statement.{statement}
-use Rattle.delivery.proofs.handing.site_asked.Tie as tie
+use Rattle.delivery.proofs.HandToSite.{siteOfHead-is}
+use Rattle.delivery.proofs.handing.site_of_head.Statement.{statement}
+use Rattle.delivery.proofs.handing.site_of_head.Tie as tie
 
 returns : tie.Need-returns
 returns c = rw (eq-eqb (c .before .before .args .waiting .count) 0 (c .if1 .taken))
@@ -31,8 +31,8 @@ returns-3 c =
     let queue = tested .before .before .args .waiting in
     let way = sym (called .to-coordinator .ensures)
     ∙ c .before .if2 .left in
-    sym (siteAsked-is queue (tested .if1 .left) way)
+    sym (siteOfHead-is queue (tested .if1 .left) way)
 
-pub site-asked-spec : {M : Type 1} → statement M
-site-asked-spec =
+pub site-of-head-spec : {M : Type 1} → statement M
+site-of-head-spec =
     tie.close (tie.spec returns to-coordinator-requires returns-2 cast-result returns-3)

@@ -32,7 +32,7 @@ use Rattle.delivery.proofs.StepLaws.{none-waits, handing, asking}
 -- ---- The next delivery
 
 pub going-step : {settings : Settings} {held : State} (u : Delivering settings held)
-    → goesOn (held .underway) ≡ true
+    → goesOn (held .underway .coordinator) (held .underway .waiting) ≡ true
     → Going settings (u .given) (u .earlier) (u .network) (u .arrival) (suc (u .steps))
     (deliveryStep settings (u .now))
 going-step {settings} {held} u goes = by-count (ℕ-discrete (held .underway .waiting .count) 0)
@@ -70,7 +70,7 @@ record Less (earlier : List Message) (d next : Delivery) : Type 0 where
   fewer : length (next .waiting) < length (d .waiting) + 2 * length out
 
 less-step : {settings : Settings} {held : State} (u : Delivering settings held)
-    → goesOn (held .underway) ≡ true
+    → goesOn (held .underway .coordinator) (held .underway .waiting) ≡ true
     → Less (u .earlier) (u .now) (deliveryStep settings (u .now))
 less-step {settings} {held} u goes = by-count (ℕ-discrete (held .underway .waiting .count) 0)
   where
@@ -106,7 +106,7 @@ less-step {settings} {held} u goes = by-count (ℕ-discrete (held .underway .wai
         }
 
 pub left-less : {settings : Settings} {held next : State} (u : Delivering settings held)
-    → goesOn (held .underway) ≡ true
+    → goesOn (held .underway .coordinator) (held .underway .waiting) ≡ true
     → Holds settings (u .given) (u .earlier) (deliveryStep settings (u .now)) next
     → leftToDo (next .underway) (length (next .log))
     < leftToDo (held .underway) (length (held .log))
@@ -163,7 +163,7 @@ module _ {settings : Settings} {first : State} (u : Delivering settings first) w
   }
 
   pub after-step : {held next : State} → After u held
-      → goesOn (held .underway) ≡ true
+      → goesOn (held .underway .coordinator) (held .underway .waiting) ≡ true
       → StepSays settings held next
       → After u next
   after-step after goes says = record {
@@ -174,7 +174,7 @@ module _ {settings : Settings} {first : State} (u : Delivering settings first) w
   }
 
   pub after-end : {held : State} → After u held
-      → goesOn (held .underway) ≡ false
+      → goesOn (held .underway .coordinator) (held .underway .waiting) ≡ false
       → Holds settings (u .given) (u .earlier)
       (rested (afterArrival settings (u .network) (u .arrival))) held
   after-end {held} after ends =

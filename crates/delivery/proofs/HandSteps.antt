@@ -3,19 +3,16 @@
 --
 --   asked-says                   a kind 7 asked for
 --   received-says, site-says     a message for the coordinator, for a site
---   silent-step, answered-step   the step where no answer goes out, and where one does
-use mathlib.Core.Path.{_≡_, refl, sym, ap, _∙_, subst, subst⁻¹, subst₂}
+--   send-asks, answered-step     what sending its answer requires, and the step when it went out
+use mathlib.Core.Path.{_≡_, sym, ap, _∙_, subst⁻¹, subst₂}
 use mathlib.Core.Bool.{true, false}
 use mathlib.Core.List.{List}
-use Prim.Native.Nat.{ℕ, _-_, _*_}
-use native.Mathlib.Omega.{arith}
-use lib.ListN.{length, getD, take, drop}
+use Prim.Native.Nat.{ℕ}
+use lib.ListN.{getD, set}
 use lib.Seq.{set-getD}
-use borrow.Author.Tests.{ne-eqb}
 use Rattle.model.specs.declared.Settings.{Settings}
-use Rattle.model.specs.declared.Message.{Message}
 use Rattle.model.specs.declared.SiteRecord.{SiteRecord}
-use Rattle.model.specs.Choice.{isZero}
+use Rattle.model.specs.declared.CoordinatorRecord.{CoordinatorRecord}
 use Rattle.model.specs.Messages.{toCoordinator}
 use Rattle.model.specs.Coordinator.{coordinatorReceives, announced}
 use Rattle.model.specs.CoordinatorMemory.{coordinatorIn}
@@ -26,170 +23,179 @@ use Rattle.site_steps.specs.Steps.{ReceiveStepSays}
 use Rattle.coordinator_steps.specs.declared.Answered.{Answered}
 use Rattle.coordinator_steps.specs.Steps.{answerOf, Does}
 use Rattle.network_memory.specs.Records.{noRecord}
+use Rattle.network_memory.proofs.SitePart.{part}
 use Rattle.delivery.specs.declared.Queue.{Queue}
+use Rattle.delivery.specs.declared.Traffic.{Traffic}
 use Rattle.delivery.specs.declared.Underway.{Underway}
 use Rattle.delivery.specs.declared.Change.{Change}
-use Rattle.delivery.specs.Log.{putRecord}
-use Rattle.delivery.specs.Sending.{withoutHead, sent, sentIf, loggedIf, SendAsks, SendSays}
-use Rattle.delivery.specs.Holding.{state, Holds, Delivering, goesOn, StepSays}
-use Rattle.delivery.specs.Handing.{coordinatorChange, changed, HandSays}
+use Rattle.delivery.specs.Sending.{trafficOf, underwayOf, withoutHead, SendAsks, AnswerSays}
+use Rattle.delivery.specs.Holding.{state, answered, Holds, Delivering, goesOn, StepSays}
+use Rattle.delivery.specs.Handing.{siteOfHead, coordinatorChange, withQueue, changed, Handed, HandSays}
 use Rattle.delivery.proofs.StepLaws.{handing, asking, asked-sends, asked-holds}
 use Rattle.delivery.proofs.HandToCoordinator.{coordinator-sends, coordinator-holds}
-use Rattle.delivery.proofs.HandToSite.{site-few, site-sends, site-holds}
+use Rattle.delivery.proofs.HandToSite.{siteOfHead-is, site-sends, site-holds}
 
 -- ---- What changes
 
 -- The coordinator's answer leaves the sites' records as they are.
-coordinator-changed : (underway : Underway) (waiting : Queue) (answer : Answered)
-    → changed underway (coordinatorChange (underway .sites) waiting answer)
-    ≡ record {
-      sites = underway .sites;
-      coordinator = answer .coordinator;
-      written = underway .written;
-      waiting = waiting;
-    }
-coordinator-changed underway waiting answer =
-    ap (λ (records : List SiteRecord). record {
-      sites = record { records = records; messages = underway .sites .messages };
-      coordinator = answer .coordinator;
-      written = underway .written;
-      waiting = waiting;
-    })
-    (set-getD (underway .sites .records) 0 noRecord)
+coordinator-changed : (underway : Underway) (own : SiteRecord) (waiting : Queue) (answer : Answered)
+    → own ≡ getD (underway .sites .records) (siteOfHead (underway .waiting)) noRecord
+    → changed underway (coordinatorChange own waiting answer)
+    ≡ underwayOf (underway .sites .records) (answer .coordinator)
+    (withQueue (trafficOf underway) waiting)
+coordinator-changed underway own waiting answer own-is =
+    let records = underway .sites .records in
+    let at = siteOfHead (underway .waiting) in
+    ap (λ (after : List SiteRecord).
+    underwayOf after (answer .coordinator) (withQueue (trafficOf underway) waiting))
+    (ap (set records at) own-is ∙ set-getD records at noRecord)
 
-module _ {settings : Settings} {underway : Underway} {siteMemory coordinatorBefore : List ℕ} where
+-- From what is under way then.
+handed-as : {settings : Settings} {underway : Underway}
+    {siteMemory coordinatorBefore coordinatorAfter : List ℕ} {by : Change} (next : Underway)
+    → changed underway by ≡ next
+    → ((log : List ℕ)
+    → Delivering settings (state underway siteMemory coordinatorBefore log)
+    → (by .count ≡ 0 → ⊥)
+    → SendAsks (trafficOf next) log)
+    → ((log : List ℕ) (u : Delivering settings (state underway siteMemory coordinatorBefore log))
+    → Holds settings (u .given) (u .earlier) (deliveryStep settings (u .now))
+    (answered (by .count) (by .out) (state next siteMemory coordinatorAfter log)))
+    → Handed settings underway siteMemory coordinatorBefore coordinatorAfter by
+handed-as {settings} {siteMemory = siteMemory} {coordinatorAfter = coordinatorAfter} {by = by}
+    next is sends holds = record {
+      sends = λ log u some.
+          subst⁻¹ (λ (then : Underway). SendAsks (trafficOf then) log) is (sends log u some);
+      next = λ log u.
+          subst⁻¹ (λ (then : Underway).
+          Holds settings (u .given) (u .earlier) (deliveryStep settings (u .now))
+          (answered (by .count) (by .out) (state then siteMemory coordinatorAfter log))) is
+          (holds log u);
+    }
+
+module _ {settings : Settings} {own : SiteRecord} {coordinator : CoordinatorRecord}
+    {waiting : Queue} {siteMemory coordinatorBefore : List ℕ} where
   -- The next kind 7 is asked for.
-  pub asked-says : underway .waiting .count ≡ 0
-      → goesOn underway ≡ true
+  pub asked-says : waiting .count ≡ 0
+      → goesOn coordinator waiting ≡ true
       → (answer : Answered)
       → ((memory : List ℕ)
-      → answer
-      ≡ answerOf (announced settings (coordinatorIn settings (underway .coordinator) memory)))
+      → answer ≡ answerOf (announced settings (coordinatorIn settings coordinator memory)))
       → (by : Change)
-      → by ≡ coordinatorChange (underway .sites) (underway .waiting) answer
-      → HandSays settings underway siteMemory coordinatorBefore coordinatorBefore by
+      → by ≡ coordinatorChange own waiting answer
+      → HandSays settings own coordinator waiting siteMemory coordinatorBefore coordinatorBefore by
   asked-says none goes answer is by by-is =
-      let same = coordinator-changed underway (underway .waiting) answer in
-      subst⁻¹ (HandSays settings underway siteMemory coordinatorBefore coordinatorBefore) by-is
+      subst⁻¹
+      (HandSays settings own coordinator waiting siteMemory coordinatorBefore coordinatorBefore)
+      by-is
       (record {
-        place-known = omega arith;
-        sends = λ log u some.
-            subst⁻¹ (λ (next : Underway). SendAsks next log) same
-            (asked-sends u (asking u none goes) answer is some);
-        next = λ log u.
-            subst⁻¹ (λ (next : Underway).
-            Holds settings (u .given) (u .earlier) (deliveryStep settings (u .now))
-            (state (sentIf (answer .count) next (answer .out)) siteMemory coordinatorBefore
-            (loggedIf (answer .count) log (underway .written) (answer .out)))) same
-            (asked-holds u (asking u none goes) answer is
-            (record { goes-out = refl; logged = refl }));
+        handed = λ records traffic own-is.
+            handed-as _
+            (coordinator-changed (underwayOf records coordinator (withQueue traffic waiting)) own
+            waiting answer own-is)
+            (λ log u. asked-sends u (asking u none goes) answer is)
+            (λ log u. asked-holds u (asking u none goes) answer is);
       })
 
-  -- The head is for the coordinator.
-  pub received-says : (underway .waiting .count ≡ 0 → ⊥)
-      → toCoordinator (underway .waiting .first) ≡ true
-      → (answer : Answered) (coordinatorAfter : List ℕ) (queue : Queue)
-      → Does
-      (coordinatorReceives settings
-      (coordinatorIn settings (underway .coordinator) coordinatorBefore) (underway .waiting .first))
-      coordinatorBefore coordinatorAfter answer
-      → queue ≡ withoutHead (underway .waiting)
-      → (by : Change)
-      → by ≡ coordinatorChange (underway .sites) queue answer
-      → HandSays settings underway siteMemory coordinatorBefore coordinatorAfter by
-  received-says some way answer coordinatorAfter queue does queue-is by by-is =
-      let same = coordinator-changed underway queue answer in
-      subst⁻¹ (HandSays settings underway siteMemory coordinatorBefore coordinatorAfter) by-is
-      (record {
-        place-known = omega arith;
-        sends = λ log u more.
-            subst⁻¹ (λ (next : Underway). SendAsks next log) same
-            (coordinator-sends u (handing u some) way answer coordinatorAfter queue does queue-is
-            more);
-        next = λ log u.
-            subst⁻¹ (λ (next : Underway).
-            Holds settings (u .given) (u .earlier) (deliveryStep settings (u .now))
-            (state (sentIf (answer .count) next (answer .out)) siteMemory coordinatorAfter
-            (loggedIf (answer .count) log (underway .written) (answer .out)))) same
-            (coordinator-holds u (handing u some) way answer coordinatorAfter queue does queue-is
-            (record { goes-out = refl; logged = refl }));
-      })
-
-  -- The head is for the site that it names, whose record and part of the memory the code has.
-  module _ (log₀ : List ℕ)
-      (u₀ : Delivering settings (state underway siteMemory coordinatorBefore log₀))
-      (some : underway .waiting .count ≡ 0 → ⊥)
-      (way : toCoordinator (underway .waiting .first) ≡ false)
-      (numbers : SiteRecord) (words : ℕ)
-      (numbers-are : numbers
-      ≡ getD (underway .sites .records) (underway .waiting .first .site) noRecord)
-      (words-are : words ≡ siteWords settings) where
-    abbrev m : Message
-    m = underway .waiting .first
-
-    abbrev start : ℕ
-    start = m .site * words
-
-    pub site-says : (answer : SiteAnswer.Answered) (queue : Queue)
-        → ReceiveStepSays settings numbers m
-        (take (length siteMemory - start) (drop start siteMemory)) answer
-        → queue ≡ withoutHead (underway .waiting)
-        → HandSays settings underway siteMemory coordinatorBefore coordinatorBefore
+  module _ (some : waiting .count ≡ 0 → ⊥)
+      (queue : Queue)
+      (queue-is : queue ≡ withoutHead waiting) where
+    -- The head is for the coordinator.
+    pub received-says : toCoordinator (waiting .first) ≡ true
+        → (answer : Answered) (memory : List ℕ)
+        → Does
+        (coordinatorReceives settings (coordinatorIn settings coordinator coordinatorBefore)
+        (waiting .first))
+        coordinatorBefore memory answer
+        → (by : Change)
+        → by ≡ coordinatorChange own queue answer
+        → HandSays settings own coordinator waiting siteMemory coordinatorBefore memory by
+    received-says way answer memory does by by-is =
+        subst⁻¹ (HandSays settings own coordinator waiting siteMemory coordinatorBefore memory)
+        by-is
         (record {
-          which = m .site;
+          handed = λ records traffic own-is.
+              handed-as _
+              (coordinator-changed (underwayOf records coordinator (withQueue traffic waiting))
+              own queue answer own-is)
+              (λ log u. coordinator-sends u (handing u some) way answer memory queue does queue-is)
+              (λ log u. coordinator-holds u (handing u some) way answer memory queue does queue-is);
+        })
+
+    -- The head is for the site that it names, whose part of the memory the code has.
+    pub site-says : toCoordinator (waiting .first) ≡ false
+        → (words : ℕ)
+        → words ≡ siteWords settings
+        → (answer : SiteAnswer.Answered)
+        → ReceiveStepSays settings own (waiting .first)
+        (part siteMemory (waiting .first .site) words) answer
+        → HandSays settings own coordinator waiting siteMemory coordinatorBefore coordinatorBefore
+        (record {
           site = answer .site;
-          coordinator = underway .coordinator;
+          coordinator = coordinator;
           waiting = queue;
           count = answer .count;
           out = answer .reply;
         })
-    site-says answer queue says queue-is = record {
-      place-known = site-few u₀ (handing u₀ some) way;
-      sends = λ log u more.
-          site-sends u (handing u some) way numbers words numbers-are words-are answer _ queue says
-          refl queue-is more;
-      next = λ log u.
-          site-holds u (handing u some) way numbers words numbers-are words-are answer _ queue says
-          refl queue-is (record { goes-out = refl; logged = refl });
+    site-says way words words-are answer says = record {
+      handed = λ records traffic own-is.
+          let at = siteOfHead-is waiting some way in
+          let numbers-are = own-is ∙ ap (λ (j : ℕ). getD records j noRecord) at in
+          handed-as _
+          (ap (λ (j : ℕ). underwayOf (set records j (answer .site)) coordinator
+          (withQueue traffic queue)) at)
+          (λ log u.
+          site-sends u (handing u some) way own words numbers-are words-are answer queue says
+          queue-is)
+          (λ log u.
+          site-holds u (handing u some) way own words numbers-are words-are answer queue says
+          queue-is);
     }
 
 -- ---- The step
 
-module _ {settings : Settings} {underway : Underway}
+-- The records, the coordinator's record and the messages as the loop changes them.
+module _ {settings : Settings} {coordinator : CoordinatorRecord}
     {siteMemory coordinatorBefore coordinatorAfter : List ℕ} {by : Change}
-    (says : HandSays settings underway siteMemory coordinatorBefore coordinatorAfter by)
+    (records : List SiteRecord)
+    (traffic : Traffic)
     (log : List ℕ)
-    (settled : Underway)
-    (settled-is : settled ≡ changed underway by) where
-  pub silent-step : by .count ≡ 0
-      → StepSays settings (state underway siteMemory coordinatorBefore log)
-      (state settled siteMemory coordinatorAfter log)
-  silent-step none = record {
-    next = λ u.
-        subst⁻¹ (λ (next : Underway).
-        Holds settings (u .given) (u .earlier) (deliveryStep settings (u .now))
-        (state next siteMemory coordinatorAfter log)) settled-is
-        (rw none at (says .next log u));
-  }
+    (which : ℕ)
+    (which-is : which ≡ siteOfHead (traffic .waiting))
+    (says : HandSays settings (getD records which noRecord) coordinator (traffic .waiting)
+    siteMemory coordinatorBefore coordinatorAfter by) where
+  abbrev settled : Traffic → Underway
+  settled = underwayOf (set records which (by .site)) (by .coordinator)
 
-  pub send-asks : Delivering settings (state underway siteMemory coordinatorBefore log)
+  by-hand : Handed settings (underwayOf records coordinator traffic) siteMemory coordinatorBefore
+      coordinatorAfter by
+  by-hand = says .handed records traffic (ap (λ (j : ℕ). getD records j noRecord) which-is)
+
+  settled-is : settled (withQueue traffic (by .waiting))
+      ≡ changed (underwayOf records coordinator traffic) by
+  settled-is =
+      ap (λ (j : ℕ). underwayOf (set records j (by .site)) (by .coordinator)
+      (withQueue traffic (by .waiting))) which-is
+
+  pub send-asks : Delivering settings
+      (state (underwayOf records coordinator traffic) siteMemory coordinatorBefore log)
       → (by .count ≡ 0 → ⊥)
-      → SendAsks settled log
-  send-asks u some =
-      subst⁻¹ (λ (next : Underway). SendAsks next log) settled-is (says .sends log u some)
+      → SendAsks (withQueue traffic (by .waiting)) log
+  send-asks = by-hand .sends log
 
-  pub answered-step : (by .count ≡ 0 → ⊥)
-      → {result : Underway} {written : List ℕ}
-      → SendSays settled (by .out) log result written
-      → StepSays settings (state underway siteMemory coordinatorBefore log)
-      (state result siteMemory coordinatorAfter written)
-  answered-step some sends = record {
+  pub answered-step : {result : Traffic} {written : List ℕ}
+      → AnswerSays (by .count) (withQueue traffic (by .waiting)) (by .out) log result written
+      → StepSays settings
+      (state (underwayOf records coordinator traffic) siteMemory coordinatorBefore log)
+      (state (settled result) siteMemory coordinatorAfter written)
+  answered-step said = record {
     next = λ u.
-        subst₂ (λ (next : Underway) (after : List ℕ).
+        subst₂ (λ (then : Traffic) (after : List ℕ).
         Holds settings (u .given) (u .earlier) (deliveryStep settings (u .now))
-        (state next siteMemory coordinatorAfter after))
-        (sym (sends .goes-out ∙ ap (λ (next : Underway). sent next (by .out)) settled-is))
-        (sym (sends .logged
-        ∙ ap (λ (next : Underway). putRecord log (next .written) (by .out)) settled-is))
-        (rw (ne-eqb (by .count) 0 some) at (says .next log u));
+        (state (settled then) siteMemory coordinatorAfter after))
+        (sym (said .goes-out)) (sym (said .logged))
+        (subst⁻¹ (λ (then : Underway).
+        Holds settings (u .given) (u .earlier) (deliveryStep settings (u .now))
+        (answered (by .count) (by .out) (state then siteMemory coordinatorAfter log))) settled-is
+        (by-hand .next log u));
   }

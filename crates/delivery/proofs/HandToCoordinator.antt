@@ -21,13 +21,13 @@ use Rattle.coordinator_steps.specs.Steps.{Does}
 use Rattle.coordinator_steps.specs.Ready.{CoordinatorReady, StepAsks}
 use Rattle.delivery.specs.declared.Queue.{Queue}
 use Rattle.delivery.specs.declared.Underway.{Underway}
-use Rattle.delivery.specs.Sending.{withoutHead, SendAsks, AnswerSays}
-use Rattle.delivery.specs.Holding.{State, state, Holds, Fits, Delivering}
+use Rattle.delivery.specs.Sending.{trafficOf, withoutHead, SendAsks}
+use Rattle.delivery.specs.Holding.{State, state, answered, Holds, Fits, Delivering}
 use Rattle.delivery.proofs.StageNumbers.{coordinator-ready}
 use Rattle.delivery.proofs.QuietSteps.{quiet-receives}
-use Rattle.delivery.proofs.HoldingLaws.{coordinator-read, coordinator-memory-length, holds-coordinator, coordinator-again}
+use Rattle.delivery.proofs.HoldingLaws.{coordinator-read, coordinator-memory-length, holds-answer, holds-coordinator, coordinator-again}
 use Rattle.delivery.proofs.GoingLaws.{going-fit, going-stage, going-bounded, going-stored}
-use Rattle.delivery.proofs.StepLaws.{Handing, answer-sends, answer-holds}
+use Rattle.delivery.proofs.StepLaws.{Handing, answer-sends}
 use Rattle.delivery.proofs.HandLaws.{head-accepted, few-rest, rest-waits, room, stored-then}
 
 module _ {settings : Settings} {held : State} (u : Delivering settings held)
@@ -106,18 +106,17 @@ module _ {settings : Settings} {held : State} (u : Delivering settings held)
       abbrev count-is : answer .count ≡ length (after .messages)
       count-is = ap (λ (a : CoordinatorAnswer.Answered). a .count) (did .answer)
 
-      pub coordinator-sends : (answer .count ≡ 0 → ⊥) → SendAsks next (held .log)
+      pub coordinator-sends : (answer .count ≡ 0 → ⊥) → SendAsks (trafficOf next) (held .log)
       coordinator-sends =
-          answer-sends changed (after .messages) (answer .count) (answer .out) count-is room-then
-          fits
+          answer-sends changed (after .messages) (answer .count) count-is room-then fits
 
-      pub coordinator-holds : {result : Underway} {written : List ℕ}
-          → AnswerSays (answer .count) next (answer .out) (held .log) result written
-          → Holds settings (u .given) (u .earlier) (deliveryStep settings (u .now))
-          (state result (held .siteMemory) memory written)
-      coordinator-holds said =
+      pub coordinator-holds :
+          Holds settings (u .given) (u .earlier) (deliveryStep settings (u .now))
+          (answered (answer .count) (answer .out)
+          (state next (held .siteMemory) memory (held .log)))
+      coordinator-holds =
           rw (hand .step-is, way)
-          (answer-holds changed (after .messages) (answer .count) (answer .out) count-is room-then
-          (quiet-receives settings c m .one-answer)
+          (holds-answer (after .messages) (answer .count) (answer .out) changed
+          (quiet-receives settings c m .one-answer) count-is
           (ap (λ (a : CoordinatorAnswer.Answered). a .out) (did .answer))
-          (few-rest u hand) said)
+          (few-rest u hand) room-then)

@@ -1,19 +1,21 @@
 -- A message for a site, handed over as the code does it. The site's memory is only read.
 --
+--   siteOfHead-is, head-few    the site that the head is for, and that there is a record for it
 --   site-known, site-few, starts-within, starts-small   the site that the message names, and where
 --                                                      its part starts
 --   site-asks     what the site's step requires
 --   site-sends    what sending its answer requires
 --   site-holds    what the state holds when the answer went out
-use mathlib.Core.Path.{_≡_, sym, ap, _∙_, subst⁻¹}
-use mathlib.Core.Bool.{false}
+use mathlib.Core.Path.{_≡_, refl, sym, ap, _∙_, subst⁻¹}
+use mathlib.Core.Bool.{Bool, true, false}
 use mathlib.Core.List.{List, _++_}
 use Prim.Native.Nat.{ℕ, _*_, _≤_, _<_}
 use native.Mathlib.Omega.{arith}
+use native.Mathlib.Decide.{ℕ-discrete}
 use lib.ListN.{length, getD, drop}
+use borrow.Author.Tests.{eq-eqb, ne-eqb}
 use Rattle.model.specs.declared.Settings.{Settings}
 use Rattle.model.specs.declared.Message.{Message}
-use Rattle.model.specs.declared.Sites.{Sites}
 use Rattle.model.specs.declared.SiteRecord.{SiteRecord}
 use Rattle.model.specs.Messages.{noMessage, toCoordinator}
 use Rattle.model.specs.Site.{Site, SiteStep, siteReceives}
@@ -28,15 +30,22 @@ use Rattle.network_memory.proofs.SitesMemoryLaws.{sitesMemory-kept}
 use Rattle.delivery.specs.declared.Queue.{Queue}
 use Rattle.delivery.specs.declared.Underway.{Underway}
 use Rattle.network_memory.specs.Records.{noRecord, withRecord}
-use Rattle.delivery.specs.Sending.{withoutHead, SendAsks, AnswerSays}
-use Rattle.delivery.specs.Holding.{State, state, Holds, Fits, Delivering}
+use Rattle.delivery.specs.Sending.{trafficOf, withoutHead, SendAsks}
+use Rattle.delivery.specs.Holding.{State, state, answered, Holds, Fits, Delivering}
+use Rattle.delivery.specs.Handing.{siteOfHead}
 use Rattle.delivery.proofs.StageNumbers.{at-stage, site-ready}
 use Rattle.network_memory.proofs.SitePart.{few-sites, start-small, part, part-is}
 use Rattle.delivery.proofs.QuietSteps.{quiet-site}
-use Rattle.delivery.proofs.HoldingLaws.{part-long, part-starts, site-read, holds-site}
+use Rattle.delivery.proofs.HoldingLaws.{part-long, part-starts, site-read, holds-answer, holds-site}
 use Rattle.delivery.proofs.GoingLaws.{going-fit, going-stage, going-stored}
-use Rattle.delivery.proofs.StepLaws.{Handing, answer-sends, answer-holds}
+use Rattle.delivery.proofs.StepLaws.{Handing, handing, answer-sends}
 use Rattle.delivery.proofs.HandLaws.{head-accepted, few-rest, rest-waits, room}
+
+pub siteOfHead-is : (waiting : Queue)
+    → (waiting .count ≡ 0 → ⊥)
+    → toCoordinator (waiting .first) ≡ false
+    → siteOfHead waiting ≡ waiting .first .site
+siteOfHead-is waiting some way = rw (ne-eqb (waiting .count) 0 some, way)
 
 module _ {settings : Settings} {held : State} (u : Delivering settings held)
     (hand : Handing settings held u) where
@@ -65,11 +74,14 @@ module _ {settings : Settings} {held : State} (u : Delivering settings held)
     pub site-few : j < 32
     site-few = few-sites (going-fit (hand .going .accepting)) site-known
 
-    pub starts-within : j * siteWords settings ≤ length (held .siteMemory)
-    starts-within = part-starts fits (going-stored (hand .going)) (hand .holds) j site-known
+    -- The words of a site, as the code names them.
+    module _ (words : ℕ) (words-are : words ≡ siteWords settings) where
+      pub starts-within : j * words ≤ length (held .siteMemory)
+      starts-within =
+          rw words-are (part-starts fits (going-stored (hand .going)) (hand .holds) j site-known)
 
-    pub starts-small : j * siteWords settings ≤ 32 * 13024
-    starts-small = start-small (going-fit (hand .going .accepting)) site-known
+      pub starts-small : j * words ≤ 32 * 13024
+      starts-small = rw words-are (start-small (going-fit (hand .going .accepting)) site-known)
 
     -- The site's record and its part of the memory, as the code names them.
     module _ (numbers : SiteRecord) (words : ℕ)
@@ -99,16 +111,15 @@ module _ {settings : Settings} {held : State} (u : Delivering settings held)
         value-known = due .value-known;
       }
 
-      module _ (answer : SiteAnswer.Answered) (sites : Sites) (queue : Queue)
+      module _ (answer : SiteAnswer.Answered) (queue : Queue)
           (says : ReceiveStepSays settings numbers m own answer)
-          (sites-are : sites ≡ withRecord (held .underway .sites) j (answer .site))
           (queue-is : queue ≡ withoutHead (held .underway .waiting)) where
         site-is : answer .site ≡ siteRecord (after .site)
         site-is = says .site ∙ ap (λ (x : Site). siteRecord (siteReceives x m .site)) read
 
         abbrev next : Underway
         next = record {
-          sites = sites;
+          sites = withRecord (held .underway .sites) j (answer .site);
           coordinator = held .underway .coordinator;
           written = held .underway .written;
           waiting = queue;
@@ -121,12 +132,11 @@ module _ {settings : Settings} {held : State} (u : Delivering settings held)
             let inside : j < length (now .sites) =
             omega (arith, site-known, going-stored (hand .going) .all-sites) in
             let quiet = quiet-site (siteAt now j) m in
-            rw sites-are
-            (holds-site (hand .holds) j (after .site) (hand .rest) (answer .site) queue
+            holds-site (hand .holds) j (after .site) (hand .rest) (answer .site) queue
             (held .siteMemory) inside site-is (rest-waits u hand queue queue-is)
             (hand .holds .site-memory
             ∙ sym (sitesMemory-kept settings (now .sites) (u .given .siteMemory) j (after .site)
-            (quiet .counters-kept) (quiet .histogram-kept))))
+            (quiet .counters-kept) (quiet .histogram-kept)))
 
         abbrev room-then : 4 * length (u .earlier ++ (u .now .log ++ after .messages))
             ≤ length (u .given .log)
@@ -135,19 +145,36 @@ module _ {settings : Settings} {held : State} (u : Delivering settings held)
         abbrev count-is : answer .count ≡ length (after .messages)
         count-is = says .count ∙ ap (λ (x : Site). length (siteReceives x m .messages)) read
 
-        pub site-sends : (answer .count ≡ 0 → ⊥) → SendAsks next (held .log)
+        pub site-sends : (answer .count ≡ 0 → ⊥) → SendAsks (trafficOf next) (held .log)
         site-sends =
-            answer-sends changed (after .messages) (answer .count) (answer .reply) count-is
-            room-then fits
+            answer-sends changed (after .messages) (answer .count) count-is room-then fits
 
-        pub site-holds : {result : Underway} {written : List ℕ}
-            → AnswerSays (answer .count) next (answer .reply) (held .log) result written
-            → Holds settings (u .given) (u .earlier) (deliveryStep settings (u .now))
-            (state result (held .siteMemory) (held .coordinatorMemory) written)
-        site-holds said =
+        pub site-holds :
+            Holds settings (u .given) (u .earlier) (deliveryStep settings (u .now))
+            (answered (answer .count) (answer .reply)
+            (state next (held .siteMemory) (held .coordinatorMemory) (held .log)))
+        site-holds =
             rw (hand .step-is, way)
-            (answer-holds changed (after .messages) (answer .count) (answer .reply) count-is
-            room-then
-            (quiet-site (siteAt now j) m .one-answer)
+            (holds-answer (after .messages) (answer .count) (answer .reply) changed
+            (quiet-site (siteAt now j) m .one-answer) count-is
             (says .reply ∙ ap (λ (x : Site). getD (siteReceives x m .messages) 0 noMessage) read)
-            (few-rest u hand) said)
+            (few-rest u hand) room-then)
+
+-- There is a record for the site that the head is for, or for site 0.
+pub head-few : {settings : Settings} {held : State} → Delivering settings held
+    → siteOfHead (held .underway .waiting) < 32
+head-few {held = held} u = by-count (ℕ-discrete (queue .count) 0)
+  where
+    queue : Queue
+    queue = held .underway .waiting
+
+    by-way : (queue .count ≡ 0 → ⊥)
+        → (way : Bool)
+        → toCoordinator (queue .first) ≡ way
+        → siteOfHead queue < 32
+    by-way some true is = rw (ne-eqb (queue .count) 0 some, is) (omega arith)
+    by-way some false is = rw (siteOfHead-is queue some is) (site-few u (handing u some) is)
+
+    by-count : Dec (queue .count ≡ 0) → siteOfHead queue < 32
+    by-count (yes none) = rw (eq-eqb (queue .count) 0 none) (omega arith)
+    by-count (no some) = by-way some (toCoordinator (queue .first)) refl

@@ -36,8 +36,8 @@ use Rattle.delivery.specs.declared.Underway.{Underway}
 use Rattle.delivery.specs.declared.Queue.{Queue}
 use Rattle.delivery.specs.Log.{messageNumbers, putRecord}
 use Rattle.network_memory.specs.Records.{noRecord, withRecord}
-use Rattle.delivery.specs.Sending.{queueOf, sent, sentIf, loggedIf, SendAsks}
-use Rattle.delivery.specs.Holding.{Given, State, state, Holds, Fits}
+use Rattle.delivery.specs.Sending.{queueOf, trafficOf, withTraffic, sent, SendAsks}
+use Rattle.delivery.specs.Holding.{Given, State, state, answered, Holds, Fits}
 use Rattle.delivery.proofs.LogLaws.{length-messageNumbers, putRecord-append, joined-queueOf}
 
 -- ---- Sizes
@@ -145,7 +145,7 @@ module _ {settings : Settings} {given : Given} {earlier : List Message} where
       → Fits settings given
       → Holds settings given earlier d held
       → 4 * length (earlier ++ d .log) + 4 ≤ length (given .log)
-      → SendAsks (held .underway) (held .log)
+      → SendAsks (trafficOf (held .underway)) (held .log)
   send-asks fits holds room = record {
     room = omega (arith, log-length holds (omega arith), holds .written);
     count-within = omega (arith, holds .counted, holds .written, fits .count-within);
@@ -157,7 +157,8 @@ module _ {settings : Settings} {given : Given} {earlier : List Message} where
       → 4 * length (earlier ++ log) + 4 ≤ length (given .log)
       → Holds settings given earlier
       (delivery network (waiting ++ (m ∷ [])) (log ++ (m ∷ [])))
-      (state (sent (held .underway) m) (held .siteMemory) (held .coordinatorMemory)
+      (state (withTraffic (held .underway) (sent (trafficOf (held .underway)) m))
+      (held .siteMemory) (held .coordinatorMemory)
       (putRecord (held .log) (held .underway .written) m))
   holds-sent {network} {waiting} {log} {held} m holds few room =
       let all : earlier ++ (log ++ (m ∷ [])) ≡ (earlier ++ log) ++ (m ∷ []) =
@@ -186,8 +187,7 @@ module _ {settings : Settings} {given : Given} {earlier : List Message} where
       → length waiting ≤ 1
       → 4 * length (earlier ++ (log ++ out)) ≤ length (given .log)
       → Holds settings given earlier (delivery network (waiting ++ out) (log ++ out))
-      (state (sentIf count (held .underway) m) (held .siteMemory) (held .coordinatorMemory)
-      (loggedIf count (held .log) (held .underway .written) m))
+      (answered count m held)
   holds-answer {network} {waiting} {log} {held} [] count m holds one count-is m-is few room =
       rw (count-is, append-nil waiting, append-nil log) holds
   holds-answer {network} {waiting} {log} {held} (x ∷ []) count m holds one count-is m-is few room =

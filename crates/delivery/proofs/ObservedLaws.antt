@@ -20,7 +20,7 @@ use Rattle.model.specs.SiteMemory.{siteMemory}
 use Rattle.model.specs.Network.{Network}
 use Rattle.model.specs.DeliveryClaims.{delivery}
 use Rattle.site_steps.proofs.ObserveMemory.{length-countersReported}
-use Rattle.delivery.specs.Sending.{sentTwo, loggedTwo}
+use Rattle.delivery.specs.Sending.{trafficOf, withTraffic, sentTwo, loggedTwo}
 use Rattle.delivery.specs.Holding.{Given, State, state, Holds}
 use Rattle.delivery.proofs.HoldingLaws.{holds-sent}
 
@@ -49,8 +49,8 @@ pub holds-two : {settings : Settings} {given : Given} {earlier : List Message} {
     → second ≡ getD out 1 noMessage
     → 4 * length (earlier ++ out) ≤ length (given .log)
     → Holds settings given earlier (delivery network out out)
-    (state (sentTwo count (held .underway) first second) (held .siteMemory)
-    (held .coordinatorMemory)
+    (state (withTraffic (held .underway) (sentTwo count (trafficOf (held .underway)) first second))
+    (held .siteMemory) (held .coordinatorMemory)
     (loggedTwo count (held .log) (held .underway .written) first second))
 holds-two [] count first second holds few count-is first-is second-is room = rw count-is holds
 holds-two {earlier = earlier} (x ∷ []) count first second holds few count-is first-is second-is

@@ -9,16 +9,16 @@ use Prim.Native.Nat.{ℕ, zero, suc}
 use native.Mathlib.Omega.{arith}
 use lib.ListN.{length, length-set}
 use Rattle.model.specs.declared.Message.{Message}
-use Rattle.delivery.specs.declared.Underway.{Underway}
+use Rattle.delivery.specs.declared.Traffic.{Traffic}
 use Rattle.delivery.specs.Log.{putRecord}
 use Rattle.delivery.specs.Sending.{sent, SendAsks, SendSays, AnswerSays, SendTwoAsks, TwoSay}
 
-pub some-asks : (count : ℕ) (underway : Underway) (log : List ℕ)
-    → SendTwoAsks count underway log
+pub some-asks : (count : ℕ) (traffic : Traffic) (log : List ℕ)
+    → SendTwoAsks count traffic log
     → (count ≡ 0 → ⊥)
-    → SendAsks underway log
-some-asks zero underway log asks some = absurd (some refl)
-some-asks (suc more) underway log asks some = record {
+    → SendAsks traffic log
+some-asks zero traffic log asks some = absurd (some refl)
+some-asks (suc more) traffic log asks some = record {
   room = omega (arith, asks .room);
   count-within = asks .count-within;
 }
@@ -27,30 +27,30 @@ length-putRecord : (log : List ℕ) (place : ℕ) (m : Message)
     → length (putRecord log place m) ≡ length log
 length-putRecord log place m = simp length-set
 
-module _ (count : ℕ) (underway : Underway) (first second : Message) (log : List ℕ)
+module _ (count : ℕ) (traffic : Traffic) (first second : Message) (log : List ℕ)
     (two : count ≡ 2)
-    (then : Underway) (written : List ℕ)
-    (once : AnswerSays count underway first log then written) where
-  then-sent : then ≡ sent underway first
+    (then : Traffic) (written : List ℕ)
+    (once : AnswerSays count traffic first log then written) where
+  then-sent : then ≡ sent traffic first
   then-sent = once .goes-out ∙ rw two
 
-  written-put : written ≡ putRecord log (underway .written) first
+  written-put : written ≡ putRecord log (traffic .written) first
   written-put = once .logged ∙ rw two
 
-  pub second-asks : SendTwoAsks count underway log → SendAsks then written
+  pub second-asks : SendTwoAsks count traffic log → SendAsks then written
   second-asks asks = rw (then-sent, written-put) (record {
     room = omega (
       arith,
       asks .room,
       two,
-      length-putRecord log (underway .written) first,
+      length-putRecord log (traffic .written) first,
     );
     count-within = omega (arith, asks .count-within);
   })
 
-  pub two-said : {result : Underway} {after : List ℕ}
+  pub two-said : {result : Traffic} {after : List ℕ}
       → SendSays then second written result after
-      → TwoSay count underway first second log result after
+      → TwoSay count traffic first second log result after
   two-said twice = record {
     go-out = twice .goes-out ∙ rw (then-sent, two);
     logged = twice .logged ∙ rw (written-put, then-sent, two);

@@ -3,15 +3,14 @@
 --
 --   none-waits, handing        the messages that wait, from their number and head
 --   Asking, ask-asks, asked-sends, asked-holds       the next kind 7 is asked for
-use mathlib.Core.Path.{_≡_, refl, sym, ap, _∙_, subst, subst⁻¹, subst₂}
+use mathlib.Core.Path.{_≡_, refl, sym, ap, _∙_, subst, subst⁻¹}
 use mathlib.Core.Bool.{true}
 use mathlib.Core.List.{List, [], _∷_, _++_}
 use Prim.Native.Nat.{ℕ, _*_, _≤_}
 use native.Mathlib.Omega.{arith}
-use lib.ListN.{length, getD, length-append}
+use lib.ListN.{length, length-append}
 use Rattle.model.specs.declared.Settings.{Settings}
 use Rattle.model.specs.declared.Message.{Message}
-use Rattle.model.specs.Messages.{noMessage}
 use Rattle.model.specs.Coordinator.{Coordinator, CoordinatorStep, announced, isAnnouncing}
 use Rattle.model.specs.CoordinatorMemory.{coordinatorIn, coordinatorMemory}
 use Rattle.model.specs.Network.{Network, withCoordinator, handOver, askAnnouncement}
@@ -22,8 +21,8 @@ use Rattle.coordinator_steps.specs.Steps.{answerOf}
 use Rattle.coordinator_steps.specs.Ready.{AnnounceAsks}
 use Rattle.delivery.specs.declared.Queue.{Queue}
 use Rattle.delivery.specs.declared.Underway.{Underway}
-use Rattle.delivery.specs.Sending.{queueOf, SendAsks, AnswerSays}
-use Rattle.delivery.specs.Holding.{Given, State, state, Holds, Fits, Going, Delivering, goesOn}
+use Rattle.delivery.specs.Sending.{queueOf, trafficOf, SendAsks}
+use Rattle.delivery.specs.Holding.{Given, State, state, answered, Holds, Fits, Going, Delivering, goesOn}
 use Rattle.delivery.proofs.QuietSteps.{quiet-announced}
 use Rattle.delivery.proofs.HoldingLaws.{coordinator-read, send-asks, holds-answer, holds-coordinator}
 use Rattle.delivery.proofs.GoingLaws.{going-fit, going-stage, going-stored, going-room, going-asked}
@@ -93,7 +92,7 @@ pub record Asking (settings : Settings) (held : State) (u : Delivering settings 
 
 pub asking : {settings : Settings} {held : State} (u : Delivering settings held)
     → held .underway .waiting .count ≡ 0
-    → goesOn (held .underway) ≡ true
+    → goesOn (held .underway .coordinator) (held .underway .waiting) ≡ true
     → Asking settings held u
 asking {settings} {held} u none goes =
     let is : u .now ≡ delivery (u .now .network) [] (u .now .log) =
@@ -117,15 +116,16 @@ module _ {settings : Settings} {given : Given} {earlier : List Message}
     (holds : Holds settings given earlier (delivery network waiting log) held)
     (out : List Message)
     (count : ℕ)
-    (m : Message)
     (count-is : count ≡ length out)
     (room : 4 * length (earlier ++ (log ++ out)) ≤ length (given .log)) where
-  pub answer-sends : Fits settings given → (count ≡ 0 → ⊥) → SendAsks (held .underway) (held .log)
+  pub answer-sends : Fits settings given
+      → (count ≡ 0 → ⊥)
+      → SendAsks (trafficOf (held .underway)) (held .log)
   answer-sends fits some = by-answer out count-is room
     where
       by-answer : (answer : List Message) → count ≡ length answer
           → 4 * length (earlier ++ (log ++ answer)) ≤ length (given .log)
-          → SendAsks (held .underway) (held .log)
+          → SendAsks (trafficOf (held .underway)) (held .log)
       by-answer [] is fits-log = absurd (some is)
       by-answer (x ∷ xs) is fits-log =
           send-asks fits holds
@@ -136,20 +136,6 @@ module _ {settings : Settings} {given : Given} {earlier : List Message}
             length-append log (x ∷ xs),
             length-append earlier log,
           ))
-
-  pub answer-holds : length out ≤ 1
-      → m ≡ getD out 0 noMessage
-      → length waiting ≤ 1
-      → {result : Underway} {written : List ℕ}
-      → AnswerSays count (held .underway) m (held .log) result written
-      → Holds settings given earlier (delivery network (waiting ++ out) (log ++ out))
-      (state result (held .siteMemory) (held .coordinatorMemory) written)
-  answer-holds one m-is few said =
-      subst₂ (λ (r : Underway) (l : List ℕ).
-      Holds settings given earlier (delivery network (waiting ++ out) (log ++ out))
-      (state r (held .siteMemory) (held .coordinatorMemory) l))
-      (sym (said .goes-out)) (sym (said .logged))
-      (holds-answer out count m holds one count-is m-is few room)
 
 -- ---- The next kind 7
 
@@ -207,19 +193,20 @@ module _ {settings : Settings} {held : State} (u : Delivering settings held)
     count-is : answer .count ≡ length (after .messages)
     count-is = ap (λ (a : CoordinatorAnswer.Answered). a .count) answer-is
 
-    pub asked-sends : (answer .count ≡ 0 → ⊥) → SendAsks next (held .log)
+    pub asked-sends : (answer .count ≡ 0 → ⊥) → SendAsks (trafficOf next) (held .log)
     asked-sends =
-        answer-sends changed (after .messages) (answer .count) (answer .out) count-is room
+        answer-sends changed (after .messages) (answer .count) count-is room
         (ask .going .accepting .fits)
 
-    pub asked-holds : {result : Underway} {written : List ℕ}
-        → AnswerSays (answer .count) next (answer .out) (held .log) result written
-        → Holds settings (u .given) (u .earlier) (deliveryStep settings (u .now))
-        (state result (held .siteMemory) (held .coordinatorMemory) written)
-    asked-holds {result} {written} said =
+    pub asked-holds :
+        Holds settings (u .given) (u .earlier) (deliveryStep settings (u .now))
+        (answered (answer .count) (answer .out)
+        (state next (held .siteMemory) (held .coordinatorMemory) (held .log)))
+    asked-holds =
         subst⁻¹ (λ (d : Delivery). Holds settings (u .given) (u .earlier) d
-        (state result (held .siteMemory) (held .coordinatorMemory) written)) (ask .step-is)
-        (answer-holds changed (after .messages) (answer .count) (answer .out) count-is room
-        (quiet-announced settings c (c .phase) .one-answer)
+        (answered (answer .count) (answer .out)
+        (state next (held .siteMemory) (held .coordinatorMemory) (held .log)))) (ask .step-is)
+        (holds-answer (after .messages) (answer .count) (answer .out) changed
+        (quiet-announced settings c (c .phase) .one-answer) count-is
         (ap (λ (a : CoordinatorAnswer.Answered). a .out) answer-is)
-        (omega arith) said)
+        (omega arith) room)

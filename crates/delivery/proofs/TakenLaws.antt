@@ -19,8 +19,8 @@ use Rattle.model.specs.Network.{Network, siteAt, afterArrival}
 use Rattle.model.specs.DeliveryClaims.{Delivery, deliveryOf}
 use Rattle.model.specs.SoundClaims.{begun}
 use Rattle.delivery.specs.declared.Queue.{Queue}
-use Rattle.delivery.specs.declared.Underway.{Underway}
-use Rattle.delivery.specs.Sending.{SendTwoAsks, TwoSay}
+use Rattle.delivery.specs.declared.Traffic.{Traffic}
+use Rattle.delivery.specs.Sending.{trafficOf, withTraffic, SendTwoAsks, TwoSay}
 use Rattle.delivery.specs.Holding.{Given, State, state, Holds, Going, Delivering, rested}
 use Rattle.delivery.specs.Arriving.{stepAt, Taken, MessagesAsk}
 use Rattle.delivery.proofs.ObservedLaws.{messages-two, holds-two}
@@ -48,7 +48,7 @@ module _ {settings : Settings} {given : Given} {earlier : List Message} {network
   count-is : out .count ≡ length messages
   count-is = ap (λ (q : Queue). q .count) (taken .out-is)
 
-  pub two-ask : SendTwoAsks (out .count) (held .underway) (held .log)
+  pub two-ask : SendTwoAsks (out .count) (trafficOf (held .underway)) (held .log)
   two-ask =
       let holds = taken .holds in
       let all = length-append earlier messages in
@@ -67,14 +67,16 @@ module _ {settings : Settings} {given : Given} {earlier : List Message} {network
             omega (arith, holds .counted, holds .written, taken .accepting .fits .count-within);
       }
 
-  pub begun-holds : {result : Underway} {written : List ℕ}
-      → TwoSay (out .count) (held .underway) (out .first) (out .second) (held .log) result written
+  pub begun-holds : {result : Traffic} {written : List ℕ}
+      → TwoSay (out .count) (trafficOf (held .underway)) (out .first) (out .second) (held .log)
+      result written
       → Holds settings given earlier (deliveryOf settings network arrival)
-      (state result (held .siteMemory) (held .coordinatorMemory) written)
+      (state (withTraffic (held .underway) result) (held .siteMemory) (held .coordinatorMemory)
+      written)
   begun-holds said =
-      subst₂ (λ (r : Underway) (l : List ℕ).
+      subst₂ (λ (r : Traffic) (l : List ℕ).
       Holds settings given earlier (deliveryOf settings network arrival)
-      (state r (held .siteMemory) (held .coordinatorMemory) l))
+      (state (withTraffic (held .underway) r) (held .siteMemory) (held .coordinatorMemory) l))
       (sym (said .go-out)) (sym (said .logged))
       (holds-two messages (out .count) (out .first) (out .second) (taken .holds) few count-is
       (ap (λ (q : Queue). q .first) (taken .out-is))

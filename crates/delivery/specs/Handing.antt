@@ -1,67 +1,104 @@
 -- A hand-over in a delivery: the head of the messages that wait goes to whom it is for, or, where
 -- none waits, the next kind 7 is asked for.
 --
+--   siteOfHead waiting        the site that the head is for; 0 if it is for none
 --   coordinatorChange ..      what the coordinator's answer changes
---   changed underway by       what is under way with these changes
+--   withQueue traffic ..      with other messages waiting
+--   changed underway by       what is under way with a hand-over's changes
+--   Handed                    they are a step of the delivery
 --   HandAsks, HandSays        what a hand-over requires, and what it comes to
 use mathlib.Core.Path.{_≡_}
 use mathlib.Core.Bool.{true}
 use mathlib.Core.List.{List}
-use Prim.Native.Nat.{ℕ, _<_}
-use lib.ListN.{getD}
+use Prim.Native.Nat.{ℕ}
+use lib.ListN.{getD, set}
 use Rattle.model.specs.declared.Settings.{Settings}
-use Rattle.model.specs.declared.Sites.{Sites}
+use Rattle.model.specs.declared.SiteRecord.{SiteRecord}
+use Rattle.model.specs.declared.CoordinatorRecord.{CoordinatorRecord}
+use Rattle.model.specs.Choice.{if_then_else_, isZero}
+use Rattle.model.specs.Messages.{toCoordinator}
 use Rattle.model.specs.DeliveryClaims.{deliveryStep}
 use Rattle.coordinator_steps.specs.declared.Answered.{Answered}
-use Rattle.network_memory.specs.Records.{noRecord, withRecord}
+use Rattle.network_memory.specs.Records.{noRecord}
 use Rattle.delivery.specs.declared.Queue.{Queue}
+use Rattle.delivery.specs.declared.Traffic.{Traffic}
 use Rattle.delivery.specs.declared.Underway.{Underway}
 use Rattle.delivery.specs.declared.Change.{Change}
-use Rattle.delivery.specs.Sending.{sentIf, loggedIf, SendAsks}
-use Rattle.delivery.specs.Holding.{state, Holds, Delivering, goesOn}
+use Rattle.delivery.specs.Sending.{trafficOf, underwayOf, SendAsks}
+use Rattle.delivery.specs.Holding.{state, answered, Holds, Delivering, goesOn}
+
+abbrev pub siteOfHead : Queue → ℕ
+siteOfHead waiting =
+    if isZero (waiting .count) then 0
+    else if toCoordinator (waiting .first) then 0
+    else waiting .first .site
 
 -- No site's record changes: that of site 0 is put back as it is.
-abbrev pub coordinatorChange : Sites → Queue → Answered → Change
-coordinatorChange sites waiting answer = record {
-  which = 0;
-  site = getD (sites .records) 0 noRecord;
+abbrev pub coordinatorChange : SiteRecord → Queue → Answered → Change
+coordinatorChange own waiting answer = record {
+  site = own;
   coordinator = answer .coordinator;
   waiting = waiting;
   count = answer .count;
   out = answer .out;
 }
 
-abbrev pub changed : Underway → Change → Underway
-changed underway by = record {
-  sites = withRecord (underway .sites) (by .which) (by .site);
-  coordinator = by .coordinator;
-  written = underway .written;
-  waiting = by .waiting;
+abbrev pub withQueue : Traffic → Queue → Traffic
+withQueue traffic waiting = record {
+  messages = traffic .messages;
+  written = traffic .written;
+  waiting = waiting;
 }
 
--- Some delivery goes on. The log is not looked at while a message is handed over.
-pub record HandAsks
-    (settings : Settings)
-    (underway : Underway)
-    (siteMemory coordinatorMemory : List ℕ) : Type 0 where
-  pub log : List ℕ
-  pub delivering : Delivering settings (state underway siteMemory coordinatorMemory log)
-  pub goes-on : goesOn underway ≡ true
+abbrev pub changed : Underway → Change → Underway
+changed underway by =
+    underwayOf
+    (set (underway .sites .records) (siteOfHead (underway .waiting)) (by .site))
+    (by .coordinator)
+    (withQueue (trafficOf underway) (by .waiting))
 
--- With the answer going out, if there is one, the change is a step of the delivery, whatever
--- delivery and log it was.
-pub record HandSays
+-- With the answer going out, if there is one, the change is a step of the delivery.
+pub record Handed
     (settings : Settings)
     (underway : Underway)
     (siteMemory coordinatorBefore coordinatorAfter : List ℕ)
     (by : Change) : Type 0 where
-  pub place-known : by .which < 32
   pub sends : (log : List ℕ)
       → Delivering settings (state underway siteMemory coordinatorBefore log)
       → (by .count ≡ 0 → ⊥)
-      → SendAsks (changed underway by) log
+      → SendAsks (trafficOf (changed underway by)) log
   pub next : (log : List ℕ)
       (u : Delivering settings (state underway siteMemory coordinatorBefore log))
       → Holds settings (u .given) (u .earlier) (deliveryStep settings (u .now))
-      (state (sentIf (by .count) (changed underway by) (by .out)) siteMemory coordinatorAfter
-      (loggedIf (by .count) log (underway .written) (by .out)))
+      (answered (by .count) (by .out)
+      (state (changed underway by) siteMemory coordinatorAfter log))
+
+-- Some delivery goes on. The log is not looked at while a message is handed over, nor are the
+-- records of other sites than the one that the head is for.
+pub record HandAsks
+    (settings : Settings)
+    (own : SiteRecord)
+    (coordinator : CoordinatorRecord)
+    (waiting : Queue)
+    (siteMemory coordinatorMemory : List ℕ) : Type 0 where
+  pub records : List SiteRecord
+  pub traffic : Traffic
+  pub log : List ℕ
+  pub own-is : own ≡ getD records (siteOfHead waiting) noRecord
+  pub delivering : Delivering settings
+      (state (underwayOf records coordinator (withQueue traffic waiting)) siteMemory
+      coordinatorMemory log)
+  pub goes-on : goesOn coordinator waiting ≡ true
+
+-- The step of the delivery, whatever delivery it was.
+pub record HandSays
+    (settings : Settings)
+    (own : SiteRecord)
+    (coordinator : CoordinatorRecord)
+    (waiting : Queue)
+    (siteMemory coordinatorBefore coordinatorAfter : List ℕ)
+    (by : Change) : Type 0 where
+  pub handed : (records : List SiteRecord) (traffic : Traffic)
+      → own ≡ getD records (siteOfHead waiting) noRecord
+      → Handed settings (underwayOf records coordinator (withQueue traffic waiting)) siteMemory
+      coordinatorBefore coordinatorAfter by

@@ -3,6 +3,7 @@
 --
 --   Given                  records, count, lent memory and log before the first arrival
 --   State                  a delivery under way with lent memory and log as they are
+--   answered               the state when the answer of a step has gone out
 --   Holds                  the state is the model's delivery, written over what was given
 --   Fits                   what was given has room for the settings' network
 --   Going                  a delivery that was reached from an accepted arrival at a sound network
@@ -10,7 +11,7 @@
 --   StepSays               what a step of it comes to
 --   EndSays                all of it
 use mathlib.Core.Path.{_≡_}
-use mathlib.Core.Bool.{Bool, true, not, _||_}
+use mathlib.Core.Bool.{Bool, not, _||_}
 use mathlib.Core.List.{List, [], _++_}
 use Prim.Native.Nat.{ℕ, _+_, _≤_}
 use lib.ListN.{length}
@@ -18,6 +19,7 @@ use Rattle.model.specs.declared.Settings.{Settings}
 use Rattle.model.specs.declared.Arrival.{Arrival}
 use Rattle.model.specs.declared.Message.{Message}
 use Rattle.model.specs.declared.SiteRecord.{SiteRecord}
+use Rattle.model.specs.declared.CoordinatorRecord.{CoordinatorRecord}
 use Rattle.model.specs.Choice.{isZero}
 use Rattle.model.specs.Refusals.{accepted}
 use Rattle.model.specs.Limits.{mostMessages, messageLimit}
@@ -31,9 +33,10 @@ use Rattle.model.specs.Runs.{refusalIn}
 use Rattle.model.specs.SoundNetwork.{Sound}
 use Rattle.model.specs.DeliveryClaims.{Delivery, delivery, deliveryStep, deliveryOf}
 use Rattle.model.specs.SoundClaims.{Reached}
+use Rattle.delivery.specs.declared.Queue.{Queue}
 use Rattle.delivery.specs.declared.Underway.{Underway}
 use Rattle.delivery.specs.Log.{logRoom, messageNumbers}
-use Rattle.delivery.specs.Sending.{queueOf}
+use Rattle.delivery.specs.Sending.{queueOf, trafficOf, withTraffic, sentIf, loggedIf}
 use Rattle.delivery.specs.Bounded.{Bounded}
 
 -- ---- What is held
@@ -57,6 +60,15 @@ state underway siteMemory coordinatorMemory log = record {
   siteMemory = siteMemory;
   coordinatorMemory = coordinatorMemory;
   log = log;
+}
+
+-- The answer of a step has gone out, if there is one.
+abbrev pub answered : ℕ → Message → State → State
+answered count m held = record {
+  underway = withTraffic (held .underway) (sentIf count (trafficOf (held .underway)) m);
+  siteMemory = held .siteMemory;
+  coordinatorMemory = held .coordinatorMemory;
+  log = loggedIf count (held .log) (held .underway .written) m;
 }
 
 -- The messages since the call began: those of earlier arrivals, then the delivery's own.
@@ -125,9 +137,8 @@ pub record Delivering (settings : Settings) (held : State) : Type 0 where
 -- ---- What it promises
 
 -- A message waits, or the next kind 7 is to be asked for.
-abbrev pub goesOn : Underway → Bool
-goesOn underway =
-    not (isZero (underway .waiting .count)) || isAnnouncing (underway .coordinator .phase)
+abbrev pub goesOn : CoordinatorRecord → Queue → Bool
+goesOn coordinator waiting = not (isZero (waiting .count)) || isAnnouncing (coordinator .phase)
 
 -- What a step of a delivery comes to, whatever delivery the state holds.
 pub record StepSays (settings : Settings) (before after : State) : Type 0 where

@@ -2,6 +2,8 @@
 --
 --   queueOf messages              the messages that wait, as code carries them: two at most
 --   resting ..                    a network at rest: nothing waits
+--   trafficOf underway            the messages of what is under way
+--   underwayOf, withTraffic       what is under way, put together from its parts
 --   joined, withoutHead           a message waits last; the head is taken
 --   sent, sentIf, sentTwo         a message goes out; only if there is one; none, one or two
 --   loggedIf, loggedTwo           what is written to the log then
@@ -13,12 +15,14 @@ use Prim.Native.Nat.{ℕ, _+_, _*_, _≤_}
 use lib.Dec.{eqb}
 use lib.ListN.{length, getD}
 use Rattle.model.specs.declared.Message.{Message}
+use Rattle.model.specs.declared.SiteRecord.{SiteRecord}
 use Rattle.model.specs.declared.Sites.{Sites}
 use Rattle.model.specs.declared.CoordinatorRecord.{CoordinatorRecord}
 use Rattle.model.specs.Choice.{if_then_else_, isZero}
 use Rattle.model.specs.Limits.{messageLimit}
 use Rattle.model.specs.Messages.{noMessage}
 use Rattle.delivery.specs.declared.Queue.{Queue}
+use Rattle.delivery.specs.declared.Traffic.{Traffic}
 use Rattle.delivery.specs.declared.Underway.{Underway}
 use Rattle.delivery.specs.Log.{putRecord}
 
@@ -53,30 +57,46 @@ joined queue m =
 abbrev pub withoutHead : Queue → Queue
 withoutHead queue = if eqb (queue .count) 2 then oneWaits (queue .second) else nothingWaits
 
+-- ---- What is under way, in parts
+
+abbrev pub trafficOf : Underway → Traffic
+trafficOf underway = record {
+  messages = underway .sites .messages;
+  written = underway .written;
+  waiting = underway .waiting;
+}
+
+abbrev pub underwayOf : List SiteRecord → CoordinatorRecord → Traffic → Underway
+underwayOf records coordinator traffic = record {
+  sites = record { records = records; messages = traffic .messages };
+  coordinator = coordinator;
+  written = traffic .written;
+  waiting = traffic .waiting;
+}
+
+abbrev pub withTraffic : Underway → Traffic → Underway
+withTraffic underway = underwayOf (underway .sites .records) (underway .coordinator)
+
 -- ---- A message goes out
 
-abbrev pub oneCounted : Sites → Sites
-oneCounted sites = record { records = sites .records; messages = sites .messages + 1 }
-
-abbrev pub sent : Underway → Message → Underway
-sent underway m = record {
-  sites = oneCounted (underway .sites);
-  coordinator = underway .coordinator;
-  written = underway .written + 1;
-  waiting = joined (underway .waiting) m;
+abbrev pub sent : Traffic → Message → Traffic
+sent traffic m = record {
+  messages = traffic .messages + 1;
+  written = traffic .written + 1;
+  waiting = joined (traffic .waiting) m;
 }
 
 -- A step answers with one message, or with none.
-abbrev pub sentIf : ℕ → Underway → Message → Underway
-sentIf count underway m = if isZero count then underway else sent underway m
+abbrev pub sentIf : ℕ → Traffic → Message → Traffic
+sentIf count traffic m = if isZero count then traffic else sent traffic m
 
 abbrev pub loggedIf : ℕ → List ℕ → ℕ → Message → List ℕ
 loggedIf count log place m = if isZero count then log else putRecord log place m
 
 -- An arrival sends none, one or two.
-abbrev pub sentTwo : ℕ → Underway → Message → Message → Underway
-sentTwo count underway first second =
-    if eqb count 2 then sent (sentIf count underway first) second else sentIf count underway first
+abbrev pub sentTwo : ℕ → Traffic → Message → Message → Traffic
+sentTwo count traffic first second =
+    if eqb count 2 then sent (sentIf count traffic first) second else sentIf count traffic first
 
 abbrev pub loggedTwo : ℕ → List ℕ → ℕ → Message → Message → List ℕ
 loggedTwo count log place first second =
@@ -84,41 +104,41 @@ loggedTwo count log place first second =
     then putRecord (loggedIf count log place first) (place + 1) second
     else loggedIf count log place first
 
-pub record SendAsks (underway : Underway) (log : List ℕ) : Type 0 where
-  pub room : 4 * underway .written + 4 ≤ length log
-  pub count-within : underway .sites .messages ≤ messageLimit + underway .written
+pub record SendAsks (traffic : Traffic) (log : List ℕ) : Type 0 where
+  pub room : 4 * traffic .written + 4 ≤ length log
+  pub count-within : traffic .messages ≤ messageLimit + traffic .written
 
-pub record SendTwoAsks (count : ℕ) (underway : Underway) (log : List ℕ) : Type 0 where
-  pub room : 4 * underway .written + 4 * count ≤ length log
-  pub count-within : underway .sites .messages ≤ messageLimit + underway .written
+pub record SendTwoAsks (count : ℕ) (traffic : Traffic) (log : List ℕ) : Type 0 where
+  pub room : 4 * traffic .written + 4 * count ≤ length log
+  pub count-within : traffic .messages ≤ messageLimit + traffic .written
 
 -- ---- What sending promises
 
 pub record SendSays
-    (before : Underway)
+    (before : Traffic)
     (m : Message)
     (logBefore : List ℕ)
-    (after : Underway)
+    (after : Traffic)
     (logAfter : List ℕ) : Type 0 where
   pub goes-out : after ≡ sent before m
   pub logged : logAfter ≡ putRecord logBefore (before .written) m
 
 pub record AnswerSays
     (count : ℕ)
-    (before : Underway)
+    (before : Traffic)
     (m : Message)
     (logBefore : List ℕ)
-    (after : Underway)
+    (after : Traffic)
     (logAfter : List ℕ) : Type 0 where
   pub goes-out : after ≡ sentIf count before m
   pub logged : logAfter ≡ loggedIf count logBefore (before .written) m
 
 pub record TwoSay
     (count : ℕ)
-    (before : Underway)
+    (before : Traffic)
     (first second : Message)
     (logBefore : List ℕ)
-    (after : Underway)
+    (after : Traffic)
     (logAfter : List ℕ) : Type 0 where
   pub go-out : after ≡ sentTwo count before first second
   pub logged : logAfter ≡ loggedTwo count logBefore (before .written) first second

@@ -5,25 +5,29 @@
 // and of the coordinator; the delivery only carries messages.
 
 ghost use mathlib.Core.Path.{_≡_};
-ghost use Prim.Native.Nat.{_+_, _*_, _<_, _≤_};
-ghost use lib.ListN.{length, getD, set};
+ghost use Prim.Native.Nat.{_<_};
+ghost use lib.ListN.{getD};
 ghost use Rattle.model.specs.Messages.{toCoordinator};
 ghost use Rattle.network_memory.specs.Records.{noRecord, withRecord};
-ghost use Rattle.delivery.specs.Log.{putRecord};
-ghost use Rattle.delivery.specs.Sending.{nothingWaits, resting, joined, withoutHead, SendAsks, SendSays, AnswerSays, SendTwoAsks, TwoSay};
-ghost use Rattle.delivery.specs.Holding.{state, goesOn, Delivering, EndSays};
-ghost use Rattle.delivery.specs.Handing.{coordinatorChange, changed, HandAsks, HandSays};
+ghost use Rattle.delivery.specs.Sending.{nothingWaits, resting, underwayOf, joined, withoutHead};
+ghost use Rattle.delivery.specs.Holding.{state, Delivering, EndSays};
 ghost use Rattle.delivery.specs.Arriving.{SiteAsks, SiteSays, MessagesAsk, MessagesSay};
-use coordinator_steps::Answered;
+use crate::handing::goes_on;
+use crate::handing::hand_over;
+use crate::handing::site_of_head;
+use crate::sending::send_answer;
+use crate::sending::send_two;
 use counters::Word;
 use model::Arrival;
 use model::CoordinatorRecord;
 use model::Message;
-use model::Phase;
 use model::Settings;
 use model::SiteRecord;
 use model::Sites;
 use site_steps::Observed;
+
+mod handing;
+mod sending;
 
 // The messages that wait to be handed over, or are to go out: two at most, since an arrival sends
 // two at most, and every hand-over is answered by one at most. An absent one is all zeros.
@@ -40,6 +44,25 @@ pub struct Underway {
     pub coordinator: CoordinatorRecord,
     pub written: u64,
     pub waiting: Queue,
+}
+
+// The messages of a delivery under way: how many the network has counted, how many stand in the
+// log, and those that wait.
+pub struct Traffic {
+    pub messages: u64,
+    pub written: u64,
+    pub waiting: Queue,
+}
+
+// What a hand-over changes: the record of the site that the head is for, the coordinator's and the
+// messages that wait; and the answer, if `count` is 1. Where the head is for no site, no site's
+// record changes, and that of site 0 stands here as it is.
+pub struct Change {
+    pub site: SiteRecord,
+    pub coordinator: CoordinatorRecord,
+    pub waiting: Queue,
+    pub count: u32,
+    pub out: Message,
 }
 
 // A message waits last.
@@ -74,18 +97,6 @@ pub fn take_head(queue: Queue) -> Queue
         };
     }
     empty_queue()
-}
-
-// A record of the log.
-fn write_record(log: &mut [u64], place: u64, message: Message)
-    requires { ⌜ 4 * place + 4 ≤ length (now log) ⌝ }
-    ensures { λ r. ⌜ now (log .exit) ≡ putRecord (now (log .entry)) place message ⌝ }
-{
-    let at = 4 * (place as usize);
-    log[at] = message.kind as u64;
-    log[at + 1] = message.site as u64;
-    log[at + 2] = message.a;
-    log[at + 3] = message.b;
 }
 
 // The record of one site. Internal: the batch call looks at a site that `site::address_refusal`
@@ -132,51 +143,6 @@ pub fn at_rest(sites: Sites, coordinator: CoordinatorRecord, written: u64) -> Un
     }
 }
 
-// A message goes out: it is written to the log, counted, and waits last.
-fn send(underway: Underway, message: Message, log: &mut [u64]) -> Underway
-    requires { ⌜ SendAsks underway (now log) ⌝ }
-    ensures { λ r. ⌜ SendSays underway message (now (log .entry)) r (now (log .exit)) ⌝ }
-{
-    write_record(log, underway.written, message);
-    let mut sites = underway.sites;
-    sites.messages = sites.messages + 1;
-    let waiting = underway.waiting;
-    let mut next = underway;
-    next.sites = sites;
-    next.written = underway.written + 1;
-    next.waiting = join(waiting, message);
-    next
-}
-
-// The answer of a step goes out, if it has one.
-fn send_answer(underway: Underway, count: u32, message: Message, log: &mut [u64]) -> Underway
-    requires { ⌜ ((count ≡ 0 → ⊥) → SendAsks underway (now log)) ⌝ }
-    ensures { λ r. ⌜ AnswerSays count underway message (now (log .entry)) r (now (log .exit)) ⌝ }
-{
-    if count == 0 {
-        return underway;
-    }
-    send(underway, message, log)
-}
-
-// The messages of an arrival go out, of which there are `count`.
-fn send_two(
-    underway: Underway,
-    count: u32,
-    first: Message,
-    second: Message,
-    log: &mut [u64],
-) -> Underway
-    requires { ⌜ SendTwoAsks count underway (now log) ⌝ }
-    ensures { λ r. ⌜ TwoSay count underway first second (now (log .entry)) r (now (log .exit)) ⌝ }
-{
-    let next = send_answer(underway, count, first, log);
-    if count == 2 {
-        return send(next, second, log);
-    }
-    next
-}
-
 // Whether a message is for the coordinator: the kinds 1, 2, 4 and 6.
 pub fn to_coordinator(message: Message) -> bool
     ensures { λ r. ⌜ r ≡ toCoordinator message ⌝ }
@@ -193,143 +159,56 @@ pub fn to_coordinator(message: Message) -> bool
     message.kind == 6
 }
 
-// Whether a message waits, or the coordinator announces.
-fn goes_on(underway: Underway) -> bool
-    ensures { λ r. ⌜ r ≡ goesOn underway ⌝ }
-{
-    let waiting = underway.waiting;
-    if waiting.count != 0 {
-        return true;
-    }
-    let coordinator = underway.coordinator;
-    let phase = coordinator.phase;
-    match phase {
-        Phase::Idle => false,
-        Phase::Collecting(_) => false,
-        Phase::Probing(_, _, _, _) => false,
-        Phase::Announcing(_) => true,
-    }
-}
-
-// What a hand-over changes: the record of one site, the coordinator's and the messages that wait;
-// and the answer, if `count` is 1. Where the coordinator is handed a message no site's record
-// changes, and that of site 0 stands here as it is.
-pub struct Change {
-    pub which: usize,
-    pub site: SiteRecord,
-    pub coordinator: CoordinatorRecord,
-    pub waiting: Queue,
-    pub count: u32,
-    pub out: Message,
-}
-
-// The coordinator's answer, with so many messages waiting still.
-fn coordinator_change(sites: Sites, waiting: Queue, answer: Answered) -> Change
-    ensures { λ r. ⌜ r ≡ coordinatorChange sites waiting answer ⌝ }
-{
-    let site = record_of(sites, 0);
-    let coordinator = answer.coordinator;
-    let out = answer.out;
-    Change {
-        which: 0,
-        site: site,
-        coordinator: coordinator,
-        waiting: waiting,
-        count: answer.count,
-        out: out,
-    }
-}
-
-// One step of a delivery: the head of the messages that wait is handed over, or, where none waits,
-// the next announcement is asked for. What is under way is only read, and only what changes is
-// handed back: the records of 32 sites are not copied for a message.
-fn hand_over(
-    settings: Settings,
-    underway: Underway,
-    site_memory: &[Word],
-    coordinator_memory: &mut [u64],
-) -> Change
-    requires { ⌜ HandAsks settings underway (now «site_memory») (now «coordinator_memory») ⌝ }
-    ensures { λ r. ⌜ HandSays settings underway (now («site_memory» .entry))
-        (now («coordinator_memory» .entry)) (now («coordinator_memory» .exit)) r ⌝ }
-{
-    let sites = underway.sites;
-    let coordinator = underway.coordinator;
-    let waiting = underway.waiting;
-    if waiting.count == 0 {
-        let answer = coordinator_steps::announce_step(settings, coordinator);
-        return coordinator_change(sites, waiting, answer);
-    }
-    let message = waiting.first;
-    let rest = take_head(waiting);
-    if to_coordinator(message) {
-        let answer = coordinator_steps::receive_step(
-            settings,
-            coordinator,
-            message,
-            coordinator_memory,
-        );
-        return coordinator_change(sites, rest, answer);
-    }
-    let which = message.site as usize;
-    let start = which * site_memory::site_words(settings);
-    let part = &site_memory[start..];
-    let numbers = record_of(sites, which);
-    let answer = site_steps::receive_step(settings, numbers, message, part);
-    let after = answer.site;
-    let out = answer.reply;
-    Change {
-        which: which,
-        site: after,
-        coordinator: coordinator,
-        waiting: rest,
-        count: answer.count,
-        out: out,
-    }
-}
-
-// What is under way with a hand-over's changes.
-fn settle(underway: Underway, by: Change) -> Underway
-    requires { ⌜ by .which < 32 ⌝ }
-    ensures { λ r. ⌜ r ≡ changed underway by ⌝ }
-{
-    let sites = underway.sites;
-    let site = by.site;
-    let coordinator = by.coordinator;
-    let waiting = by.waiting;
-    let mut next = underway;
-    next.sites = with_record(sites, by.which, site);
-    next.coordinator = coordinator;
-    next.waiting = waiting;
-    next
-}
-
-// A delivery to its end.
+// A delivery to its end. The records of the sites are changed in their places here, and handed to
+// no function: 32 of them would be copied for each message.
 fn deliver(
     settings: Settings,
-    first: Underway,
+    mut records: [SiteRecord; 32],
+    mut coordinator: CoordinatorRecord,
+    mut traffic: Traffic,
     site_memory: &[Word],
     coordinator_memory: &mut [u64],
     log: &mut [u64],
 ) -> Underway
     requires { ⌜ Delivering settings
-        (state first (now «site_memory») (now «coordinator_memory») (now log)) ⌝ }
+        (state (underwayOf records coordinator traffic)
+        (now «site_memory») (now «coordinator_memory») (now log)) ⌝ }
     ensures { λ r. ⌜ EndSays settings
-        (state first (now («site_memory» .entry))
+        (state (underwayOf records coordinator traffic) (now («site_memory» .entry))
         (now («coordinator_memory» .entry)) (now (log .entry)))
         (state r (now («site_memory» .entry))
         (now («coordinator_memory» .exit)) (now (log .exit))) ⌝ }
 {
-    let mut underway = first;
-    while goes_on(underway) {
-        let by = hand_over(settings, underway, site_memory, coordinator_memory);
-        underway = settle(underway, by);
-        if by.count != 0 {
-            let out = by.out;
-            underway = send(underway, out, log);
-        }
+    while goes_on(coordinator, traffic.waiting) {
+        let which = site_of_head(traffic.waiting);
+        let own = records[which];
+        let by = hand_over(
+            settings,
+            own,
+            coordinator,
+            traffic.waiting,
+            site_memory,
+            coordinator_memory,
+        );
+        let site_then = by.site;
+        let coordinator_then = by.coordinator;
+        let waiting_then = by.waiting;
+        records[which] = site_then;
+        coordinator = coordinator_then;
+        traffic.waiting = waiting_then;
+        traffic = send_answer(traffic, by.count, by.out, log);
     }
-    underway
+    let sites = Sites {
+        records: records,
+        messages: traffic.messages,
+    };
+    let waiting = traffic.waiting;
+    Underway {
+        sites: sites,
+        coordinator: coordinator,
+        written: traffic.written,
+        waiting: waiting,
+    }
 }
 
 // An arrival at its site, which stands there with the record `own` and a part of the memory: the
@@ -369,8 +248,21 @@ pub fn deliver_messages(
         (state r (now («site_memory» .entry))
         (now («coordinator_memory» .exit)) (now (log .exit))) ⌝ }
 {
-    let first = out.first;
-    let second = out.second;
-    let begun = send_two(underway, out.count, first, second, log);
-    deliver(settings, begun, site_memory, coordinator_memory, log)
+    let waiting = underway.waiting;
+    let traffic = Traffic {
+        messages: underway.sites.messages,
+        written: underway.written,
+        waiting: waiting,
+    };
+    let begun = send_two(traffic, out.count, out.first, out.second, log);
+    let records = underway.sites.records;
+    deliver(
+        settings,
+        records,
+        underway.coordinator,
+        begun,
+        site_memory,
+        coordinator_memory,
+        log,
+    )
 }

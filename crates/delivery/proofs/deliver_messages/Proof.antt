@@ -6,12 +6,12 @@ use Rattle.delivery.proofs.deliver_messages.Statement.{statement}
 use Rattle.delivery.proofs.deliver_messages.Tie as tie
 
 send-two-requires : tie.Need-send-two-requires
-send-two-requires c κs = two-ask (c .before .before .before .before .before .before .pre .taken)
+send-two-requires c κs = two-ask (c .before .before .before .before .before .pre .taken)
 
 deliver-requires : tie.Need-deliver-requires
 deliver-requires c κs =
-    let sent = c .before .before .before .before in
-    let u = sent .before .before .before .before .before .before .before .pre in
+    let sent = c .before .before .before .before .before in
+    let u = sent .before .before .before .before .before .before .pre in
     delivering-begun u (begun-holds (u .taken) (sent .send-two .ensures))
 
 same-length : tie.Need-same-length
@@ -23,7 +23,7 @@ same-length-2 c = search needs
 returns : tie.Need-returns
 returns c =
     let delivered = c .before .before .before .before in
-    let sent = delivered .before .before .before .before .before in
+    let sent = delivered .before .before .before .before .before .before in
     record {
       delivers = λ u.
           delivered .deliver .ensures .ends

@@ -1,22 +1,22 @@
--- `delivery::send_two` meets its contract: the first goes out if there is one, the second if there
--- are two.
+-- `delivery::sending::send_two` meets its contract: the first goes out if there is one, the second
+-- if there are two.
 use borrow.Author.Tests.{ne-eqb}
 use Rattle.delivery.proofs.SendLaws.{some-asks, second-asks, two-said}
 use borrow.Author.Needs.{needs}
-use Rattle.delivery.proofs.send_two.Statement.{statement}
-use Rattle.delivery.proofs.send_two.Tie as tie
+use Rattle.delivery.proofs.sending.send_two.Statement.{statement}
+use Rattle.delivery.proofs.sending.send_two.Tie as tie
 
 send-answer-requires : tie.Need-send-answer-requires
 send-answer-requires c κs =
     let start = c .before .before in
-    some-asks (start .args .count) (start .args .underway) (start .args .log .now) (start .pre)
+    some-asks (start .args .count) (start .args .traffic) (start .args .log .now) (start .pre)
 
 send-requires : tie.Need-send-requires
 send-requires c κs =
     let called = c .before .before .before .before in
     let start = called .before .before .before in
     let a = start .args in
-    second-asks (a .count) (a .underway) (a .first) (a .second) (a .log .now)
+    second-asks (a .count) (a .traffic) (a .first) (a .second) (a .log .now)
     (c .before .if1 .taken)
     _ _ (called .send-answer .ensures) (start .pre)
 
@@ -28,7 +28,7 @@ returns c =
     let tested = c .before .before .before .before in
     let called = tested .before .before .before in
     let a = called .before .before .before .args in
-    two-said (a .count) (a .underway) (a .first) (a .second) (a .log .now) (tested .if1 .taken)
+    two-said (a .count) (a .traffic) (a .first) (a .second) (a .log .now) (tested .if1 .taken)
     _ _ (called .send-answer .ensures) (c .before .before .send .ensures)
 
 same-length-2 : tie.Need-same-length-2

@@ -1,9 +1,9 @@
--- `delivery::write_record` meets its contract: four numbers set.
+-- `delivery::sending::write_record` meets its contract: four numbers set.
 use native.Mathlib.Omega.{arith}
 use lib.ListN.{length-set}
 use borrow.Author.Needs.{needs}
-use Rattle.delivery.proofs.write_record.Statement.{statement}
-use Rattle.delivery.proofs.write_record.Tie as tie
+use Rattle.delivery.proofs.sending.write_record.Statement.{statement}
+use Rattle.delivery.proofs.sending.write_record.Tie as tie
 
 mul-at : tie.Need-mul-at
 mul-at c = search needs

@@ -1,8 +1,8 @@
--- `delivery::send_answer` meets its contract: by whether there is an answer.
+-- `delivery::sending::send_answer` meets its contract: by whether there is an answer.
 use borrow.Author.Tests.{eq-eqb, ne-eqb}
 use borrow.Author.Needs.{needs}
-use Rattle.delivery.proofs.send_answer.Statement.{statement}
-use Rattle.delivery.proofs.send_answer.Tie as tie
+use Rattle.delivery.proofs.sending.send_answer.Statement.{statement}
+use Rattle.delivery.proofs.sending.send_answer.Tie as tie
 
 returns : tie.Need-returns
 returns c =

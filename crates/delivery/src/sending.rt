@@ -1,0 +1,66 @@
+// Messages that go out: each is written to the log, counted, and waits last. The functions are
+// internal: the delivery alone calls them, and what they require follows from what it requires.
+ghost use mathlib.Core.Path.{_≡_};
+ghost use Prim.Native.Nat.{_+_, _*_, _≤_};
+ghost use lib.ListN.{length};
+ghost use Rattle.delivery.specs.Log.{putRecord};
+ghost use Rattle.delivery.specs.Sending.{SendAsks, SendSays, AnswerSays, SendTwoAsks, TwoSay};
+use crate::Traffic;
+use crate::join;
+use model::Message;
+
+// A record of the log.
+fn write_record(log: &mut [u64], place: u64, message: Message)
+    requires { ⌜ 4 * place + 4 ≤ length (now log) ⌝ }
+    ensures { λ r. ⌜ now (log .exit) ≡ putRecord (now (log .entry)) place message ⌝ }
+{
+    let at = 4 * (place as usize);
+    log[at] = message.kind as u64;
+    log[at + 1] = message.site as u64;
+    log[at + 2] = message.a;
+    log[at + 3] = message.b;
+}
+
+// A message goes out: it is written to the log, counted, and waits last. No other place writes a
+// record of the log, or counts one.
+fn send(traffic: Traffic, message: Message, log: &mut [u64]) -> Traffic
+    requires { ⌜ SendAsks traffic (now log) ⌝ }
+    ensures { λ r. ⌜ SendSays traffic message (now (log .entry)) r (now (log .exit)) ⌝ }
+{
+    write_record(log, traffic.written, message);
+    let waiting = join(traffic.waiting, message);
+    Traffic {
+        messages: traffic.messages + 1,
+        written: traffic.written + 1,
+        waiting: waiting,
+    }
+}
+
+// The answer of a step goes out, if it has one.
+pub fn send_answer(traffic: Traffic, count: u32, message: Message, log: &mut [u64]) -> Traffic
+    requires { ⌜ ((count ≡ 0 → ⊥) → SendAsks traffic (now log)) ⌝ }
+    ensures { λ r. ⌜ AnswerSays count traffic message (now (log .entry)) r (now (log .exit)) ⌝ }
+{
+    if count == 0 {
+        return traffic;
+    }
+    send(traffic, message, log)
+}
+
+// The messages of an arrival go out, of which there are `count`.
+pub fn send_two(
+    traffic: Traffic,
+    count: u32,
+    first: Message,
+    second: Message,
+    log: &mut [u64],
+) -> Traffic
+    requires { ⌜ SendTwoAsks count traffic (now log) ⌝ }
+    ensures { λ r. ⌜ TwoSay count traffic first second (now (log .entry)) r (now (log .exit)) ⌝ }
+{
+    let next = send_answer(traffic, count, first, log);
+    if count == 2 {
+        return send(next, second, log);
+    }
+    next
+}

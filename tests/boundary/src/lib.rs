@@ -1,4 +1,4 @@
-//! Safe functions over the calls that `libtesting.a` exports. Records are plain numbers: settings
+//! Safe functions over the calls that `libtesting.a` and `libtesting_batches.a` export. Records are plain numbers: settings
 //! six, a site's record four, all sites 129, the coordinator's record ten, a message four. Lent
 //! numbers may be more; the rest is not looked at. A call answers document 01's refusal, or
 //! [`UNFIT`] where what it is lent does not fit the boundary.

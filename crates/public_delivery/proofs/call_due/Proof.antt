@@ -1,7 +1,11 @@
 -- `public_delivery::call_due` meets its contract: by what was refused, what is left, what waits,
 -- then by phase.
+use mathlib.Core.Path.{_≡_}
+use mathlib.Core.Bool.{Bool}
 use borrow.Author.Tests.{eq-eqb, ne-eqb}
 use borrow.Author.Needs.{needs}
+use Rattle.model.specs.Coordinator.{isAnnouncing}
+use Rattle.public_delivery.specs.Progress.{isDue}
 use Rattle.public_delivery.proofs.call_due.Statement.{statement}
 use Rattle.public_delivery.proofs.call_due.Tie as tie
 
@@ -39,9 +43,12 @@ enum-told-3 c = search needs
 enum-told-4 : tie.Need-enum-told-4
 enum-told-4 c = search needs
 
-returns-4 : tie.Need-returns-4
-returns-4 c =
-    let none-waits = c .before .before .before in
+-- With nothing refused, calls left and nothing waiting, the phase decides.
+due-by-phase : (none-waits : tie.Else3) {r : Bool}
+    → let not-refused = none-waits .before .before .before .before .before in
+    let progress = not-refused .before .before .args .progress in
+    r ≡ isAnnouncing (progress .coordinator .phase) → r ≡ isDue progress
+due-by-phase none-waits announces =
     let some-left = none-waits .before .before .before in
     let not-refused = some-left .before .before in
     let progress = not-refused .before .before .args .progress in
@@ -49,47 +56,20 @@ returns-4 c =
       eq-eqb (progress .refusal) 0 (not-refused .if1 .left),
       ne-eqb (progress .left) 0 (some-left .if2 .left),
       eq-eqb (progress .waiting .count) 0 (none-waits .if3 .left),
-      c .enum-told .given .1,
     )
+    announces
+
+returns-4 : tie.Need-returns-4
+returns-4 c = due-by-phase (c .before .before .before) (rw (c .enum-told .given .1))
 
 returns-5 : tie.Need-returns-5
-returns-5 c =
-    let none-waits = c .before .before .before in
-    let some-left = none-waits .before .before .before in
-    let not-refused = some-left .before .before in
-    let progress = not-refused .before .before .args .progress in
-    rw (
-      eq-eqb (progress .refusal) 0 (not-refused .if1 .left),
-      ne-eqb (progress .left) 0 (some-left .if2 .left),
-      eq-eqb (progress .waiting .count) 0 (none-waits .if3 .left),
-      c .enum-told2 .given .1,
-    )
+returns-5 c = due-by-phase (c .before .before .before) (rw (c .enum-told2 .given .1))
 
 returns-6 : tie.Need-returns-6
-returns-6 c =
-    let none-waits = c .before .before .before in
-    let some-left = none-waits .before .before .before in
-    let not-refused = some-left .before .before in
-    let progress = not-refused .before .before .args .progress in
-    rw (
-      eq-eqb (progress .refusal) 0 (not-refused .if1 .left),
-      ne-eqb (progress .left) 0 (some-left .if2 .left),
-      eq-eqb (progress .waiting .count) 0 (none-waits .if3 .left),
-      c .enum-told3 .given .1,
-    )
+returns-6 c = due-by-phase (c .before .before .before) (rw (c .enum-told3 .given .1))
 
 returns-7 : tie.Need-returns-7
-returns-7 c =
-    let none-waits = c .before .before .before in
-    let some-left = none-waits .before .before .before in
-    let not-refused = some-left .before .before in
-    let progress = not-refused .before .before .args .progress in
-    rw (
-      eq-eqb (progress .refusal) 0 (not-refused .if1 .left),
-      ne-eqb (progress .left) 0 (some-left .if2 .left),
-      eq-eqb (progress .waiting .count) 0 (none-waits .if3 .left),
-      c .enum-told4 .given .1,
-    )
+returns-7 c = due-by-phase (c .before .before .before) (rw (c .enum-told4 .given .1))
 
 pub call-due-spec : {M : Type 1} → statement M
 call-due-spec =

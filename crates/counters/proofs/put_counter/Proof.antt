@@ -7,6 +7,9 @@ use borrow.Author.Needs.{needs}
 use Rattle.counters.proofs.put_counter.Statement.{statement}
 use Rattle.counters.proofs.put_counter.Tie as tie
 
+returns : tie.Need-returns
+returns c = search needs
+
 pub put-counter-spec : {M : Type 1} → statement M
 put-counter-spec =
     tie.close
@@ -16,4 +19,5 @@ put-counter-spec =
     (λ c. search needs) (λ c. search needs) (λ c. simp length-set (omega arith))
     (λ c. search needs) (λ c. search needs) (λ c. simp length-set (omega arith))
     (λ c. search needs) (λ c. search needs) (λ c. simp length-set (omega arith))
-    (λ c. search needs) (λ c. search needs))
+    (λ c. search needs)
+    returns)

@@ -7,6 +7,9 @@ use borrow.Author.Needs.{needs}
 use Rattle.delivery.proofs.write_record.Statement.{statement}
 use Rattle.delivery.proofs.write_record.Tie as tie
 
+returns : tie.Need-returns
+returns c = search needs
+
 pub write-record-spec : {M : Type 1} → statement M
 write-record-spec =
     tie.close
@@ -16,4 +19,5 @@ write-record-spec =
     (λ c. search needs) (λ c. search needs) (λ c. search needs) (λ c. simp length-set (omega arith))
     (λ c. search needs) (λ c. search needs) (λ c. simp length-set (omega arith))
     (λ c. search needs) (λ c. search needs) (λ c. simp length-set (omega arith))
-    (λ c. search needs) (λ c. search needs))
+    (λ c. search needs)
+    returns)

@@ -30,12 +30,6 @@ Inv-loop settings memory sites count words j₀ j =
 abbrev μ-loop : tie.MeasureT-loop
 μ-loop settings memory sites count words j₀ j = count - j
 
-cast-count : tie.Need-cast-count Inv-loop μ-loop
-cast-count c = search needs
-
-site-words-requires : tie.Need-site-words-requires Inv-loop μ-loop
-site-words-requires c κs = search needs
-
 loop-holds : tie.Need-loop-holds Inv-loop μ-loop
 loop-holds c =
     let a = c .before .before .before .args in
@@ -53,9 +47,6 @@ mul-start c =
     let j = at-loop .loop .j in
     let at-start = ap (λ (z : ℕ). j * z) (at-loop .before .site-words .ensures) in
     omega (arith, starts-small (start .pre) j (c .loop-test .taken), at-start)
-
-mul-numbers : tie.Need-mul-numbers Inv-loop μ-loop
-mul-numbers c = search needs
 
 element-copy-out-numbers : tie.Need-element-copy-out-numbers Inv-loop μ-loop
 element-copy-out-numbers c =
@@ -90,9 +81,6 @@ part-site-consistent-start c =
     let at-start = ap (λ (z : ℕ). j * z) (at-loop .before .site-words .ensures) in
     omega (arith, starts-within (start .pre) j (tested .loop-test .taken), at-start)
 
-part-site-consistent-end : tie.Need-part-site-consistent-end Inv-loop μ-loop
-part-site-consistent-end c = search needs
-
 site-consistent-requires : tie.Need-site-consistent-requires Inv-loop μ-loop
 site-consistent-requires c κs =
     let tested = c .before .before in
@@ -101,12 +89,6 @@ site-consistent-requires c κs =
     let start = at-loop .before .before .before .before in
     part-fits (start .pre) (at-loop .loop .j) (tested .loop-test .taken) (words .result)
     (words .ensures)
-
-add-j : tie.Need-add-j Inv-loop μ-loop
-add-j c = search needs
-
-loop-less : tie.Need-loop-less Inv-loop μ-loop
-loop-less c = search needs
 
 loop-again : tie.Need-loop-again Inv-loop μ-loop
 loop-again c =
@@ -157,19 +139,17 @@ sites-consistent-spec =
     (tie.spec
     Inv-loop
     μ-loop
-    cast-count
-    site-words-requires
+    (λ c. search needs) (λ c κs. search needs)
     loop-holds
     mul-start
-    mul-numbers
+    (λ c. search needs)
     element-copy-out-numbers
     mul-site-consistent
     sub-site-consistent
     part-site-consistent-start
-    part-site-consistent-end
+    (λ c. search needs)
     site-consistent-requires
-    add-j
-    loop-less
+    (λ c. search needs) (λ c. search needs)
     loop-again
     returns
     returns-2)

@@ -14,12 +14,6 @@ use borrow.Author.Needs.{needs}
 use Rattle.public_delivery.proofs.deliver_arrival.Statement.{statement}
 use Rattle.public_delivery.proofs.deliver_arrival.Tie as tie
 
-memory-refusal-requires : tie.Need-memory-refusal-requires
-memory-refusal-requires c κs = search needs
-
-same-length : tie.Need-same-length
-same-length c = search needs
-
 returns : tie.Need-returns
 returns c =
     let start = c .before .before .before .before .before in
@@ -38,9 +32,6 @@ returns c =
 begin-requires : tie.Need-begin-requires
 begin-requires c κs =
     fits-of-accepted (sym (c .before .before .memory-refusal .ensures) ∙ c .before .if1 .left)
-
-same-length-2 : tie.Need-same-length-2
-same-length-2 c = search needs
 
 returns-2 : tie.Need-returns-2
 returns-2 c =
@@ -78,15 +69,6 @@ deliver-requires c κs =
       not-refused = c .before .before .if2 .left;
     }
 
-is-complete-requires : tie.Need-is-complete-requires
-is-complete-requires c κs = search needs
-
-same-length-3 : tie.Need-same-length-3
-same-length-3 c = search needs
-
-same-length-4 : tie.Need-same-length-4
-same-length-4 c = search needs
-
 returns-3 : tie.Need-returns-3
 returns-3 c =
     let completed = c .before .before in
@@ -118,14 +100,11 @@ pub deliver-arrival-spec : {M : Type 1} → statement M
 deliver-arrival-spec =
     tie.close
     (tie.spec
-    memory-refusal-requires
-    same-length
+    (λ c κs. search needs) (λ c. search needs)
     returns
     begin-requires
-    same-length-2
+    (λ c. search needs)
     returns-2
     deliver-requires
-    is-complete-requires
-    same-length-3
-    same-length-4
+    (λ c κs. search needs) (λ c. search needs) (λ c. search needs)
     returns-3)

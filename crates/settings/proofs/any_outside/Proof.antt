@@ -6,17 +6,11 @@ use Rattle.laws.proofs.Tests.{false-of-not, true-of-not}
 use Rattle.settings.proofs.any_outside.Statement.{statement}
 use Rattle.settings.proofs.any_outside.Tie as tie
 
-outside-requires : tie.Need-outside-requires
-outside-requires c κs = search needs
-
 returns : tie.Need-returns
 returns c =
     let s = c .before .before .args .settings in
     rw
     (false-of-not (between 1 (s .sites) 32) (c .before .outside .ensures) (c .if1 .taken))
-
-outside-requires-2 : tie.Need-outside-requires-2
-outside-requires-2 c κs = search needs
 
 returns-2 : tie.Need-returns-2
 returns-2 c =
@@ -26,9 +20,6 @@ returns-2 c =
       true-of-not (between 1 (s .sites) 32) (first .before .outside .ensures) (first .if1 .left),
       false-of-not (between 2 (s .epsilon) 1000) (c .before .outside2 .ensures) (c .if2 .taken),
     )
-
-outside-requires-3 : tie.Need-outside-requires-3
-outside-requires-3 c κs = search needs
 
 returns-3 : tie.Need-returns-3
 returns-3 c =
@@ -41,9 +32,6 @@ returns-3 c =
           (second .before .outside2 .ensures) (second .if2 .left),
       false-of-not (between 1 (s .phi) 1000) (c .before .outside3 .ensures) (c .if3 .taken),
     )
-
-outside-requires-4 : tie.Need-outside-requires-4
-outside-requires-4 c κs = search needs
 
 returns-4 : tie.Need-returns-4
 returns-4 c =
@@ -58,9 +46,6 @@ returns-4 c =
       true-of-not (between 1 (s .phi) 1000) (third .before .outside3 .ensures) (third .if3 .left),
       false-of-not (between 1 (s .rank) 1000) (c .before .outside4 .ensures) (c .if4 .taken),
     )
-
-outside-requires-5 : tie.Need-outside-requires-5
-outside-requires-5 c κs = search needs
 
 returns-5 : tie.Need-returns-5
 returns-5 c =
@@ -78,9 +63,6 @@ returns-5 c =
           (fourth .before .outside4 .ensures) (fourth .if4 .left),
       false-of-not (between 1 (s .capacity) 3000) (c .before .outside5 .ensures) (c .if5 .taken),
     )
-
-outside-requires-6 : tie.Need-outside-requires-6
-outside-requires-6 c κs = search needs
 
 returns-6 : tie.Need-returns-6
 returns-6 c =
@@ -106,15 +88,15 @@ pub any-outside-spec : {M : Type 1} → statement M
 any-outside-spec =
     tie.close
     (tie.spec
-    outside-requires
+    (λ c κs. search needs)
     returns
-    outside-requires-2
+    (λ c κs. search needs)
     returns-2
-    outside-requires-3
+    (λ c κs. search needs)
     returns-3
-    outside-requires-4
+    (λ c κs. search needs)
     returns-4
-    outside-requires-5
+    (λ c κs. search needs)
     returns-5
-    outside-requires-6
+    (λ c κs. search needs)
     returns-6)

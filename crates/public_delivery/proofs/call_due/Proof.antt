@@ -31,18 +31,6 @@ returns-3 c =
       ne-eqb (progress .waiting .count) 0 (c .if3 .taken),
     )
 
-enum-told : tie.Need-enum-told
-enum-told c = search needs
-
-enum-told-2 : tie.Need-enum-told-2
-enum-told-2 c = search needs
-
-enum-told-3 : tie.Need-enum-told-3
-enum-told-3 c = search needs
-
-enum-told-4 : tie.Need-enum-told-4
-enum-told-4 c = search needs
-
 -- With nothing refused, calls left and nothing waiting, the phase decides.
 due-by-phase : (none-waits : tie.Else3) {r : Bool}
     → let not-refused = none-waits .before .before .before .before .before in
@@ -78,10 +66,7 @@ call-due-spec =
     returns
     returns-2
     returns-3
-    enum-told
-    enum-told-2
-    enum-told-3
-    enum-told-4
+    (λ c. search needs) (λ c. search needs) (λ c. search needs) (λ c. search needs)
     returns-4
     returns-5
     returns-6

@@ -1,10 +1,10 @@
 -- `public_delivery::hand_to_site` meets its contract: no site has the number, or by whether the
 -- site accepts.
 use mathlib.Core.Path.{ap, _∙_}
-use Prim.Native.Nat.{ℕ, _*_}
 use native.Mathlib.Omega.{arith}
+use denote.Ref.{now}
 use Rattle.delivery.specs.declared.Queue.{Queue}
-use Rattle.network_tests.proofs.PartLaws.{site-few, starts-small, starts-within}
+use Rattle.network_tests.proofs.PartLaws.{site-few, PartStarts, starts-at}
 use Rattle.public_delivery.specs.Progress.{joinedIf}
 use Rattle.public_delivery.proofs.SiteStepLaws.{site-unknown, site-stops, site-goes}
 use borrow.Author.Needs.{needs}
@@ -18,37 +18,27 @@ returns c =
     rw (c .stop .ensures)
     (site-unknown (start .pre .0) (start .pre .1) (c .before .if1 .taken) memory)
 
+-- The site's part starts within the memory, as the code counts its words.
+starts : (sized : tie.After-site-words)
+    → let start = sized .before .before .before .before .before .before .before .before .before in
+    PartStarts (now (start .args .site-memory)) (start .args .progress .waiting .first .site)
+    (sized .site-words .result)
+starts sized =
+    let known = sized .before .before in
+    let start = known .before .before .before .before .before .before .before in
+    starts-at (start .pre .0) _ (known .if1 .left) _ (sized .site-words .ensures)
+
 mul-start : tie.Need-mul-start
-mul-start c =
-    let start = c .before .before .before .before .before .before .before .before .before in
-    let known = c .before .before .if1 .left in
-    let j = start .args .progress .waiting .first .site in
-    let at-start = ap (λ (z : ℕ). j * z) (c .site-words .ensures) in
-    omega (arith, starts-small (start .pre .0) j known, at-start)
+mul-start c = omega (arith, starts c .small)
 
 mul-part : tie.Need-mul-part
-mul-part c =
-    let start = c .before .before .before .before .before .before .before .before .before in
-    let known = c .before .before .if1 .left in
-    let j = start .args .progress .waiting .first .site in
-    let at-start = ap (λ (z : ℕ). j * z) (c .site-words .ensures) in
-    omega (arith, starts-small (start .pre .0) j known, at-start)
+mul-part c = omega (arith, starts c .small)
 
 sub-part : tie.Need-sub-part
-sub-part c =
-    let start = c .before .before .before .before .before .before .before .before .before in
-    let known = c .before .before .if1 .left in
-    let j = start .args .progress .waiting .first .site in
-    let at-start = ap (λ (z : ℕ). j * z) (c .site-words .ensures) in
-    omega (arith, starts-within (start .pre .0) j known, at-start)
+sub-part c = omega (arith, starts c .within)
 
 part-part-start : tie.Need-part-part-start
-part-part-start c =
-    let start = c .before .before .before .before .before .before .before .before .before in
-    let known = c .before .before .if1 .left in
-    let j = start .args .progress .waiting .first .site in
-    let at-start = ap (λ (z : ℕ). j * z) (c .site-words .ensures) in
-    omega (arith, starts-within (start .pre .0) j known, at-start)
+part-part-start c = omega (arith, starts c .within)
 
 record-at-requires : tie.Need-record-at-requires
 record-at-requires c κs =

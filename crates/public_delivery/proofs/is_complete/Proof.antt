@@ -13,18 +13,6 @@ returns c =
     let progress = c .before .before .before .args .progress in
     rw (ne-eqb (progress .waiting .count) 0 (c .if1 .taken))
 
-enum-told : tie.Need-enum-told
-enum-told c = search needs
-
-enum-told-2 : tie.Need-enum-told-2
-enum-told-2 c = search needs
-
-enum-told-3 : tie.Need-enum-told-3
-enum-told-3 c = search needs
-
-enum-told-4 : tie.Need-enum-told-4
-enum-told-4 c = search needs
-
 -- With nothing waiting, the phase decides.
 complete-by-phase : (none-waits : tie.Else1) {r : Bool}
     → let progress = none-waits .before .before .before .args .progress in
@@ -50,10 +38,7 @@ is-complete-spec =
     tie.close
     (tie.spec
     returns
-    enum-told
-    enum-told-2
-    enum-told-3
-    enum-told-4
+    (λ c. search needs) (λ c. search needs) (λ c. search needs) (λ c. search needs)
     returns-2
     returns-3
     returns-4

@@ -1,11 +1,7 @@
 -- `public_delivery::call_due` meets its contract: by what was refused, what is left, what waits,
 -- then by phase.
-use mathlib.Core.Path.{_≡_}
-use mathlib.Core.Bool.{Bool}
 use borrow.Author.Tests.{eq-eqb, ne-eqb}
 use borrow.Author.Needs.{needs}
-use Rattle.model.specs.Coordinator.{isAnnouncing}
-use Rattle.public_delivery.specs.Progress.{isDue}
 use Rattle.public_delivery.proofs.call_due.Statement.{statement}
 use Rattle.public_delivery.proofs.call_due.Tie as tie
 
@@ -31,12 +27,9 @@ returns-3 c =
       ne-eqb (progress .waiting .count) 0 (c .if3 .taken),
     )
 
--- With nothing refused, calls left and nothing waiting, the phase decides.
-due-by-phase : (none-waits : tie.Else3) {r : Bool}
-    → let not-refused = none-waits .before .before .before .before .before in
-    let progress = not-refused .before .before .args .progress in
-    r ≡ isAnnouncing (progress .coordinator .phase) → r ≡ isDue progress
-due-by-phase none-waits announces =
+returns-4 : tie.Need-returns-4
+returns-4 c =
+    let none-waits = c .before .before in
     let some-left = none-waits .before .before .before in
     let not-refused = some-left .before .before in
     let progress = not-refused .before .before .args .progress in
@@ -45,29 +38,9 @@ due-by-phase none-waits announces =
       ne-eqb (progress .left) 0 (some-left .if2 .left),
       eq-eqb (progress .waiting .count) 0 (none-waits .if3 .left),
     )
-    announces
-
-returns-4 : tie.Need-returns-4
-returns-4 c = due-by-phase (c .before .before .before) (rw (c .enum-told .given .1))
-
-returns-5 : tie.Need-returns-5
-returns-5 c = due-by-phase (c .before .before .before) (rw (c .enum-told2 .given .1))
-
-returns-6 : tie.Need-returns-6
-returns-6 c = due-by-phase (c .before .before .before) (rw (c .enum-told3 .given .1))
-
-returns-7 : tie.Need-returns-7
-returns-7 c = due-by-phase (c .before .before .before) (rw (c .enum-told4 .given .1))
+    (c .is-announcing .ensures)
 
 pub call-due-spec : {M : Type 1} → statement M
 call-due-spec =
     tie.close
-    (tie.spec
-    returns
-    returns-2
-    returns-3
-    (λ c. search needs) (λ c. search needs) (λ c. search needs) (λ c. search needs)
-    returns-4
-    returns-5
-    returns-6
-    returns-7)
+    (tie.spec returns returns-2 returns-3 (λ c κs. search needs) returns-4)

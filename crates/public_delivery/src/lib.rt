@@ -5,19 +5,14 @@
 // histories are made by code.
 
 ghost use mathlib.Core.Path.{_≡_};
-ghost use mathlib.Core.Bool.{true, false};
-ghost use mathlib.Core.List.{List};
-ghost use Prim.Native.Nat.{ℕ, _+_, _<_};
-ghost use lib.ListN.{length, getD};
-ghost use Rattle.model.specs.Refusals.{accepted};
-ghost use Rattle.model.specs.Settings.{settingsRefusal};
-ghost use Rattle.model.specs.Network.{deliveryFuel};
 ghost use Rattle.model.specs.Coordinator.{isIdle, isAnnouncing};
 ghost use Rattle.network_tests.specs.Contracts.{SitesFit};
 ghost use Rattle.site.specs.Calls.{startRefusal};
-ghost use Rattle.public_delivery.specs.Progress.{joinedIf, refusedWith, QueueSays, isDue, isComplete, recordIn, heldBy};
+ghost use Rattle.public_delivery.specs.Progress.{QueueSays, isDue, isComplete, heldBy};
 ghost use Rattle.public_delivery.specs.Delivery.{siteAsked, mostCalls, BeginSays, DeliverySays};
-ghost use Rattle.public_delivery.specs.Steps.{AskAsks, HandAsks, DueAsks, StepSays, DeliverAsks, DeliverSays};
+ghost use Rattle.public_delivery.specs.Steps.{DeliverAsks, DeliverSays};
+use crate::calls::record_at;
+use crate::calls::take_step;
 use counters::Word;
 use delivery::Queue;
 use model::ACCEPTED;
@@ -27,9 +22,9 @@ use model::MEMORY_TOO_SHORT;
 use model::Message;
 use model::Phase;
 use model::Settings;
-use model::SiteRecord;
 use model::Sites;
-use model::UNKNOWN_SITE;
+
+mod calls;
 
 // A delivery in progress: the records, the messages that wait, the refusal of the last call, and
 // how many calls may still be made.
@@ -68,113 +63,6 @@ fn queue_of(count: u32, first: Message, second: Message) -> Queue
     }
 }
 
-// The message that an answer hands out waits last, if there is one.
-fn join_answer(queue: Queue, count: u32, message: Message) -> Queue
-    ensures { λ r. ⌜ r ≡ joinedIf count queue message ⌝ }
-{
-    if count == 0 {
-        return queue;
-    }
-    delivery::join(queue, message)
-}
-
-// A call was refused: all else is as it was.
-fn stop(progress: Progress, refusal: u32) -> Progress
-    ensures { λ r. ⌜ r ≡ refusedWith progress refusal ⌝ }
-{
-    let sites = progress.sites;
-    let coordinator = progress.coordinator;
-    let waiting = progress.waiting;
-    Progress {
-        sites: sites,
-        coordinator: coordinator,
-        waiting: waiting,
-        refusal: refusal,
-        left: progress.left,
-    }
-}
-
-// The record of one site.
-fn record_at(sites: Sites, which: usize) -> SiteRecord
-    requires { ⌜ which < 32 ⌝ }
-    ensures { λ r. ⌜ r ≡ recordIn sites which ⌝ }
-{
-    sites.records[which]
-}
-
-// The next kind 7 is asked for, and waits.
-fn ask(settings: Settings, progress: Progress, coordinator_memory: &[u64]) -> Progress
-    requires { ⌜ AskAsks progress ⌝ }
-    ensures { λ r. ⌜ ((siteMemory : List ℕ) → StepSays settings siteMemory
-        (now («coordinator_memory» .entry)) (now («coordinator_memory» .entry)) progress r) ⌝ }
-{
-    let coordinator = progress.coordinator;
-    let answer = coordinator::next_announcement(settings, coordinator, coordinator_memory);
-    if answer.refusal != ACCEPTED {
-        return stop(progress, answer.refusal);
-    }
-    let after = answer.coordinator;
-    let out = answer.out;
-    let waiting = progress.waiting;
-    let mut next = progress;
-    next.coordinator = after;
-    next.waiting = join_answer(waiting, answer.count, out);
-    next
-}
-
-// The message that waits first is handed to the coordinator; the answer waits last.
-fn hand_to_coordinator(
-    settings: Settings,
-    progress: Progress,
-    coordinator_memory: &mut [u64],
-) -> Progress
-    requires { ⌜ HandAsks true progress ⌝ }
-    ensures { λ r. ⌜ ((siteMemory : List ℕ) → StepSays settings siteMemory
-        (now («coordinator_memory» .entry)) (now («coordinator_memory» .exit)) progress r) ⌝ }
-{
-    let coordinator = progress.coordinator;
-    let waiting = progress.waiting;
-    let message = waiting.first;
-    let answer = coordinator::receive(settings, coordinator, message, coordinator_memory);
-    if answer.refusal != ACCEPTED {
-        return stop(progress, answer.refusal);
-    }
-    let after = answer.coordinator;
-    let out = answer.out;
-    let mut next = progress;
-    next.coordinator = after;
-    next.waiting = join_answer(delivery::take_head(waiting), answer.count, out);
-    next
-}
-
-// The message that waits first is handed to the site that it names; the reply waits last.
-fn hand_to_site(settings: Settings, progress: Progress, site_memory: &[Word]) -> Progress
-    requires { ⌜ SitesFit settings (now «site_memory») × HandAsks false progress ⌝ }
-    ensures { λ r. ⌜ ((coordinatorMemory : List ℕ) → StepSays settings
-        (now («site_memory» .entry)) coordinatorMemory coordinatorMemory progress r) ⌝ }
-{
-    let sites = progress.sites;
-    let waiting = progress.waiting;
-    let message = waiting.first;
-    if settings.sites <= message.site {
-        return stop(progress, UNKNOWN_SITE);
-    }
-    let which = message.site as usize;
-    let start = which * site_memory::site_words(settings);
-    let part = &site_memory[start..];
-    let numbers = record_at(sites, which);
-    let answer = site::receive(settings, numbers, message.site, message, part);
-    if answer.refusal != ACCEPTED {
-        return stop(progress, answer.refusal);
-    }
-    let after = answer.site;
-    let out = answer.reply;
-    let mut next = progress;
-    next.sites = delivery::with_record(sites, which, after);
-    next.waiting = join_answer(delivery::take_head(waiting), answer.count, out);
-    next
-}
-
 // Whether kind 7 is still to go out.
 fn is_announcing(phase: Phase) -> bool
     ensures { λ r. ⌜ r ≡ isAnnouncing phase ⌝ }
@@ -204,28 +92,6 @@ fn call_due(progress: Progress) -> bool
     let coordinator = progress.coordinator;
     let phase = coordinator.phase;
     is_announcing(phase)
-}
-
-// The call that is due.
-fn take_step(
-    settings: Settings,
-    progress: Progress,
-    site_memory: &[Word],
-    coordinator_memory: &mut [u64],
-) -> Progress
-    requires { ⌜ SitesFit settings (now «site_memory») × DueAsks progress ⌝ }
-    ensures { λ r. ⌜ StepSays settings (now («site_memory» .entry))
-        (now («coordinator_memory» .entry)) (now («coordinator_memory» .exit)) progress r ⌝ }
-{
-    let waiting = progress.waiting;
-    if waiting.count == 0 {
-        return ask(settings, progress, coordinator_memory);
-    }
-    let message = waiting.first;
-    if delivery::to_coordinator(message) {
-        return hand_to_coordinator(settings, progress, coordinator_memory);
-    }
-    hand_to_site(settings, progress, site_memory)
 }
 
 // Call by call, until none is due.

@@ -3,6 +3,7 @@
 --   PlacesLent, places-are             the settings and enough places
 --   SiteLent, site-is                  the same with a site's record
 --   CoordinatorLent, coordinator-is    the same with the coordinator's record
+--   NetworkLent, network-is            the same with all sites' records
 --   opens-made, opens-zeros            both openings
 --   places-room, site-room, ..         what is lent to an opening that fits
 --   exported-handed, exported-kept     both cases of a promise
@@ -19,7 +20,7 @@ use Rattle.testing.specs.Numbers.{coordinatorFits, greatestHeld, greates
 use Rattle.testing.specs.declared.openings.PlacesOpened.{PlacesOpened}
 use Rattle.testing.specs.declared.openings.SiteOpened.{SiteOpened}
 use Rattle.testing.specs.declared.openings.CoordinatorOpened.{CoordinatorOpened}
-use Rattle.testing.specs.Openings.{placesLent, siteLent, coordinatorLent, Lent, MadeIf, OpensPlaces, OpensSite, OpensCoordinator}
+use Rattle.testing.specs.Openings.{placesLent, siteLent, coordinatorLent, networkLent, Lent, MadeIf, OpensPlaces, OpensSite, OpensCoordinator}
 use Rattle.testing.specs.Calls.{unfit, Kept, Exported, Hands}
 
 pub record PlacesLent (settings : List ℕ) (places least : ℕ) : Type 0 where
@@ -67,6 +68,21 @@ coordinator-is settings numbers places least fits =
       lends = places-are settings places least (both .first-true);
       numbers-long = leb-true _ _ (first .first-true);
       held = leb-true _ _ (last .second-true);
+    }
+
+pub record NetworkLent (settings sites numbers : List ℕ) (places least : ℕ) : Type 0 where
+  pub lends : CoordinatorLent settings numbers places least
+  pub sites-long : 129 ≤ length sites
+
+pub network-is : (settings sites numbers : List ℕ) (places least : ℕ)
+    → networkLent settings sites numbers places least ≡ true
+    → NetworkLent settings sites numbers places least
+network-is settings sites numbers places least fits =
+    let both =
+    both-true (coordinatorLent settings numbers places least) (leb 129 (length sites)) fits in
+    record {
+      lends = coordinator-is settings numbers places least (both .first-true);
+      sites-long = leb-true _ _ (both .second-true);
     }
 
 -- ---- Openings

@@ -2,4 +2,4 @@
 pub mod Reading
 pub mod Writing
 pub mod Lending
-pub mod Batching
+pub mod Delivering

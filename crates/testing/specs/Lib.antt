@@ -2,4 +2,4 @@
 pub mod Numbers
 pub mod Openings
 pub mod Calls
-pub mod Batch
+pub mod Delivery

@@ -19,8 +19,8 @@ use Rattle.model.specs.declared.Phase.the-variants.{Idle, Collecting, Probing, 
 use Rattle.model.specs.declared.CoordinatorRecord.{CoordinatorRecord}
 use Rattle.model.specs.declared.Quantile.{Quantile}
 use Rattle.model.specs.declared.Quantile.the-variants.{Nothing, Value}
-use Rattle.testing.specs.declared.numbers.PhaseNumbers.{PhaseNumbers}
-use Rattle.testing.specs.declared.numbers.FoundNumbers.{FoundNumbers}
+use Rattle.testing.specs.declared.coordinator_numbers.PhaseNumbers.{PhaseNumbers}
+use Rattle.testing.specs.declared.coordinator_numbers.FoundNumbers.{FoundNumbers}
 use Rattle.model.specs.Choice.{if_then_else_}
 use Rattle.model.specs.Limits.{mostSites}
 use Rattle.model.specs.Settings.{settingsWith}

@@ -1,7 +1,7 @@
 -- What is lent to the calls of the boundary: whether it fits, and the records of its numbers.
 --
 --   Slice, given, lent                           numbers as a call's promise names them
---   placesLent, siteLent, coordinatorLent        whether what is lent fits
+--   placesLent, siteLent, .. networkLent         whether what is lent fits
 --   MadeIf                                       the records, all zeros where it does not fit
 --   OpensPlaces, OpensSite, OpensCoordinator     the same of each opening
 use mathlib.Core.Path.{_≡_}
@@ -57,6 +57,11 @@ siteLent settings site places least = placesLent settings places least && leb 4 
 abbrev pub coordinatorLent : List ℕ → List ℕ → ℕ → ℕ → Bool
 coordinatorLent settings numbers places least =
     placesLent settings places least && coordinatorFits numbers
+
+-- The same with 129 numbers for all sites' records.
+abbrev pub networkLent : List ℕ → List ℕ → List ℕ → ℕ → ℕ → Bool
+networkLent settings sites numbers places least =
+    coordinatorLent settings numbers places least && leb 129 (length sites)
 
 -- ---- The records
 

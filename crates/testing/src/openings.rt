@@ -1,13 +1,14 @@
 // Whether what is lent fits the boundary, and the records made from it.
 ghost use mathlib.Core.Path.{_≡_};
-ghost use Rattle.testing.specs.Openings.{given, placesLent, siteLent, coordinatorLent, OpensPlaces, OpensSite, OpensCoordinator};
+ghost use Rattle.testing.specs.Openings.{given, placesLent, siteLent, coordinatorLent, networkLent, OpensPlaces, OpensSite, OpensCoordinator};
+use crate::coordinator_numbers::coordinator_fits;
+use crate::coordinator_numbers::coordinator_from;
+use crate::coordinator_numbers::zero_coordinator;
 use crate::numbers::SETTINGS_NUMBERS;
 use crate::numbers::SITE_NUMBERS;
-use crate::numbers::coordinator_fits;
-use crate::numbers::coordinator_from;
+use crate::numbers::SITES_NUMBERS;
 use crate::numbers::settings_from;
 use crate::numbers::site_from;
-use crate::numbers::zero_coordinator;
 use crate::numbers::zero_settings;
 use crate::numbers::zero_site;
 use model::CoordinatorRecord;
@@ -43,6 +44,22 @@ pub fn coordinator_lent(settings: &[u32], numbers: &[u64], places: usize, least:
 {
     if places_lent(settings, places, least) {
         return coordinator_fits(numbers);
+    }
+    false
+}
+
+// The same with all sites' records beside it.
+pub fn network_lent(
+    settings: &[u32],
+    sites: &[u64],
+    numbers: &[u64],
+    places: usize,
+    least: usize,
+) -> bool
+    ensures { λ r. ⌜ r ≡ networkLent (given settings) (given sites) (given numbers) places least ⌝ }
+{
+    if coordinator_lent(settings, numbers, places, least) {
+        return SITES_NUMBERS <= sites.len();
     }
     false
 }

@@ -7,11 +7,11 @@
 --   ready-next                  a batch that took an arrival may take another
 use mathlib.Core.Path.{_≡_, refl, sym, ap, _∙_, subst}
 use mathlib.Core.List.{List, append-nil}
-use Prim.Native.Nat.{ℕ, _+_, _-_, _*_, _≤_}
+use Prim.Native.Nat.{ℕ, _+_, _-_, _*_, _≤_, _<_}
 use native.Mathlib.Nat.{mul-le-mul-right}
 use native.Mathlib.Omega.{arith}
 use lib.Dec.{ltb}
-use lib.ListN.{length, length-append}
+use lib.ListN.{length, getD, length-append}
 use borrow.Author.Tests.{eq-eqb, ne-eqb, ltb-false}
 use Rattle.model.specs.declared.Settings.{Settings}
 use Rattle.model.specs.declared.Arrival.{Arrival}
@@ -26,6 +26,7 @@ use Rattle.model.proofs.DeliveryTheorem.{delivery-claims}
 use Rattle.model.proofs.SitesInvariant.{arrivalsAt}
 use Rattle.model.proofs.ClosedSites.{sumBelow-allArrivals}
 use Rattle.laws.proofs.Sums.{sumBelow-le, sumBelow-const}
+use Rattle.network_memory.specs.Records.{noRecord}
 use Rattle.delivery.specs.declared.Underway.{Underway}
 use Rattle.delivery.specs.Log.{logRoom}
 use Rattle.delivery.specs.Sending.{resting}
@@ -37,7 +38,8 @@ use Rattle.delivery.proofs.RestLaws.{sound-then, bounded-then, arrivals-then, h
 use Rattle.tracker.specs.declared.BatchAnswer.{BatchAnswer}
 use Rattle.tracker.specs.Batch.{BatchLent}
 use Rattle.tracker.specs.Steps.{placesRefusal, PlacesAsk, withOne, stoppedBy, oneRefusal, batchOne, underwayOf, BatchHolds, BatchReady, OneAsks, lentOf}
-use Rattle.tracker.proofs.RefusalLaws.{placesRefusal-is}
+use Rattle.tracker.specs.Turns.{ownOf}
+use Rattle.tracker.proofs.RefusalLaws.{place-known, placesRefusal-is}
 
 -- ---- An arrival with full delivery
 
@@ -100,14 +102,23 @@ module _ {settings : Settings} {answer : BatchAnswer} {lent : BatchLent}
     written-within = rw (written-is, log-same) (u .ready .messages-within);
   }
 
+  -- The record that is looked at is the site's own, where the site is known.
+  own-known : (arrival : Arrival) → arrival .site < settings .sites
+      → ownOf answer arrival ≡ getD (answer .sites .records) (arrival .site) noRecord
+  own-known arrival known =
+      ap (λ (which : ℕ). getD (answer .sites .records) which noRecord)
+      (place-known arrival (omega (arith, known, one-places .few-sites)))
+
   pub refusal-is : (arrival : Arrival)
-      → placesRefusal settings (answer .sites) arrival (length (lent .log)) (answer .written)
+      → placesRefusal settings (ownOf answer arrival) arrival (length (lent .log))
+      (answer .written)
       ≡ oneRefusal settings room (u .batch) arrival
   refusal-is arrival =
-      placesRefusal-is settings (answer .sites) arrival (length (lent .log)) (answer .written)
-      network (room - length (u .batch .messages))
+      placesRefusal-is settings (ownOf answer arrival) arrival (length (lent .log))
+      (answer .written) network (room - length (u .batch .messages))
       (λ known. ap (λ (r : SiteRecord). r .arrivals)
-      (record-read (u .ready .fits) stored (u .holds .holds) (arrival .site) known))
+      (own-known arrival known
+      ∙ record-read (u .ready .fits) stored (u .holds .holds) (arrival .site) known))
       (rw (written-is, log-same))
 
   -- All arrivals fit a machine number, so the accepted ones do.

@@ -27,3 +27,14 @@ listed e δ xs = record { ptr = (e .block, e .offset); name = δ; now = xs }
 
 abbrev pub value : {X : Type 0} → Lending X → Val
 value e = sliceVal (e .block, e .offset) (length (e .list))
+
+-- A reference as a function is handed it.
+abbrev pub lending : {X : Type 0} → Lft → Share → RefT (List X) → Lending X
+lending κ q r = record {
+  life = κ;
+  share = q;
+  block = r .ptr .0;
+  offset = r .ptr .1;
+  name = r .name;
+  list = r .now;
+}

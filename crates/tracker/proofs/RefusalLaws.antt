@@ -1,72 +1,55 @@
--- Refusals of an arrival in a batch: what the code finds from records and the log's length is the
+-- Refusals of an arrival in a batch: what the code finds from a record and the log's length is the
 -- model's refusal in the network that they hold.
 --
---   site-known, own-refusal                                      the site is known; its own record
---   address-refused, arrival-refused, log-refused, not-refused   the rows, as the code has them
---   placesRefusal-is                                             the model's refusal
-use mathlib.Core.Path.{_≡_, ap, _∙_}
+--   place-known, place-within                    the place of an arrival's site
+--   arrival-refused, log-refused, not-refused    the rows, as the code has them
+--   placesRefusal-is                             the model's refusal
+use mathlib.Core.Path.{_≡_}
 use Prim.Native.Nat.{ℕ, _-_, _/_, _≤_, _<_}
 use native.Mathlib.Omega.{arith}
 use native.Mathlib.Decide.{decLt}
-use lib.Dec.{leb}
-use lib.ListN.{getD}
-use borrow.Author.Tests.{lt-ltb, le-ltb, le-leb, leb-false}
+use borrow.Author.Tests.{lt-ltb, le-ltb, le-leb}
 use Rattle.model.specs.declared.Settings.{Settings}
 use Rattle.model.specs.declared.Arrival.{Arrival}
-use Rattle.model.specs.declared.Sites.{Sites}
 use Rattle.model.specs.declared.SiteRecord.{SiteRecord}
-use Rattle.model.specs.Refusals.{accepted, logTooShort, unknownSite}
-use Rattle.model.specs.Limits.{mostMessages}
-use Rattle.model.specs.Site.{Site, addressRefusal, arrivalRefusal}
+use Rattle.model.specs.Refusals.{accepted, logTooShort}
+use Rattle.model.specs.Limits.{mostSites, mostMessages}
+use Rattle.model.specs.Site.{Site, arrivalRefusal}
 use Rattle.model.specs.Network.{Network, siteAt}
 use Rattle.model.specs.Runs.{batchRefusal}
-use Rattle.model.proofs.RefusalLaws.{passed, refused-same}
+use Rattle.model.proofs.RefusalLaws.{refused-same}
 use Rattle.site.specs.Calls.{bareSite}
-use Rattle.network_memory.specs.Records.{noRecord}
 use Rattle.tracker.specs.Steps.{placesRefusal}
+use Rattle.tracker.specs.Turns.{placeOf}
 
-module _ (settings : Settings) (sites : Sites) (arrival : Arrival) (numbers written : ℕ) where
-  abbrev own : Site
-  own = bareSite (getD (sites .records) (arrival .site) noRecord)
+-- An arrival at a site that has a record is looked at there.
+pub place-known : (arrival : Arrival) → arrival .site < mostSites → placeOf arrival ≡ arrival .site
+place-known arrival few = rw (lt-ltb (arrival .site) mostSites few)
 
-  pub site-known : addressRefusal settings arrival ≡ accepted → arrival .site < settings .sites
-  site-known none =
-      leb-false _ _
-      (passed (leb (settings .sites) (arrival .site)) unknownSite _ (omega arith) none .test-failed)
+pub place-within : (arrival : Arrival) → placeOf arrival < mostSites
+place-within arrival = by-site (decLt (arrival .site) mostSites)
+  where
+    by-site : Dec (arrival .site < mostSites) → placeOf arrival < mostSites
+    by-site (yes few) = rw (place-known arrival few) few
+    by-site (no past) = rw (le-ltb (arrival .site) mostSites (omega (arith, past))) (omega arith)
 
-  -- The refusal is that of the record that was read.
-  pub own-refusal : {number : ℕ} {numbers-read : SiteRecord}
-      → number ≡ arrivalRefusal settings (bareSite numbers-read) arrival
-      → numbers-read ≡ getD (sites .records) (arrival .site) noRecord
-      → number ≡ arrivalRefusal settings own arrival
-  own-refusal is read =
-      is ∙ ap (λ (r : SiteRecord). arrivalRefusal settings (bareSite r) arrival) read
+module _ (settings : Settings) (own : SiteRecord) (arrival : Arrival) (numbers written : ℕ) where
+  abbrev refusal : ℕ
+  refusal = arrivalRefusal settings (bareSite own) arrival
 
-  -- An address that is refused is so before the site's own number is looked at.
-  pub address-refused : (number : ℕ)
-      → number ≡ addressRefusal settings arrival
-      → (number ≡ accepted → ⊥)
-      → number ≡ placesRefusal settings sites arrival numbers written
-  address-refused number is refused =
-      refused-same number (arrivalRefusal settings own arrival) _
-      (refused-same number (addressRefusal settings arrival) _ is refused) refused
+  pub arrival-refused : (number : ℕ) → number ≡ refusal → (number ≡ accepted → ⊥)
+      → number ≡ placesRefusal settings own arrival numbers written
+  arrival-refused number is refused = refused-same number refusal _ is refused
 
-  pub arrival-refused : (number : ℕ)
-      → number ≡ arrivalRefusal settings own arrival
-      → (number ≡ accepted → ⊥)
-      → number ≡ placesRefusal settings sites arrival numbers written
-  arrival-refused number is refused =
-      refused-same number (arrivalRefusal settings own arrival) _ is refused
-
-  pub log-refused : arrivalRefusal settings own arrival ≡ accepted
+  pub log-refused : refusal ≡ accepted
       → numbers / 4 - written < mostMessages (settings .sites)
-      → logTooShort ≡ placesRefusal settings sites arrival numbers written
+      → logTooShort ≡ placesRefusal settings own arrival numbers written
   log-refused none few =
       rw (none, lt-ltb (numbers / 4 - written) (mostMessages (settings .sites)) few)
 
-  pub not-refused : arrivalRefusal settings own arrival ≡ accepted
+  pub not-refused : refusal ≡ accepted
       → mostMessages (settings .sites) ≤ numbers / 4 - written
-      → accepted ≡ placesRefusal settings sites arrival numbers written
+      → accepted ≡ placesRefusal settings own arrival numbers written
   not-refused none enough =
       rw (none, le-ltb (numbers / 4 - written) (mostMessages (settings .sites)) enough)
 
@@ -82,17 +65,14 @@ same-refusal settings own site arrival same =
     by-site (yes known) = rw (same known)
     by-site (no past) = rw (le-leb (settings .sites) (arrival .site) (omega arith))
 
-pub placesRefusal-is : (settings : Settings) (sites : Sites) (arrival : Arrival)
+pub placesRefusal-is : (settings : Settings) (own : SiteRecord) (arrival : Arrival)
     (numbers written : ℕ) (network : Network) (free : ℕ)
-    → (arrival .site < settings .sites
-    → getD (sites .records) (arrival .site) noRecord .arrivals
-    ≡ siteAt network (arrival .site) .arrivals)
+    → (arrival .site < settings .sites → own .arrivals ≡ siteAt network (arrival .site) .arrivals)
     → numbers / 4 - written ≡ free
-    → placesRefusal settings sites arrival numbers written
+    → placesRefusal settings own arrival numbers written
     ≡ batchRefusal settings network free arrival
-placesRefusal-is settings sites arrival numbers written network free same free-is =
+placesRefusal-is settings own arrival numbers written network free same free-is =
     rw (
-      same-refusal settings (bareSite (getD (sites .records) (arrival .site) noRecord))
-          (siteAt network (arrival .site)) arrival same,
+      same-refusal settings (bareSite own) (siteAt network (arrival .site)) arrival same,
       free-is,
     )

@@ -2,7 +2,7 @@
 --
 --   opened refusal sites coordinator   the answer before the first arrival
 --   OpenSays                           the start's promise
---   placesRefusal ..                   5, 6, 7, 8, 14 from records and the log's length
+--   placesRefusal ..                   5, 6, 7, 8, 14 from a record and the log's length
 --   batchOne settings room batch a     one arrival of the model's batch
 --   BatchHolds                         answer and lent memory hold a batch
 --   BatchReady                         a batch that may take another arrival
@@ -11,9 +11,10 @@ use mathlib.Core.Path.{_≡_}
 use mathlib.Core.List.{List, [], _++_}
 use Prim.Native.Nat.{ℕ, _+_, _-_, _/_, _≤_}
 use lib.Dec.{ltb}
-use lib.ListN.{length, getD}
+use lib.ListN.{length}
 use Rattle.model.specs.declared.Settings.{Settings}
 use Rattle.model.specs.declared.Arrival.{Arrival}
+use Rattle.model.specs.declared.SiteRecord.{SiteRecord}
 use Rattle.model.specs.declared.Sites.{Sites}
 use Rattle.model.specs.declared.CoordinatorRecord.{CoordinatorRecord}
 use Rattle.model.specs.Choice.{if_then_else_, isZero}
@@ -26,7 +27,6 @@ use Rattle.model.specs.Runs.{Batch, batchRefusal}
 use Rattle.model.specs.SoundNetwork.{Sound}
 use Rattle.model.specs.DeliveryClaims.{delivery}
 use Rattle.site.specs.Calls.{bareSite}
-use Rattle.network_memory.specs.Records.{noRecord}
 use Rattle.delivery.specs.declared.Underway.{Underway}
 use Rattle.delivery.specs.Log.{logRoom}
 use Rattle.delivery.specs.Sending.{nothingWaits}
@@ -63,10 +63,10 @@ pub record OpenSays
 
 -- ---- One arrival
 
--- "for a draw 5, 6, 7, 8, 14", from the records and so many numbers of log.
-abbrev pub placesRefusal : Settings → Sites → Arrival → ℕ → ℕ → ℕ
-placesRefusal settings sites arrival numbers written =
-    arrivalRefusal settings (bareSite (getD (sites .records) (arrival .site) noRecord)) arrival
+-- "for a draw 5, 6, 7, 8, 14", from its site's record and so many numbers of log.
+abbrev pub placesRefusal : Settings → SiteRecord → Arrival → ℕ → ℕ → ℕ
+placesRefusal settings own arrival numbers written =
+    arrivalRefusal settings (bareSite own) arrival
     orElse when (ltb (numbers / 4 - written) (mostMessages (settings .sites))) logTooShort
     orElse accepted
 

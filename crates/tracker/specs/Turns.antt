@@ -1,18 +1,22 @@
 -- One arrival of the batch call in three parts: its turn at its site, the answer that counts it,
 -- and its messages with full delivery.
 --
---   refusedTurn number         the turn of a refused arrival
---   counted answer turn        the answer with a turn in it
+--   placeOf arrival            the place of its site among the records
+--   ownOf answer arrival       the record that stands there
+--   refusedTurn number own     the turn of a refused arrival
+--   counted answer which turn  the answer with a turn in it
 --   TurnAsks, TurnSays         an arrival is refused, or its site takes it
 --   CountAsks                  a turn that can be counted
 --   DeliverAsks, DeliverSays   the messages of a turn
 use mathlib.Core.Path.{_≡_}
 use mathlib.Core.List.{List}
 use Prim.Native.Nat.{ℕ, _+_, _*_, _≤_, _<_}
-use lib.ListN.{length}
+use lib.Dec.{ltb}
+use lib.ListN.{length, getD}
 use Rattle.model.specs.declared.Settings.{Settings}
 use Rattle.model.specs.declared.Arrival.{Arrival}
-use Rattle.model.specs.Choice.{if_then_else_, isZero}
+use Rattle.model.specs.declared.SiteRecord.{SiteRecord}
+use Rattle.model.specs.Choice.{if_then_else_}
 use Rattle.model.specs.Refusals.{accepted}
 use Rattle.model.specs.Limits.{mostSites, siteLimit}
 use Rattle.model.specs.Runs.{Batch}
@@ -28,20 +32,36 @@ use Rattle.tracker.specs.Steps.{oneRefusal, withOne, underwayOf, BatchHo
 
 -- ---- The turn
 
-abbrev pub refusedTurn : ℕ → Turn
-refusedTurn number = record {
+-- The place of an arrival's site among the records; 0 stands for a site that has none, since such
+-- an arrival is refused whatever record is looked at.
+abbrev pub placeOf : Arrival → ℕ
+placeOf arrival = if ltb (arrival .site) mostSites then arrival .site else 0
+
+-- The record that stands there.
+abbrev pub ownOf : BatchAnswer → Arrival → SiteRecord
+ownOf answer arrival = getD (answer .sites .records) (placeOf arrival) noRecord
+
+-- A refused arrival leaves its site's record as it was.
+abbrev pub refusedTurn : ℕ → SiteRecord → Turn
+refusedTurn number own = record {
   refusal = number;
-  which = 0;
-  site = noRecord;
+  taken = 0;
+  site = own;
   out = nothingWaits;
 }
 
--- Of lent memory only that of the sites is looked at, and of the log its length.
+-- The answer is not handed over, only what is looked at: the site's record and the messages
+-- written. Of lent memory only that of the sites is looked at, and of the log its length.
 pub record TurnAsks
     (settings : Settings)
-    (answer : BatchAnswer)
+    (own : SiteRecord)
+    (written : ℕ)
+    (arrival : Arrival)
     (numbers : ℕ)
     (siteMemory : List ℕ) : Type 0 where
+  pub answer : BatchAnswer
+  pub own-is : own ≡ ownOf answer arrival
+  pub written-is : written ≡ answer .written
   pub coordinatorMemory : List ℕ
   pub log : List ℕ
   pub numbers-are : numbers ≡ length log
@@ -53,10 +73,13 @@ pub record RefusedTurn
     (given : Given)
     (batch : Batch)
     (arrival : Arrival)
+    (answer : BatchAnswer)
     (turn : Turn)
     (siteBefore siteAfter : List ℕ) : Type 0 where
   pub due : oneRefusal settings (logRoom (given .log)) batch arrival ≡ accepted → ⊥
-  pub turn-is : turn ≡ refusedTurn (oneRefusal settings (logRoom (given .log)) batch arrival)
+  pub turn-is : turn
+      ≡ refusedTurn (oneRefusal settings (logRoom (given .log)) batch arrival)
+      (ownOf answer arrival)
   pub memory-kept : siteAfter ≡ siteBefore
 
 -- The arrival's site has taken it, and the answer with that site's record holds so.
@@ -70,7 +93,8 @@ pub record TakenTurn
     (lent : BatchLent) : Type 0 where
   pub none-due : oneRefusal settings (logRoom (given .log)) batch arrival ≡ accepted
   pub refusal-none : turn .refusal ≡ accepted
-  pub which-is : turn .which ≡ arrival .site
+  pub taken-one : turn .taken ≡ 1
+  pub place-is : placeOf arrival ≡ arrival .site
   pub taken : Taken settings given (batch .messages) (batch .network) arrival (turn .out)
       (state (putBack (underwayOf answer) (arrival .site) (turn .site)) (lent .siteMemory)
       (lent .coordinatorMemory) (lent .log))
@@ -84,21 +108,24 @@ pub data TurnTold
     (turn : Turn)
     (siteBefore : List ℕ)
     (lent : BatchLent) : Type 0 where
-  refused : RefusedTurn settings given batch arrival turn siteBefore (lent .siteMemory)
+  refused : RefusedTurn settings given batch arrival answer turn siteBefore (lent .siteMemory)
       → TurnTold settings given batch arrival answer turn siteBefore lent
   taken : TakenTurn settings given batch arrival answer turn lent
       → TurnTold settings given batch arrival answer turn siteBefore lent
 
--- The turn, whatever batch the answer holds.
+-- The turn, whatever answer has that record, and whatever batch it holds.
 pub record TurnSays
     (settings : Settings)
+    (own : SiteRecord)
+    (written : ℕ)
     (arrival : Arrival)
-    (answer : BatchAnswer)
     (numbers : ℕ)
     (before : List ℕ)
     (turn : Turn)
     (after : List ℕ) : Type 0 where
-  pub told : (coordinatorMemory log : List ℕ)
+  pub told : (answer : BatchAnswer) (coordinatorMemory log : List ℕ)
+      → own ≡ ownOf answer arrival
+      → written ≡ answer .written
       → numbers ≡ length log
       → (u : OneAsks settings answer (lentOf before coordinatorMemory log))
       → TurnTold settings (u .given) (u .batch) arrival answer turn before
@@ -106,31 +133,21 @@ pub record TurnSays
 
 -- ---- The answer with a turn in it
 
-abbrev pub oneMore : BatchAnswer → Turn → BatchAnswer
-oneMore answer turn = record {
+-- The refusal, the arrivals accepted, and the record of the site at this place. A refused turn
+-- brings the record that stands there.
+abbrev pub counted : BatchAnswer → ℕ → Turn → BatchAnswer
+counted answer which turn = record {
   refusal = turn .refusal;
-  accepted = answer .accepted + 1;
+  accepted = answer .accepted + turn .taken;
   written = answer .written;
-  sites = withRecord (answer .sites) (turn .which) (turn .site);
+  sites = withRecord (answer .sites) which (turn .site);
   coordinator = answer .coordinator;
 }
 
-abbrev pub stopped : BatchAnswer → ℕ → BatchAnswer
-stopped answer refusal = record {
-  refusal = refusal;
-  accepted = answer .accepted;
-  written = answer .written;
-  sites = answer .sites;
-  coordinator = answer .coordinator;
-}
-
-abbrev pub counted : BatchAnswer → Turn → BatchAnswer
-counted answer turn =
-    if isZero (turn .refusal) then oneMore answer turn else stopped answer (turn .refusal)
-
-pub record CountAsks (answer : BatchAnswer) (turn : Turn) : Type 0 where
-  pub which-within : turn .which < mostSites
+pub record CountAsks (answer : BatchAnswer) (which : ℕ) (turn : Turn) : Type 0 where
+  pub which-within : which < mostSites
   pub accepted-within : answer .accepted ≤ mostSites * siteLimit
+  pub taken-within : turn .taken ≤ 1
 
 -- ---- The messages of a turn
 

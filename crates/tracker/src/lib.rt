@@ -7,7 +7,7 @@ ghost use mathlib.Core.Path.{_≡_};
 ghost use mathlib.Core.List.{[], _∷_};
 ghost use Rattle.tracker.specs.Batch.{BatchSays};
 ghost use Rattle.tracker.specs.Steps.{OpenSays, placesRefusal, PlacesAsk, lentOf};
-ghost use Rattle.tracker.specs.Turns.{refusedTurn, counted, TurnAsks, TurnSays, CountAsks, DeliverAsks, DeliverSays};
+ghost use Rattle.tracker.specs.Turns.{placeOf, refusedTurn, counted, TurnAsks, TurnSays, CountAsks, DeliverAsks, DeliverSays};
 use counters::Word;
 use delivery::Queue;
 use model::ACCEPTED;
@@ -28,11 +28,12 @@ pub struct BatchAnswer {
     pub coordinator: CoordinatorRecord,
 }
 
-// The turn of an arrival: why it is refused, or the number and the record of the site that took it,
-// and the messages that are to go out. A refused one leaves the rest all zeros.
+// The turn of an arrival: why it is refused, or the record of the site that took it, and the
+// messages that are to go out. `taken` is 1 if it is accepted. A refused one has the record as it
+// was, and no messages.
 pub struct Turn {
     pub refusal: u32,
-    pub which: usize,
+    pub taken: u64,
     pub site: SiteRecord,
     pub out: Queue,
 }
@@ -66,23 +67,28 @@ fn open_batch(
     }
 }
 
-// Why an arrival of a batch is refused: 5, 6, 7, 8, 14.
+// The place of an arrival's site among the records. An arrival that names no such place is refused
+// whatever record is looked at: 0 stands for it.
+fn place_of(arrival: Arrival) -> usize
+    ensures { λ r. ⌜ r ≡ placeOf arrival ⌝ }
+{
+    if arrival.site < 32 {
+        return arrival.site as usize;
+    }
+    0
+}
+
+// Why an arrival of a batch is refused: 5, 6, 7, 8, 14. `own` is its site's record.
 fn one_refusal(
     settings: Settings,
-    sites: Sites,
+    own: SiteRecord,
     arrival: Arrival,
     numbers: usize,
     written: u64,
 ) -> u32
     requires { ⌜ PlacesAsk settings written numbers ⌝ }
-    ensures { λ r. ⌜ r ≡ placesRefusal settings sites arrival numbers written ⌝ }
+    ensures { λ r. ⌜ r ≡ placesRefusal settings own arrival numbers written ⌝ }
 {
-    let address = site::address_refusal(settings, arrival);
-    if address != ACCEPTED {
-        return address;
-    }
-    let which = arrival.site as usize;
-    let own = delivery::record_of(sites, which);
     let of_site = site::arrival_refusal(settings, own, arrival);
     if of_site != ACCEPTED {
         return of_site;
@@ -95,45 +101,37 @@ fn one_refusal(
 }
 
 // The turn of an arrival that is refused with this number.
-fn refused_turn(number: u32) -> Turn
-    ensures { λ r. ⌜ r ≡ refusedTurn number ⌝ }
+fn refused_turn(number: u32, own: SiteRecord) -> Turn
+    ensures { λ r. ⌜ r ≡ refusedTurn number own ⌝ }
 {
-    let none = SiteRecord {
-        arrivals: 0,
-        pending: 0,
-        threshold: 0,
-        used: 0,
-    };
     let out = delivery::empty_queue();
     Turn {
         refusal: number,
-        which: 0,
-        site: none,
+        taken: 0,
+        site: own,
         out: out,
     }
 }
 
-// An arrival is refused, or its site takes it. The answer is only read here, and what changes is
-// handed back: the records of 32 sites are not copied for an arrival. `numbers` is the log's
-// length.
+// An arrival is refused, or its site takes it. It is handed the one record that changes and hands
+// it back: the records of 32 sites are not copied for an arrival. `own` is that record, `written`
+// the messages written so far, and `numbers` the log's length.
 fn take_turn(
     settings: Settings,
-    answer: BatchAnswer,
+    own: SiteRecord,
+    written: u64,
     arrival: Arrival,
     numbers: usize,
     site_memory: &mut [Word],
 ) -> Turn
-    requires { ⌜ TurnAsks settings answer numbers (now «site_memory») ⌝ }
-    ensures { λ r. ⌜ TurnSays settings arrival answer numbers
+    requires { ⌜ TurnAsks settings own written arrival numbers (now «site_memory») ⌝ }
+    ensures { λ r. ⌜ TurnSays settings own written arrival numbers
         (now («site_memory» .entry)) r (now («site_memory» .exit)) ⌝ }
 {
-    let sites = answer.sites;
-    let refusal = one_refusal(settings, sites, arrival, numbers, answer.written);
+    let refusal = one_refusal(settings, own, arrival, numbers, written);
     if refusal != ACCEPTED {
-        return refused_turn(refusal);
+        return refused_turn(refusal, own);
     }
-    let which = arrival.site as usize;
-    let own = delivery::record_of(sites, which);
     let observed = delivery::observe(settings, own, arrival, site_memory);
     let site = observed.site;
     let first = observed.first;
@@ -145,26 +143,23 @@ fn take_turn(
     };
     Turn {
         refusal: ACCEPTED,
-        which: which,
+        taken: 1,
         site: site,
         out: out,
     }
 }
 
-// The answer with a turn in it: the refusal, or one arrival more and the record of its site.
-fn count_turn(answer: BatchAnswer, turn: Turn) -> BatchAnswer
-    requires { ⌜ CountAsks answer turn ⌝ }
-    ensures { λ r. ⌜ r ≡ counted answer turn ⌝ }
+// The answer with a turn in it, of the site at this place.
+fn count_turn(answer: BatchAnswer, which: usize, turn: Turn) -> BatchAnswer
+    requires { ⌜ CountAsks answer which turn ⌝ }
+    ensures { λ r. ⌜ r ≡ counted answer which turn ⌝ }
 {
-    let mut next = answer;
-    next.refusal = turn.refusal;
-    if turn.refusal != ACCEPTED {
-        return next;
-    }
     let sites = answer.sites;
     let site = turn.site;
-    next.accepted = answer.accepted + 1;
-    next.sites = delivery::with_record(sites, turn.which, site);
+    let mut next = answer;
+    next.refusal = turn.refusal;
+    next.accepted = answer.accepted + turn.taken;
+    next.sites = delivery::with_record(sites, which, site);
     next
 }
 
@@ -240,15 +235,27 @@ pub fn run_one(
     if answer.refusal != ACCEPTED {
         return answer;
     }
-    let turn = take_turn(settings, answer, arrival, log.len(), site_memory);
-    let next = count_turn(answer, turn);
+    let which = place_of(arrival);
+    let sites_then = answer.sites;
+    let own = delivery::record_of(sites_then, which);
+    let turn = take_turn(
+        settings,
+        own,
+        answer.written,
+        arrival,
+        log.len(),
+        site_memory,
+    );
+    let next = count_turn(answer, which, turn);
     if turn.out.count == 0 {
         return next;
     }
     deliver_turn(settings, next, turn, site_memory, coordinator_memory, log)
 }
 
-// The batch call: a lent run of arrivals, walked one by one until one is refused.
+// The batch call: a lent run of arrivals, walked one by one until one is refused. The site's record
+// is read and stored where it stands, and so is the count of arrivals (`count_turn` in place): the
+// answer is 1 KB, and a function that took it and gave it back would copy it at every arrival.
 pub fn run_batch(
     settings: Settings,
     sites: Sites,
@@ -279,8 +286,20 @@ pub fn run_batch(
     );
     let mut i: usize = 0;
     while i < arrivals.len() && answer.refusal == 0 {
-        let turn = take_turn(settings, answer, arrivals[i], log.len(), site_memory);
-        answer = count_turn(answer, turn);
+        let arrival = arrivals[i];
+        let which = place_of(arrival);
+        let own = answer.sites.records[which];
+        let turn = take_turn(
+            settings,
+            own,
+            answer.written,
+            arrival,
+            log.len(),
+            site_memory,
+        );
+        answer.sites.records[which] = turn.site;
+        answer.refusal = turn.refusal;
+        answer.accepted = answer.accepted + turn.taken;
         if turn.out.count != 0 {
             answer = deliver_turn(settings, answer, turn, site_memory, coordinator_memory, log);
         }

@@ -4,8 +4,10 @@
 //! [`UNFIT`] where what it is lent does not fit the boundary.
 
 mod batch;
+mod delivery;
 
 pub use batch::{run_batch, Arrival, Batch};
+pub use delivery::{deliver_arrival, Delivery};
 
 /// The answer where lent numbers are too few, or don't fit the record's types.
 pub const UNFIT: u32 = 255;

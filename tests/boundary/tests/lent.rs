@@ -94,6 +94,34 @@ fn short_arrays_at_the_coordinator() {
 }
 
 #[test]
+fn short_arrays_of_a_delivery() {
+    let fresh_sites = [&[FRESH_SITE; 32].concat()[..], &[0]].concat();
+    for_short(&[6, 129, 10, 1], 0, |lengths| {
+        let mut sites = fresh_sites.clone();
+        sites.truncate(lengths[1]);
+        let mut coordinator = FRESH_COORDINATOR[..lengths[2]].to_vec();
+        let (mut site_memory, mut coordinator_memory) =
+            (vec![0; SITE_WORDS], vec![0; COORDINATOR_WORDS]);
+        let mut out = vec![77; lengths[3]];
+        let delivery = Delivery {
+            sites: &mut sites,
+            coordinator: &mut coordinator,
+            site_memory: &mut site_memory,
+            coordinator_memory: &mut coordinator_memory,
+            out: &mut out,
+        };
+        let answer = deliver_arrival(&A[..lengths[0]], [0, 7, 3], delivery);
+        let same = fresh_sites.starts_with(&sites)
+            && coordinator == FRESH_COORDINATOR[..lengths[2]]
+            && site_memory == [0; SITE_WORDS]
+            && coordinator_memory == [0; COORDINATOR_WORDS]
+            && out.iter().all(|&number| number == 77);
+        assert_eq!(same, answer == UNFIT);
+        answer
+    });
+}
+
+#[test]
 fn numbers_that_do_not_fit() {
     // Signals, class, phase, deck, low and high.
     let greatest = u64::from(u32::MAX);

@@ -1,27 +1,18 @@
--- `tracker::count_turn` meets its contract: by whether the turn is refused.
+-- `tracker::count_turn` meets its contract: three fields are changed.
 use native.Mathlib.Omega.{arith}
-use borrow.Author.Tests.{eq-eqb, ne-eqb}
-use borrow.Author.Needs.{needs}
 use Rattle.tracker.proofs.count_turn.Statement.{statement}
 use Rattle.tracker.proofs.count_turn.Tie as tie
 
-returns : tie.Need-returns
-returns c =
-    let turn = c .before .before .args .turn in
-    rw (ne-eqb (turn .refusal) 0 (c .if1 .taken))
-
 add-next : tie.Need-add-next
-add-next c = omega (arith, c .before .before .before .before .before .pre .accepted-within)
+add-next c =
+    let asks = c .before .before .before .before .pre in
+    omega (arith, asks .accepted-within, asks .taken-within)
 
 with-record-requires : tie.Need-with-record-requires
-with-record-requires c κs =
-    omega (arith, c .before .before .before .before .before .pre .which-within)
+with-record-requires c κs = omega (arith, c .before .before .before .before .pre .which-within)
 
-returns-2 : tie.Need-returns-2
-returns-2 c =
-    let tested = c .before .before .before .before in
-    let turn = tested .before .before .args .turn in
-    rw (c .with-record .ensures, eq-eqb (turn .refusal) 0 (tested .if1 .left))
+returns : tie.Need-returns
+returns c = rw (c .with-record .ensures)
 
 pub count-turn-spec : {M : Type 1} → statement M
-count-turn-spec = tie.close (tie.spec returns add-next with-record-requires returns-2)
+count-turn-spec = tie.close (tie.spec add-next with-record-requires returns)

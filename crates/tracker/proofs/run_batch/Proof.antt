@@ -1,14 +1,16 @@
 -- `tracker::run_batch` meets its contract: a walk of its MIR, by hand. The start's tests are called
--- once; then each turn reads one arrival and lends the sites' memory again to `take_turn`, counts
--- the turn, and, if it has messages, lends both memories and the log to `deliver_turn`, each for a
--- lifetime that is made for the call, and has them back. All that the proof knows of these
--- functions is that they meet their contracts.
+-- once; then each turn reads one arrival and its site's record, lends the sites' memory again to
+-- `take_turn`, stores the record and counts the turn, and, if it has messages, lends both memories
+-- and the log to `deliver_turn`, each for a lifetime that is made for the call, and has them back.
+-- All that the proof knows of these functions is that they meet their contracts.
 --
 --   Parameters   what the function is called with, and what it has to hand back
 --   Lends        what the start's call is given
 --   LendsTurn    what the calls of a turn are given
 --   Locals       its locals, where the body begins, at the loop's test and within a turn
---   Sending      the end of a turn: it is counted, and its messages are delivered
+--   Sending      the end of a turn: its messages are delivered
+--   Counting     before that: its record is stored, and it is counted
+--   Taking       before that: the turn at its site
 --   Turn         a turn that takes one arrival
 --   Ending       the turns that leave the loop, and the end of the body
 --   Loop         the loop
@@ -20,6 +22,8 @@ mod Lends
 mod LendsTurn
 mod Locals
 mod Sending
+mod Counting
+mod Taking
 mod Turn
 mod Ending
 mod Loop
@@ -29,7 +33,7 @@ use mathlib.Core.List.{List, [], _∷_}
 use mir.Syntax.{named}
 use mir.Val.{Val}
 use base.Logic.{ent, emp, via, fst∗}
-use base.Fml.{Lft, Share, ftrue, flft}
+use base.Fml.{ftrue, flft}
 use prog.Wp.{WpFn}
 use contract.Running.{givenOf, tables, tablesOf}
 use types.Kit.{‵, _⊛_, _$_, _∵_, !, qed, move, drop, split, fsplit}
@@ -38,7 +42,6 @@ use sound.WpLaws.{WpFn-mono}
 use denote.RattleType.{owns}
 use denote.Builtin.{u32, u64}
 use denote.Signature.{plain}
-use denote.Ref.{RefT}
 use denote.Slice.{ShrSlice, MutSlice, slice-vals, shr-slice-tells, mut-slice-tells}
 use denote.Struct.Laws as LL
 use denote.Triple.Entry.{onEntry}
@@ -53,16 +56,17 @@ use Rattle.model.proofs.Sites.Laws as P′
 use Rattle.model.proofs.CoordinatorRecord as D
 use Rattle.model.proofs.CoordinatorRecord.Laws as D′
 use Rattle.model.proofs.Arrival as T
-use Rattle.tracker.proofs.Lending.{Lending, value}
+use Rattle.tracker.proofs.Frame.{placed}
+use Rattle.tracker.proofs.Lending.{lending, value}
 use Rattle.tracker.proofs.open_batch.Symbol as open-def
 use Rattle.tracker.proofs.open_batch.Symbol.{name as #tracker·open-batch}
 use Rattle.tracker.proofs.open_batch.Met as open-thm
+use Rattle.tracker.proofs.place_of.Symbol as find-def
+use Rattle.tracker.proofs.place_of.Symbol.{name as #tracker·place-of}
+use Rattle.tracker.proofs.place_of.Met as find-thm
 use Rattle.tracker.proofs.take_turn.Symbol as take-def
 use Rattle.tracker.proofs.take_turn.Symbol.{name as #tracker·take-turn}
 use Rattle.tracker.proofs.take_turn.Met as take-thm
-use Rattle.tracker.proofs.count_turn.Symbol as count-def
-use Rattle.tracker.proofs.count_turn.Symbol.{name as #tracker·count-turn}
-use Rattle.tracker.proofs.count_turn.Met as count-thm
 use Rattle.tracker.proofs.deliver_turn.Symbol as deliver-def
 use Rattle.tracker.proofs.deliver_turn.Symbol.{name as #tracker·deliver-turn}
 use Rattle.tracker.proofs.deliver_turn.Met as deliver-thm
@@ -70,7 +74,8 @@ use Rattle.tracker.proofs.run_batch.Key.{name as #tracker·run-batch}
 use Rattle.tracker.proofs.run_batch as fun
 use Rattle.tracker.proofs.run_batch.Statement as stated
 use Rattle.tracker.proofs.run_batch.Code as code
-use Rattle.tracker.proofs.run_batch.Proof.Parameters.{VS, VP, VD, Called, Typed, stayed, bound, Post, Opens, Takes, Counts, Delivers, Logic}
+use Rattle.tracker.proofs.run_batch.Proof.Parameters.{VS, VP, VD, Called, Typed, stayed, bound, Post, Opens, Finds, Takes, Delivers, Logic}
+use Rattle.tracker.proofs.run_batch.Proof.Locals.{behind}
 use Rattle.tracker.proofs.run_batch.Proof.Start.{begins}
 
 module _ {M : Type 1} (logic : Logic M) (f : Called) (ok : Typed f) where
@@ -103,71 +108,40 @@ module _ {M : Type 1} (logic : Logic M) (f : Called) (ok : Typed f) where
       alloc1 ! (λ l₁₅. alloc1 ! (λ l₁₆. alloc1 ! (λ l₁₇. alloc1 ! (λ l₁₈. alloc1 ! (λ l₁₉.
       alloc1 ! (λ l₂₀. alloc1 ! (λ l₂₁. alloc1 ! (λ l₂₂. alloc1 ! (λ l₂₃. alloc1 ! (λ l₂₄.
       alloc1 ! (λ l₂₅. alloc1 ! (λ l₂₆. alloc1 ! (λ l₂₇. alloc1 ! (λ l₂₈. alloc1 ! (λ l₂₉.
+      alloc1 ! (λ l₃₀. alloc1 ! (λ l₃₁. alloc1 ! (λ l₃₂. alloc1 ! (λ l₃₃. alloc1 ! (λ l₃₄.
+      alloc1 ! (λ l₃₅. alloc1 ! (λ l₃₆. alloc1 ! (λ l₃₇. alloc1 ! (λ l₃₈. alloc1 ! (λ l₃₉.
+      alloc1 ! (λ l₄₀. alloc1 ! (λ l₄₁. alloc1 ! (λ l₄₂.
       alloc0 ! $ params1 ! $
-      pass1 ! (init ! 56 refl
+      pass1 ! (init ! (behind 0 1) refl
       (LL.lawful S.the-type S′.the-laws 𝓤 H A W .typed (f .settings) _ (ok .settings-good) .0)) $
-      pass1 ! (init ! 54 refl
+      pass1 ! (init ! (behind 0 2) refl
       (LL.lawful P.the-type P′.the-laws 𝓤 H A W .typed (f .sites) _ (ok .sites-good) .0)) $
-      pass1 ! (init ! 52 refl
+      pass1 ! (init ! (behind 0 3) refl
       (LL.lawful D.the-type D′.the-laws 𝓤 H A W .typed (f .coordinator) _
       (ok .coordinator-good) .0)) $
-      pass1 ! (init ! 50 refl (tt, (tt, (record { fits = ok .arrivals-room .0 }, tt)))) $
-      pass1 ! (init ! 48 refl (tt, (tt, (record { fits = ok .site-memory-room .0 }, tt)))) $
-      pass1 ! (init ! 46 refl (tt, (tt, (record { fits = ok .coordinator-memory-room .0 }, tt)))) $
-      pass1 ! (init ! 44 refl (tt, (tt, (record { fits = ok .log-room .0 }, tt)))) $ pass0 ! $
-      -- [_29; …; _0; …; the tokens; what is owned]
-      move ! (60 ∷ []) $ split ! $ move ! (1 ∷ []) $ split ! $ move ! (1 ∷ []) $ split ! $
+      pass1 ! (init ! (behind 0 4) refl (tt, (tt, (record { fits = ok .arrivals-room .0 }, tt)))) $
+      pass1 ! (init ! (behind 0 5) refl
+      (tt, (tt, (record { fits = ok .site-memory-room .0 }, tt)))) $
+      pass1 ! (init ! (behind 0 6) refl
+      (tt, (tt, (record { fits = ok .coordinator-memory-room .0 }, tt)))) $
+      pass1 ! (init ! (behind 0 7) refl (tt, (tt, (record { fits = ok .log-room .0 }, tt)))) $
+      pass0 ! $
+      -- [_42; …; _0; …; the tokens; what is owned]
+      move ! (86 ∷ []) $ split ! $ move ! (1 ∷ []) $ split ! $ move ! (1 ∷ []) $ split ! $
       move ! (1 ∷ []) $ split ! $ move ! (1 ∷ []) $ drop ! $
-      -- [κ₃; κ₂; κ₁; κ; _29; …; what is owned]
-      move ! (64 ∷ []) $ fsplit ! $ drop ! $ fsplit ! $ drop ! $ fsplit ! $ drop ! $
+      -- [κ₃; κ₂; κ₁; κ; _42; …; what is owned]
+      move ! (90 ∷ []) $ fsplit ! $ drop ! $ fsplit ! $ drop ! $ fsplit ! $ drop ! $
       fsplit ! $ move ! (1 ∷ []) $ fsplit ! $ move ! (1 ∷ []) $ fsplit ! $ move ! (1 ∷ []) $
       fsplit ! $ move ! (1 ∷ []) $ drop ! $
-      -- [log; coordinator's; sites'; the run; κ₃; κ₂; κ₁; κ; _29; …]
+      -- [log; coordinator's; sites'; the run; κ₃; κ₂; κ₁; κ; _42; …]
       move ! (3 ∷ 7 ∷ 2 ∷ 6 ∷ 1 ∷ 5 ∷ 0 ∷ 4 ∷ []) $
-      begins logic f ok (record {
-        l₀ = l₀;
-        l₁ = l₁;
-        l₂ = l₂;
-        l₃ = l₃;
-        l₄ = l₄;
-        l₅ = l₅;
-        l₆ = l₆;
-        l₇ = l₇;
-        l₈ = l₈;
-        l₉ = l₉;
-        l₁₀ = l₁₀;
-        l₁₁ = l₁₁;
-        l₁₂ = l₁₂;
-        l₁₃ = l₁₃;
-        l₁₄ = l₁₄;
-        l₁₅ = l₁₅;
-        l₁₆ = l₁₆;
-        l₁₇ = l₁₇;
-        l₁₈ = l₁₈;
-        l₁₉ = l₁₉;
-        l₂₀ = l₂₀;
-        l₂₁ = l₂₁;
-        l₂₂ = l₂₂;
-        l₂₃ = l₂₃;
-        l₂₄ = l₂₄;
-        l₂₅ = l₂₅;
-        l₂₆ = l₂₆;
-        l₂₇ = l₂₇;
-        l₂₈ = l₂₈;
-        l₂₉ = l₂₉;
-      })))))))))))))))))))))))))))))))
+      begins logic f ok (placed (l₀ ∷ l₁ ∷ l₂ ∷ l₃ ∷ l₄ ∷ l₅ ∷ l₆ ∷ l₇ ∷ l₈ ∷ l₉ ∷ l₁₀ ∷
+      l₁₁ ∷ l₁₂ ∷ l₁₃ ∷ l₁₄ ∷ l₁₅ ∷ l₁₆ ∷ l₁₇ ∷ l₁₈ ∷ l₁₉ ∷ l₂₀ ∷ l₂₁ ∷ l₂₂ ∷ l₂₃ ∷ l₂₄ ∷
+      l₂₅ ∷ l₂₆ ∷ l₂₇ ∷ l₂₈ ∷ l₂₉ ∷ l₃₀ ∷ l₃₁ ∷ l₃₂ ∷ l₃₃ ∷ l₃₄ ∷ l₃₅ ∷ l₃₆ ∷ l₃₇ ∷ l₃₈ ∷
+      l₃₉ ∷ l₄₀ ∷ l₄₁ ∷ l₄₂ ∷ []))
+      )))))))))))))))))))))))))))))))))))))))))))
 
 -- ---- What is given at entry, put in order
-
-abbrev lending : {X : Type 0} → Lft → Share → RefT (List X) → Lending X
-lending κ q r = record {
-  life = κ;
-  share = q;
-  block = r .ptr .0;
-  offset = r .ptr .1;
-  name = r .name;
-  list = r .now;
-}
 
 module _ {M : Type 1} (logic : Logic M) where
   open Logic logic using (𝓤, H, A, W, mem, run, 𝓣)
@@ -268,12 +242,12 @@ run-batch-spec 𝓤 H 𝓜 𝓖 𝓡 =
       opens-known =
           cited 𝓤 H (Opens 𝓤 H (𝓖 .A) (𝓜 .mem) (𝓡 .run)) 𝓜 𝓡 code.env #tracker·open-batch
           open-def.routine code.calls-tracker·open-batch (open-thm.met 𝓤 H 𝓜 𝓖 𝓡);
+      finds-known =
+          cited 𝓤 H (Finds 𝓤 H (𝓖 .A) (𝓜 .mem) (𝓡 .run)) 𝓜 𝓡 code.env #tracker·place-of
+          find-def.routine code.calls-tracker·place-of (find-thm.met 𝓤 H 𝓜 𝓖 𝓡);
       takes-known =
           cited 𝓤 H (Takes 𝓤 H (𝓖 .A) (𝓜 .mem) (𝓡 .run)) 𝓜 𝓡 code.env #tracker·take-turn
           take-def.routine code.calls-tracker·take-turn (take-thm.met 𝓤 H 𝓜 𝓖 𝓡);
-      counts-known =
-          cited 𝓤 H (Counts 𝓤 H (𝓖 .A) (𝓜 .mem) (𝓡 .run)) 𝓜 𝓡 code.env #tracker·count-turn
-          count-def.routine code.calls-tracker·count-turn (count-thm.met 𝓤 H 𝓜 𝓖 𝓡);
       delivers-known =
           cited 𝓤 H (Delivers 𝓤 H (𝓖 .A) (𝓜 .mem) (𝓡 .run)) 𝓜 𝓡 code.env #tracker·deliver-turn
           deliver-def.routine code.calls-tracker·deliver-turn (deliver-thm.met 𝓤 H 𝓜 𝓖 𝓡);

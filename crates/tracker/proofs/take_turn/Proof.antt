@@ -1,11 +1,11 @@
 -- `tracker::take_turn` meets its contract: the arrival is refused, or its site takes it.
-use Rattle.tracker.proofs.TurnLaws.{turn-places, turn-refused, turn-site, turn-observes, turn-taken}
+use Rattle.tracker.proofs.TurnLaws.{turn-places, turn-refused, turn-observes, turn-taken}
 use borrow.Author.Needs.{needs}
 use Rattle.tracker.proofs.take_turn.Statement.{statement}
 use Rattle.tracker.proofs.take_turn.Tie as tie
 
 one-refusal-requires : tie.Need-one-refusal-requires
-one-refusal-requires c κs = turn-places (c .before .before .pre)
+one-refusal-requires c κs = turn-places (c .before .args .arrival) (c .before .pre)
 
 refused-turn-requires : tie.Need-refused-turn-requires
 refused-turn-requires c κs = search needs
@@ -13,29 +13,17 @@ refused-turn-requires c κs = search needs
 returns : tie.Need-returns
 returns c =
     let found = c .before .before in
-    let start = found .before .before .before in
-    turn-refused (start .args .arrival) (found .one-refusal .result) (found .one-refusal .ensures)
-    (c .before .if1 .taken) (c .refused-turn .result) (c .refused-turn .ensures)
-
-cast-which : tie.Need-cast-which
-cast-which c = search needs
-
-record-of-requires : tie.Need-record-of-requires
-record-of-requires c κs =
-    let tested = c .before in
-    let found = tested .before .one-refusal in
-    let start = tested .before .before .before .before in
-    turn-site (start .args .arrival) (found .result) (found .ensures) (tested .if1 .left)
-    (start .pre)
+    turn-refused (found .before .before .args .arrival) (found .one-refusal .result)
+    (found .one-refusal .ensures) (c .before .if1 .taken) (c .refused-turn .result)
+    (c .refused-turn .ensures)
 
 observe-requires : tie.Need-observe-requires
 observe-requires c κs =
-    let own = c .before .record-of in
-    let tested = c .before .before .before in
+    let tested = c .before in
     let found = tested .before .one-refusal in
-    let start = tested .before .before .before .before in
+    let start = tested .before .before .before in
     turn-observes (start .args .arrival) (found .result) (found .ensures) (tested .if1 .left)
-    (own .result) (own .ensures) (start .pre)
+    (start .pre)
 
 same-length : tie.Need-same-length
 same-length c = search needs
@@ -43,13 +31,11 @@ same-length c = search needs
 returns-2 : tie.Need-returns-2
 returns-2 c =
     let observes = c .before .before .before .before .before .observe in
-    let own = c .before .before .before .before .before .before .before .record-of in
-    let tested = c .before .before .before .before .before .before .before .before .before in
+    let tested = c .before .before .before .before .before .before .before in
     let found = tested .before .one-refusal in
-    let start = tested .before .before .before .before in
+    let start = tested .before .before .before in
     turn-taken (start .args .arrival) (found .result) (found .ensures) (tested .if1 .left)
-    (own .result) (own .ensures) (observes .result) (observes .last .1 .1 .1 .0)
-    (observes .ensures)
+    (observes .result) (observes .last .1 .1 .1 .0) (observes .ensures)
 
 pub take-turn-spec : {M : Type 1} → statement M
 take-turn-spec =
@@ -58,8 +44,6 @@ take-turn-spec =
     one-refusal-requires
     refused-turn-requires
     returns
-    cast-which
-    record-of-requires
     observe-requires
     same-length
     returns-2)

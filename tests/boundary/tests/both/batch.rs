@@ -26,6 +26,33 @@ pub fn numbers_of(settings: &Settings) -> [u32; 6] {
     [sites, epsilon, phi, rank, capacity, universe]
 }
 
+/// Both records as the boundary takes them, each with some numbers more.
+pub struct Records {
+    pub sites: [u64; 131],
+    pub coordinator: [u64; 12],
+}
+
+impl Records {
+    pub fn of(network: &TestNetwork) -> Records {
+        let coordinator = with_junk(network.coordinator.to_numbers());
+        Records { sites: site_numbers(&network.sites), coordinator }
+    }
+
+    /// After a call with this answer: the records go to the network, and nothing else has changed.
+    pub fn hand_back(&self, network: &mut TestNetwork, answer: u32) {
+        assert_eq!(self.sites[129..], [JUNK; 2]);
+        assert_eq!(self.coordinator[10..], [JUNK; 2]);
+        network.sites = sites_of(&self.sites);
+        let mut numbers = [0; 10];
+        numbers.copy_from_slice(&self.coordinator[..10]);
+        network.coordinator = CoordinatorRecord::from_numbers(numbers).expect("a phase");
+        // Numbers that the phase has not are 0.
+        if answer != UNFIT {
+            assert_eq!(network.coordinator.to_numbers(), numbers);
+        }
+    }
+}
+
 /// All sites' records as the boundary takes them, with some numbers more.
 fn site_numbers(sites: &Sites) -> [u64; 131] {
     let mut numbers = [JUNK; 131];
@@ -111,27 +138,17 @@ fn proved_batch(
         .iter()
         .map(|&Arrival { site, item, value }| boundary::Arrival { site, item, value })
         .collect();
-    let mut sites = site_numbers(&network.sites);
-    let mut coordinator = with_junk::<10, 12>(network.coordinator.to_numbers());
+    let mut records = Records::of(network);
     let mut out = [JUNK; 3];
     let batch = Batch {
-        sites: &mut sites,
-        coordinator: &mut coordinator,
+        sites: &mut records.sites,
+        coordinator: &mut records.coordinator,
         site_memory: &mut network.site_memory,
         coordinator_memory: &mut network.coordinator_memory,
         log,
         out: &mut out,
     };
     let refusal = boundary::run_batch(&numbers_of(&network.settings), &lent, batch);
-    assert_eq!(sites[129..], [JUNK; 2]);
-    assert_eq!(coordinator[10..], [JUNK; 2]);
-    network.sites = sites_of(&sites);
-    let mut numbers = [0; 10];
-    numbers.copy_from_slice(&coordinator[..10]);
-    network.coordinator = CoordinatorRecord::from_numbers(numbers).expect("a phase");
-    // Numbers that the phase has not are 0.
-    if refusal != UNFIT {
-        assert_eq!(network.coordinator.to_numbers(), numbers);
-    }
+    records.hand_back(network, refusal);
     (refusal, out)
 }

@@ -6,6 +6,7 @@
 #![allow(dead_code)]
 
 pub mod batch;
+pub mod delivery;
 
 use boundary::UNFIT;
 use reference::coordinator::{self, CoordinatorRecord};

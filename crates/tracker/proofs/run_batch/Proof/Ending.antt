@@ -5,8 +5,7 @@
 --   leaves    the rest of the body, once the loop is left
 --   ends      the turn at the end of the run
 --   refuses   the turn after a refusal
--- Numbers behind `look`, `init`, `forget`, `move` and `free1` count the context's items: eight
--- that are owned, then two to a local, the last local first.
+-- Numbers behind `move` count the context's items, as `cell` of Locals does.
 use mathlib.Core.Path.{_≡_, refl}
 use mathlib.Core.Bool.{Bool, false}
 use Prim.Native.Nat.{ℕ, _<_, _≤_}
@@ -36,10 +35,12 @@ use Rattle.model.proofs.CoordinatorRecord as D
 use Rattle.model.proofs.CoordinatorRecord.Laws as D′
 use Rattle.tracker.proofs.BatchAnswer as K
 use Rattle.tracker.proofs.BatchAnswer.Laws as K′
+use Rattle.tracker.proofs.Frame.{Places}
+use Rattle.tracker.proofs.Records.{VK, refusal-fits}
 use Rattle.tracker.proofs.run_batch as fun
 use Rattle.tracker.proofs.run_batch.Code.Mir as m
-use Rattle.tracker.proofs.run_batch.Proof.Parameters.{VK, Called, Typed, asked, Point, Owned, stayed, bound, Post, Logic}
-use Rattle.tracker.proofs.run_batch.Proof.Locals.{Places, locals, At, Left}
+use Rattle.tracker.proofs.run_batch.Proof.Parameters.{Called, Typed, asked, Point, Owned, stayed, bound, Post, Logic}
+use Rattle.tracker.proofs.run_batch.Proof.Locals.{cell, locals, At, Left}
 
 module _ {M : Type 1} (logic : Logic M) (f : Called) (ok : Typed f) where
   open Logic logic using (𝓤, H, A, W, mem, run, 𝓣)
@@ -103,38 +104,44 @@ module _ {M : Type 1} (logic : Logic M) (f : Called) (ok : Typed f) where
       (s .good) $ done !
 
   module _ (l : Places) where
-    open Places l using (l₁₅)
-
     leaves : (i : ℕ) (s : Point f) → BatchSays (asked f) (s .lent) (s .answer)
         → ent 𝓤 (⋆ 𝓤 H A (At logic f l i s))
-        (Wp 𝓤 H (𝓣 .C) (𝓣 .Λ) (locals logic f l) m.t-8
+        (Wp 𝓤 H (𝓣 .C) (𝓣 .Λ) (locals logic f l) m.t-9
         (atReturn 𝓤 H (locals logic f l) (Post 𝓤 H A mem run f)))
     leaves i s e =
         qed W (At logic f l i s) ∵
-        exec ! (𝓣 .C) (𝓣 .Λ) (locals logic f l) m.t-8
+        exec ! (𝓣 .C) (𝓣 .Λ) (locals logic f l) m.t-9
         (atRet (locals logic f l) (Post 𝓤 H A mem run f)) $
-        assigns ! (of-opd ! (load ! (from ! (stop !)) (look ! 50 refl))) (from ! (stop !))
-        (init ! 66 refl (LL.lawful K.the-type K′.the-laws 𝓤 H A W .typed (s .answer) _
+        assigns ! (of-opd ! (load ! (from ! (stop !)) (look ! (cell 8) refl))) (from ! (stop !))
+        (init ! (cell 0) refl (LL.lawful K.the-type K′.the-laws 𝓤 H A W .typed (s .answer) _
         (s .good) .0)) $
-        returns ! (look ! 66 refl) $
-        forget ! 48 refl $ forget ! 50 refl $ forget ! 52 refl $ forget ! 54 refl $
-        forget ! 56 refl $ forget ! 58 refl $ forget ! 60 refl $ forget ! 62 refl $
-        forget ! 64 refl $ forget ! 66 refl $
-        move ! (66 ∷ 67 ∷ []) $ free1 ! $ move ! (64 ∷ 65 ∷ []) $ free1 ! $
-        move ! (62 ∷ 63 ∷ []) $ free1 ! $ move ! (60 ∷ 61 ∷ []) $ free1 ! $
-        move ! (58 ∷ 59 ∷ []) $ free1 ! $ move ! (56 ∷ 57 ∷ []) $ free1 ! $
-        move ! (54 ∷ 55 ∷ []) $ free1 ! $ move ! (52 ∷ 53 ∷ []) $ free1 ! $
-        move ! (50 ∷ 51 ∷ []) $ free1 ! $ move ! (48 ∷ 49 ∷ []) $ free1 ! $
-        move ! (46 ∷ 47 ∷ []) $ free1 ! $ move ! (44 ∷ 45 ∷ []) $ free1 ! $
-        move ! (42 ∷ 43 ∷ []) $ free1 ! $ move ! (40 ∷ 41 ∷ []) $ free1 ! $
-        move ! (38 ∷ 39 ∷ []) $ free1 ! $ move ! (36 ∷ 37 ∷ []) $ free1 ! $
-        move ! (34 ∷ 35 ∷ []) $ free1 ! $ move ! (32 ∷ 33 ∷ []) $ free1 ! $
-        move ! (30 ∷ 31 ∷ []) $ free1 ! $ move ! (28 ∷ 29 ∷ []) $ free1 ! $
-        move ! (26 ∷ 27 ∷ []) $ free1 ! $ move ! (24 ∷ 25 ∷ []) $ free1 ! $
-        move ! (22 ∷ 23 ∷ []) $ free1 ! $ move ! (20 ∷ 21 ∷ []) $ free1 ! $
-        move ! (18 ∷ 19 ∷ []) $ free1 ! $ move ! (16 ∷ 17 ∷ []) $ free1 ! $
-        move ! (14 ∷ 15 ∷ []) $ free1 ! $ move ! (12 ∷ 13 ∷ []) $ free1 ! $
-        move ! (10 ∷ 11 ∷ []) $ free1 ! $ move ! (8 ∷ 9 ∷ []) $ free1 ! $ free0 ! $
+        returns ! (look ! (cell 0) refl) $
+        forget ! (cell 9) refl $ forget ! (cell 8) refl $ forget ! (cell 7) refl $
+        forget ! (cell 6) refl $ forget ! (cell 5) refl $ forget ! (cell 4) refl $
+        forget ! (cell 3) refl $ forget ! (cell 2) refl $ forget ! (cell 1) refl $
+        forget ! (cell 0) refl $
+        move ! (92 ∷ 93 ∷ []) $ free1 ! $ move ! (90 ∷ 91 ∷ []) $ free1 ! $
+        move ! (88 ∷ 89 ∷ []) $ free1 ! $ move ! (86 ∷ 87 ∷ []) $ free1 ! $
+        move ! (84 ∷ 85 ∷ []) $ free1 ! $ move ! (82 ∷ 83 ∷ []) $ free1 ! $
+        move ! (80 ∷ 81 ∷ []) $ free1 ! $ move ! (78 ∷ 79 ∷ []) $ free1 ! $
+        move ! (76 ∷ 77 ∷ []) $ free1 ! $ move ! (74 ∷ 75 ∷ []) $ free1 ! $
+        move ! (72 ∷ 73 ∷ []) $ free1 ! $ move ! (70 ∷ 71 ∷ []) $ free1 ! $
+        move ! (68 ∷ 69 ∷ []) $ free1 ! $ move ! (66 ∷ 67 ∷ []) $ free1 ! $
+        move ! (64 ∷ 65 ∷ []) $ free1 ! $ move ! (62 ∷ 63 ∷ []) $ free1 ! $
+        move ! (60 ∷ 61 ∷ []) $ free1 ! $ move ! (58 ∷ 59 ∷ []) $ free1 ! $
+        move ! (56 ∷ 57 ∷ []) $ free1 ! $ move ! (54 ∷ 55 ∷ []) $ free1 ! $
+        move ! (52 ∷ 53 ∷ []) $ free1 ! $ move ! (50 ∷ 51 ∷ []) $ free1 ! $
+        move ! (48 ∷ 49 ∷ []) $ free1 ! $ move ! (46 ∷ 47 ∷ []) $ free1 ! $
+        move ! (44 ∷ 45 ∷ []) $ free1 ! $ move ! (42 ∷ 43 ∷ []) $ free1 ! $
+        move ! (40 ∷ 41 ∷ []) $ free1 ! $ move ! (38 ∷ 39 ∷ []) $ free1 ! $
+        move ! (36 ∷ 37 ∷ []) $ free1 ! $ move ! (34 ∷ 35 ∷ []) $ free1 ! $
+        move ! (32 ∷ 33 ∷ []) $ free1 ! $ move ! (30 ∷ 31 ∷ []) $ free1 ! $
+        move ! (28 ∷ 29 ∷ []) $ free1 ! $ move ! (26 ∷ 27 ∷ []) $ free1 ! $
+        move ! (24 ∷ 25 ∷ []) $ free1 ! $ move ! (22 ∷ 23 ∷ []) $ free1 ! $
+        move ! (20 ∷ 21 ∷ []) $ free1 ! $ move ! (18 ∷ 19 ∷ []) $ free1 ! $
+        move ! (16 ∷ 17 ∷ []) $ free1 ! $ move ! (14 ∷ 15 ∷ []) $ free1 ! $
+        move ! (12 ∷ 13 ∷ []) $ free1 ! $ move ! (10 ∷ 11 ∷ []) $ free1 ! $
+        move ! (8 ∷ 9 ∷ []) $ free1 ! $ free0 ! $
         by ! (exits s e)
 
     pub ends : (i : ℕ) (s : Point f) (X : SProp 𝓤) → length (f .arrivals .list) ≤ i
@@ -144,18 +151,19 @@ module _ {M : Type 1} (logic : Logic M) (f : Called) (ok : Typed f) where
     unfolding afterTurn
     ends i s X past e =
         qed W (At logic f l i s) ∵
-        exec ! (𝓣 .C) (𝓣 .Λ) (locals logic f l) m.turn-1 (anyQ (afterTurn 𝓤 H X (Left logic f l))) $
+        exec ! (𝓣 .C) (𝓣 .Λ) (locals logic f l) m.turn-1
+        (anyQ (afterTurn 𝓤 H X (Left logic f l))) $
         -- the length of the run, and the first test, which fails
         assigns ! (of-opd ! (load ! (from ! (fld ! refl (stop !)))
-        (look-in ! 58 (sub ! 1 refl (whole !))))) (from ! (stop !))
-        (init ! 34 refl (tt, record { fits = ok .arrivals-room .0 })) $
-        assigns ! (bin ! (load ! (from ! (stop !)) (look ! 48 refl))
-        (load ! (from ! (stop !)) (look ! 34 refl)) tt) (from ! (stop !))
-        (init ! 36 refl (tt, tt)) $
-        rewrite ! 36 (λ (t : Bool). ‵ (fat fullShare tyBool l₁₅ 0 (vbool t)))
+        (look-in ! (cell 4) (sub ! 1 refl (whole !))))) (from ! (stop !))
+        (init ! (cell 20) refl (tt, record { fits = ok .arrivals-room .0 })) $
+        assigns ! (bin ! (load ! (from ! (stop !)) (look ! (cell 9) refl))
+        (load ! (from ! (stop !)) (look ! (cell 20) refl)) tt) (from ! (stop !))
+        (init ! (cell 19) refl (tt, tt)) $
+        rewrite ! (cell 19) (λ (t : Bool). ‵ (fat fullShare tyBool (l 19) 0 (vbool t)))
         (le-ltb i (length (f .arrivals .list)) past) refl $
-        first ! $ branches ! (load ! (from ! (stop !)) (look ! 36 refl)) (λ z. absurd z) (λ _.
-        jumps ! $ forget ! 34 refl $ forget ! 36 refl $ by ! (leaves i s e))
+        first ! $ branches ! (load ! (from ! (stop !)) (look ! (cell 19) refl)) (λ z. absurd z)
+        (λ _. jumps ! $ forget ! (cell 20) refl $ forget ! (cell 19) refl $ by ! (leaves i s e))
 
     pub refuses : (i : ℕ) (s : Point f) (X : SProp 𝓤) → i < length (f .arrivals .list)
         → eqb (s .answer .refusal) 0 ≡ false
@@ -165,24 +173,29 @@ module _ {M : Type 1} (logic : Logic M) (f : Called) (ok : Typed f) where
     unfolding afterTurn
     refuses i s X within refused e =
         qed W (At logic f l i s) ∵
-        exec ! (𝓣 .C) (𝓣 .Λ) (locals logic f l) m.turn-1 (anyQ (afterTurn 𝓤 H X (Left logic f l))) $
+        exec ! (𝓣 .C) (𝓣 .Λ) (locals logic f l) m.turn-1
+        (anyQ (afterTurn 𝓤 H X (Left logic f l))) $
         -- the length of the run, and the first test, which holds
         assigns ! (of-opd ! (load ! (from ! (fld ! refl (stop !)))
-        (look-in ! 58 (sub ! 1 refl (whole !))))) (from ! (stop !))
-        (init ! 34 refl (tt, record { fits = ok .arrivals-room .0 })) $
-        assigns ! (bin ! (load ! (from ! (stop !)) (look ! 48 refl))
-        (load ! (from ! (stop !)) (look ! 34 refl)) tt) (from ! (stop !))
-        (init ! 36 refl (tt, tt)) $
-        rewrite ! 36 (λ (t : Bool). ‵ (fat fullShare tyBool l₁₅ 0 (vbool t)))
+        (look-in ! (cell 4) (sub ! 1 refl (whole !))))) (from ! (stop !))
+        (init ! (cell 20) refl (tt, record { fits = ok .arrivals-room .0 })) $
+        assigns ! (bin ! (load ! (from ! (stop !)) (look ! (cell 9) refl))
+        (load ! (from ! (stop !)) (look ! (cell 20) refl)) tt) (from ! (stop !))
+        (init ! (cell 19) refl (tt, tt)) $
+        rewrite ! (cell 19) (λ (t : Bool). ‵ (fat fullShare tyBool (l 19) 0 (vbool t)))
         (lt-ltb i (length (f .arrivals .list)) within) refl $
-        first ! $ branches ! (load ! (from ! (stop !)) (look ! 36 refl)) (λ _.
+        first ! $ branches ! (load ! (from ! (stop !)) (look ! (cell 19) refl)) (λ _.
         -- the second test, which fails
-        assigns ! (bin ! (load ! (from ! (fld ! refl (stop !)))
-        (look-in ! 50 (sub ! 0 refl (whole !)))) (lit ! tt) tt) (from ! (stop !))
-        (store ! 36 refl (tt, tt)) $
-        rewrite ! 36 (λ (t : Bool). ‵ (fat fullShare tyBool l₁₅ 0 (vbool t))) refused refl $
-        assigns ! (of-opd ! (load ! (from ! (stop !)) (look ! 36 refl))) (from ! (stop !))
-        (init ! 32 refl (tt, tt)) $
-        branches ! (load ! (from ! (stop !)) (look ! 32 refl)) (λ z. absurd z) (λ _.
-        jumps ! $ forget ! 32 refl $ forget ! 34 refl $ forget ! 36 refl $
+        assigns ! (of-opd ! (load ! (from ! (fld ! refl (stop !)))
+        (look-in ! (cell 8) (sub ! 0 refl (whole !))))) (from ! (stop !))
+        (init ! (cell 21) refl (tt, record { fits = refusal-fits (s .answer) (s .good) })) $
+        assigns ! (bin ! (load ! (from ! (stop !)) (look ! (cell 21) refl)) (lit ! tt) tt)
+        (from ! (stop !)) (store ! (cell 19) refl (tt, tt)) $
+        rewrite ! (cell 19) (λ (t : Bool). ‵ (fat fullShare tyBool (l 19) 0 (vbool t))) refused
+        refl $
+        assigns ! (of-opd ! (load ! (from ! (stop !)) (look ! (cell 19) refl))) (from ! (stop !))
+        (init ! (cell 22) refl (tt, tt)) $
+        branches ! (load ! (from ! (stop !)) (look ! (cell 22) refl)) (λ z. absurd z) (λ _.
+        jumps ! $ forget ! (cell 22) refl $ forget ! (cell 21) refl $ forget ! (cell 20) refl $
+        forget ! (cell 19) refl $
         by ! (leaves i s e))) (λ z. absurd z)

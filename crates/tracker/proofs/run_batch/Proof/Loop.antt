@@ -19,9 +19,10 @@ use Rattle.model.specs.declared.Arrival.{Arrival}
 use Rattle.tracker.specs.Steps.{OneSays}
 use Rattle.tracker.proofs.WalkLaws.{Walked, walked-asks, walked-step, walked-done, walked-stopped}
 use Rattle.tracker.proofs.Tail.{Tail, all-left, within, is-head, after, past-end}
+use Rattle.tracker.proofs.Frame.{Places}
 use Rattle.tracker.proofs.run_batch.Code.Mir as m
 use Rattle.tracker.proofs.run_batch.Proof.Parameters.{Called, Typed, asked, none, Point, Post, Logic}
-use Rattle.tracker.proofs.run_batch.Proof.Locals.{Places, locals, At, Left}
+use Rattle.tracker.proofs.run_batch.Proof.Locals.{locals, At, Left}
 use Rattle.tracker.proofs.run_batch.Proof.Turn.{takes}
 use Rattle.tracker.proofs.run_batch.Proof.Ending.{ends, refuses}
 
@@ -68,6 +69,6 @@ module _ {M : Type 1} (logic : Logic M) (f : Called) (ok : Typed f) (l : Places)
 
   pub starts : (s : Point f) → Walked (asked f) (f .arrivals .list) (s .answer) (s .lent)
       → Sq W (At logic f l 0 s)
-      (runs (𝓣 .C) (𝓣 .Λ) (locals logic f l) m.t-7
+      (runs (𝓣 .C) (𝓣 .Λ) (locals logic f l) m.t-8
       (atRet (locals logic f l) (Post 𝓤 H A mem run f)))
   starts s w = first ! $ blocks ! $ by ! (looped s w)

@@ -1,8 +1,8 @@
 -- What `run_batch` is called with and what it has to hand back, as the machine and the ghost
 -- state have them.
 --
---   VS, VP, VD, VT, VK, VN   the machine's values of settings, `Sites`, the coordinator's record,
---                        an arrival, an answer and a turn
+--   VS, VP, VD, VT       the machine's values of settings, `Sites`, the coordinator's record and
+--                        an arrival
 --   Called               the parameters: three structs by value, and four lent slices
 --   Typed                they are values of their types
 --   asked                all of it as the contract reads it
@@ -10,7 +10,7 @@
 --   answered             the same with another answer
 --   Owned                what is owned then, with the tokens of the lifetimes
 --   Post                 what is to be had at the end
---   Opens, Takes, Counts, Delivers   the contracts of `open_batch`, `take_turn`, `count_turn` and
+--   Opens, Finds, Takes, Delivers   the contracts of `open_batch`, `place_of`, `take_turn` and
 --                        `deliver_turn`
 --   Logic                what the proof knows: the rules, and that these functions meet their
 --                        contracts
@@ -43,7 +43,6 @@ use Rattle.model.specs.declared.Arrival.{Arrival}
 use Rattle.model.specs.declared.Sites.{Sites}
 use Rattle.model.specs.declared.CoordinatorRecord.{CoordinatorRecord}
 use Rattle.tracker.specs.declared.BatchAnswer.{BatchAnswer}
-use Rattle.tracker.specs.declared.Turn.{Turn}
 use Rattle.tracker.specs.Batch.{BatchCall, BatchLent}
 use Rattle.model.proofs.Settings as S
 use Rattle.model.proofs.Settings.Laws as S′
@@ -54,18 +53,16 @@ use Rattle.model.proofs.CoordinatorRecord.Laws as D′
 use Rattle.model.proofs.Arrival as T
 use Rattle.model.proofs.Arrival.Laws as T′
 use Rattle.tracker.proofs.BatchAnswer as K
-use Rattle.tracker.proofs.BatchAnswer.Laws as K′
-use Rattle.tracker.proofs.Turn as N
-use Rattle.tracker.proofs.Turn.Laws as N′
 use Rattle.tracker.proofs.Lending.{Lending, listed, value}
 use Rattle.tracker.proofs.Again.{Held-at}
 use Rattle.tracker.proofs.Elem.{Looked}
+use Rattle.tracker.proofs.Records.{VK}
 use Rattle.tracker.proofs.open_batch as opening
 use Rattle.tracker.proofs.open_batch.Symbol.{name as #tracker·open-batch}
+use Rattle.tracker.proofs.place_of as finding
+use Rattle.tracker.proofs.place_of.Symbol.{name as #tracker·place-of}
 use Rattle.tracker.proofs.take_turn as taking
 use Rattle.tracker.proofs.take_turn.Symbol.{name as #tracker·take-turn}
-use Rattle.tracker.proofs.count_turn as counting
-use Rattle.tracker.proofs.count_turn.Symbol.{name as #tracker·count-turn}
 use Rattle.tracker.proofs.deliver_turn as delivering
 use Rattle.tracker.proofs.deliver_turn.Symbol.{name as #tracker·deliver-turn}
 use Rattle.tracker.proofs.run_batch as fun
@@ -83,12 +80,6 @@ VD = LL.val D.the-type D′.the-laws
 
 abbrev pub VT : Arrival → Val
 VT = LL.val T.the-type T′.the-laws
-
-abbrev pub VK : BatchAnswer → Val
-VK = LL.val K.the-type K′.the-laws
-
-abbrev pub VN : Turn → Val
-VN = LL.val N.the-type N′.the-laws
 
 pub record Called : Type 0 where
   pub settings : Settings
@@ -230,11 +221,11 @@ module _ {M : Type 1} (𝓤 : URA M) (H : Heap 𝓤) (A : Atoms 𝓤) (mem : Mem
   abbrev pub Opens : Contract 𝓤
   Opens = tripleOf 𝓤 H A opening.signature (opening.spec 𝓤 H A mem run)
 
+  abbrev pub Finds : Contract 𝓤
+  Finds = tripleOf 𝓤 H A finding.signature (finding.spec 𝓤 H A mem run)
+
   abbrev pub Takes : Contract 𝓤
   Takes = tripleOf 𝓤 H A taking.signature (taking.spec 𝓤 H A mem run)
-
-  abbrev pub Counts : Contract 𝓤
-  Counts = tripleOf 𝓤 H A counting.signature (counting.spec 𝓤 H A mem run)
 
   abbrev pub Delivers : Contract 𝓤
   Delivers = tripleOf 𝓤 H A delivering.signature (delivering.spec 𝓤 H A mem run)
@@ -248,6 +239,6 @@ pub record Logic (M : Type 1) : Type 2 where
   pub run : Routine → Fun 𝓤
   pub 𝓣 : Tables 𝓤 H
   pub opens-known : Triple 𝓤 (𝓣 .C #tracker·open-batch) (Opens 𝓤 H A mem run)
+  pub finds-known : Triple 𝓤 (𝓣 .C #tracker·place-of) (Finds 𝓤 H A mem run)
   pub takes-known : Triple 𝓤 (𝓣 .C #tracker·take-turn) (Takes 𝓤 H A mem run)
-  pub counts-known : Triple 𝓤 (𝓣 .C #tracker·count-turn) (Counts 𝓤 H A mem run)
   pub delivers-known : Triple 𝓤 (𝓣 .C #tracker·deliver-turn) (Delivers 𝓤 H A mem run)

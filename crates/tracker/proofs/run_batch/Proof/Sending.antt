@@ -1,12 +1,13 @@
--- The end of a turn of `run_batch`'s loop: the turn is counted, its messages, if it has any, are
--- delivered, and the next arrival's turn comes.
+-- The end of a turn of `run_batch`'s loop: its messages, if it has any, are delivered, and the next
+-- arrival's turn comes.
 --
---   counts   from where the turn was taken to the loop's test again, at the next index
--- Numbers behind `look`, `init`, `store`, `forget` and `move` count the context's items, as in
--- Ending.
+--   work, seen, taken, sending   what a turn runs after its test, after it has read the record,
+--           after `take_turn`, and after it was counted
+--   sends   from where the turn was counted to the loop's test again, at the next index
+-- Numbers behind `move` count the context's items, as `cell` of Locals does.
 use mathlib.Core.Path.{_≡_, refl, _∙_, ap, subst}
 use mathlib.Core.Bool.{Bool, true, false, not}
-use Prim.Native.Nat.{ℕ, _<_, _^_, _+_}
+use Prim.Native.Nat.{ℕ, zero, suc, _<_, _^_, _+_}
 use native.Mathlib.Omega.{arith}
 use mathlib.Core.List.{List, [], _∷_}
 use lib.Dec.{T as Holds, eqb}
@@ -18,31 +19,33 @@ use mir.Val.{Val}
 use base.Logic.{SProp, ent, id⊢}
 use base.Fml.{ftrue, fat, flft}
 use prog.Wp.{Wp, afterTurn}
-use types.Kit.{‵, raw, _⊛_, ⋆, anyQ, Sq, runs, _$_, _∵_, !, qed, by, move, drop, use0, use1, group, split, rewrite, fsplit, feqL}
-use types.Part.{agg, whole, sub, look-in}
-use types.Run.{look, init, store, forget, stop, hop, fld, from, load, addr, lit, bin, and-then, no-more, assigns, assigns-last, branches, skips, first, exec, land, land-last}
+use types.Kit.{‵, raw, _⊛_, ⋆, anyQ, Sq, runs, _$_, _∵_, !, qed, by, move, drop, use1, group, split, rewrite, fsplit, feqL}
+use types.Part.{whole, sub, look-in}
+use types.Run.{look, init, store, forget, stop, fld, from, load, lit, of-opd, bin, and-then, no-more, assigns, assigns-last, branches, skips, first, exec, land}
 use sound.WpLaws.{fmOf}
 use denote.Laws.{Is}
 use denote.Builtin.{u32, u64}
 use denote.Steps.{only}
 use denote.Struct.Laws as LL
-use denote.Triple.Call.{calls-at, calls-at-last}
+use denote.Triple.Call.{calls-at}
 use denote.Triple.Clauses.{lasts}
 use Rattle.tracker.specs.declared.BatchAnswer.{BatchAnswer}
 use Rattle.tracker.specs.declared.Turn.{Turn}
 use Rattle.tracker.specs.Steps.{lentOf}
-use Rattle.tracker.specs.Turns.{counted, CountAsks, DeliverAsks, DeliverSays}
+use Rattle.tracker.specs.Turns.{DeliverAsks, DeliverSays}
 use Rattle.tracker.proofs.BatchAnswer as K
 use Rattle.tracker.proofs.BatchAnswer.Laws as K′
 use Rattle.tracker.proofs.Turn as N
 use Rattle.tracker.proofs.Again.{lends, returned}
+use Rattle.tracker.proofs.Frame.{Places}
 use Rattle.tracker.proofs.Promised.{promised}
-use Rattle.tracker.proofs.count_turn as counting
+use Rattle.tracker.proofs.Reborrow.{reborrows}
+use Rattle.tracker.proofs.Records.{VN}
 use Rattle.tracker.proofs.deliver_turn as delivering
 use Rattle.tracker.proofs.run_batch.Code.Mir as m
-use Rattle.tracker.proofs.run_batch.Proof.Parameters.{VK, VN, Called, Typed, Point, answered, Counts, Delivers, Logic}
-use Rattle.tracker.proofs.run_batch.Proof.LendsTurn.{counts-passed, counts-to, counts-goes, DeliversWith, delivers-passed, delivers-to, delivers-goes}
-use Rattle.tracker.proofs.run_batch.Proof.Locals.{Places, locals, At, Told, Left}
+use Rattle.tracker.proofs.run_batch.Proof.Parameters.{Called, Typed, Point, Delivers, Logic}
+use Rattle.tracker.proofs.run_batch.Proof.LendsTurn.{DeliversWith, delivers-passed, delivers-to, delivers-goes}
+use Rattle.tracker.proofs.run_batch.Proof.Locals.{behind, cell, locals, At, Counted, Left}
 
 next-fits : (i n : ℕ) → i < n → n < 2 ^ 64 → i + 1 < 2 ^ 64
 next-fits i n within room = omega (arith, within, room)
@@ -71,38 +74,44 @@ rest-of (exit k) = skip
 rest-of return = skip
 rest-of (call f xs d) = skip
 
--- What a turn runs after its test, after `take_turn` and after `count_turn`, and its last
--- statement.
+-- What runs after so many statements.
+abbrev later-on : ℕ → Body → Body
+later-on zero body = body
+later-on (suc n) body = later-on n (rest-of body)
+
 abbrev pub work : Body
-work = rest-of (rest-of (rest-of m.turn-1))
+work = later-on 3 m.turn-1
+
+abbrev pub seen : Body
+seen = later-on 10 work
 
 abbrev pub taken : Body
-taken = rest-of (rest-of (rest-of (rest-of (rest-of (rest-of (rest-of work))))))
+taken = later-on 5 seen
 
-abbrev sending : Body
-sending = rest-of taken
+abbrev pub sending : Body
+sending = later-on 8 taken
 
 abbrev last : Body
-last = rest-of (rest-of sending)
+last = later-on 2 sending
 
 module _ {M : Type 1} (logic : Logic M) (f : Called) (ok : Typed f) (l : Places) (i : ℕ)
     (within : i < length (f .arrivals .list)) (turn : Turn) (is : Is N.the-row turn (VN turn ∷ []))
     (X : SProp (logic .𝓤)) where
-  open Logic logic using (𝓤, H, A, W, mem, run, 𝓣, counts-known, delivers-known)
-  open Places l using (l₈)
+  open Logic logic using (𝓤, H, A, W, mem, run, 𝓣, delivers-known)
 
   -- The next index.
   steps : (s : Point f) → ent 𝓤 (⋆ 𝓤 H A (At logic f l (i + 1) s)) X
-      → ent 𝓤 (⋆ 𝓤 H A (Told logic f l i turn s))
+      → ent 𝓤 (⋆ 𝓤 H A (Counted logic f l i turn s))
       (Wp 𝓤 H (𝓣 .C) (𝓣 .Λ) (locals logic f l) last (afterTurn 𝓤 H X (Left logic f l)))
   unfolding afterTurn
   steps s k =
       let fits = next-fits i (length (f .arrivals .list)) within (ok .arrivals-room .0) in
-      qed W (Told logic f l i turn s) ∵
+      qed W (Counted logic f l i turn s) ∵
       exec ! (𝓣 .C) (𝓣 .Λ) (locals logic f l) last (anyQ (afterTurn 𝓤 H X (Left logic f l))) $
-      assigns-last ! (bin ! (load ! (from ! (stop !)) (look ! 48 refl)) (lit ! tt)
-      (record { fits = fits })) (from ! (stop !)) (store ! 48 refl (tt, record { fits = fits })) $
-      forget ! 46 refl $ by ! k
+      assigns-last ! (bin ! (load ! (from ! (stop !)) (look ! (cell 9) refl)) (lit ! tt)
+      (record { fits = fits })) (from ! (stop !))
+      (store ! (cell 9) refl (tt, record { fits = fits })) $
+      forget ! (cell 13) refl $ by ! k
 
   -- ---- The messages
 
@@ -116,39 +125,30 @@ module _ {M : Type 1} (logic : Logic M) (f : Called) (ok : Typed f) (l : Places)
         DeliverSays (f .settings) turn (s .answer) (s .lent) r
         (lentOf (ws .1 .1 .1 .0) (ws .1 .1 .1 .1 .0) (ws .1 .1 .1 .1 .1 .0))
 
-    sends : ((turn .out .count ≡ 0 → ⊥) → DeliverAsks (f .settings) turn (s .answer) (s .lent))
+    pub sends : ((turn .out .count ≡ 0 → ⊥) → DeliverAsks (f .settings) turn (s .answer) (s .lent))
         → (turn .out .count ≡ 0 → ent 𝓤 (⋆ 𝓤 H A (At logic f l (i + 1) s)) X)
         → ((s′ : Point f) → (turn .out .count ≡ 0 → ⊥)
         → DeliverSays (f .settings) turn (s .answer) (s .lent) (s′ .answer) (s′ .lent)
         → ent 𝓤 (⋆ 𝓤 H A (At logic f l (i + 1) s′)) X)
-        → Sq W (Told logic f l i turn s)
+        → Sq W (Counted logic f l i turn s)
         (runs (𝓣 .C) (𝓣 .Λ) (locals logic f l) sending
         (anyQ (afterTurn 𝓤 H X (Left logic f l))))
     sends asks quiet loud =
         assigns ! (bin ! (load ! (from ! (fld ! refl (fld ! refl (stop !))))
-        (look-in ! 46 (sub ! 0 refl (sub ! 3 refl (whole !))))) (lit ! tt) tt) (from ! (stop !))
-        (init ! 20 refl (tt, tt)) $
-        first ! $ branches ! (load ! (from ! (stop !)) (look ! 20 refl)) (λ test.
+        (look-in ! (cell 13) (sub ! 0 refl (sub ! 3 refl (whole !))))) (lit ! tt) tt)
+        (from ! (stop !)) (init ! (cell 34) refl (tt, tt)) $
+        first ! $ branches ! (load ! (from ! (stop !)) (look ! (cell 34) refl)) (λ test.
         let some = some-of (turn .out .count) test in
+        assigns ! (of-opd ! (load ! (from ! (stop !)) (look ! (cell 8) refl))) (from ! (stop !))
+        (init ! (cell 36) refl
+        (LL.lawful K.the-type K′.the-laws 𝓤 H A W .typed (s .answer) _ (s .good) .0)) $
         -- both memories and the log are lent again
-        assigns ! (addr ! (from ! (fld ! refl (hop ! (look-in ! 56 (sub ! 0 refl (whole !)))
-        (stop !))))) (from ! (stop !)) (init ! 18 refl (tt, tt)) $
-        assigns ! (agg ! (and-then ! (load ! (from ! (stop !)) (look ! 18 refl))
-        (and-then ! (load ! (from ! (fld ! refl (stop !))) (look-in ! 56 (sub ! 1 refl (whole !))))
-        (no-more !)))) (from ! (stop !))
-        (init ! 16 refl (tt, (tt, (record { fits = ok .site-memory-room .0 }, tt)))) $
-        assigns ! (addr ! (from ! (fld ! refl (hop ! (look-in ! 54 (sub ! 0 refl (whole !)))
-        (stop !))))) (from ! (stop !)) (init ! 14 refl (tt, tt)) $
-        assigns ! (agg ! (and-then ! (load ! (from ! (stop !)) (look ! 14 refl))
-        (and-then ! (load ! (from ! (fld ! refl (stop !))) (look-in ! 54 (sub ! 1 refl (whole !))))
-        (no-more !)))) (from ! (stop !))
-        (init ! 12 refl (tt, (tt, (record { fits = ok .coordinator-memory-room .0 }, tt)))) $
-        assigns ! (addr ! (from ! (fld ! refl (hop ! (look-in ! 52 (sub ! 0 refl (whole !)))
-        (stop !))))) (from ! (stop !)) (init ! 10 refl (tt, tt)) $
-        assigns ! (agg ! (and-then ! (load ! (from ! (stop !)) (look ! 10 refl))
-        (and-then ! (load ! (from ! (fld ! refl (stop !))) (look-in ! 52 (sub ! 1 refl (whole !))))
-        (no-more !)))) (from ! (stop !))
-        (init ! 8 refl (tt, (tt, (record { fits = ok .log-room .0 }, tt)))) $
+        reborrows ! (cell 5) (cell 37) (cell 38) refl refl refl refl refl refl refl refl
+        (ok .site-memory-room .0) $
+        reborrows ! (cell 6) (cell 39) (cell 40) refl refl refl refl refl refl refl refl
+        (ok .coordinator-memory-room .0) $
+        reborrows ! (cell 7) (cell 41) (cell 42) refl refl refl refl refl refl refl refl
+        (ok .log-room .0) $
         move ! (2 ∷ 3 ∷ []) $
         lends u32 (f .siteMemory) (named 1) (named 0) (s .lent .siteMemory) ! tt (λ ν₁ δ₁.
         move ! (5 ∷ 6 ∷ []) $
@@ -156,24 +156,24 @@ module _ {M : Type 1} (logic : Logic M) (f : Called) (ok : Typed f) (l : Places)
         (λ ν₂ δ₂. move ! (8 ∷ 9 ∷ []) $
         lends u64 (f .log) (named 3) (named 2) (s .lent .log) ! tt (λ ν₃ δ₃.
         let for : DeliversWith = record { ν₁ = ν₁; ν₂ = ν₂; ν₃ = ν₃; δ₁ = δ₁; δ₂ = δ₂; δ₃ = δ₃ } in
-        -- [log; kept; ν₃; coordinator's; kept; ν₂; sites'; kept; ν₁; the run; κ; _29; …]
+        -- [log; kept; ν₃; coordinator's; kept; ν₂; sites'; kept; ν₁; the run; κ; _42; …]
         move ! (8 ∷ 5 ∷ 2 ∷ 6 ∷ 3 ∷ 0 ∷ []) $ group ! 6 $
         use1 W (raw (Delivers 𝓤 H A mem run .pre (delivers-to logic f s turn for)))
         (delivers-goes logic f s turn for (asks some) ok is) $
-        calls-at-last ! (fmOf 𝓤 H (W .laws) 𝓣) (Delivers 𝓤 H A mem run) delivers-known
+        calls-at ! (fmOf 𝓤 H (W .laws) 𝓣) (Delivers 𝓤 H A mem run) delivers-known
         (delivers-to logic f s turn for)
-        (and-then ! (load ! (from ! (stop !)) (look ! 62 refl))
-        (and-then ! (load ! (from ! (stop !)) (look ! 48 refl))
-        (and-then ! (load ! (from ! (stop !)) (look ! 44 refl))
-        (and-then ! (load ! (from ! (stop !)) (look ! 14 refl))
-        (and-then ! (load ! (from ! (stop !)) (look ! 10 refl))
-        (and-then ! (load ! (from ! (stop !)) (look ! 6 refl)) (no-more !))))))) (λ u.
+        (and-then ! (load ! (from ! (stop !)) (look ! (behind 6 1) refl))
+        (and-then ! (load ! (from ! (stop !)) (look ! (behind 6 36) refl))
+        (and-then ! (load ! (from ! (stop !)) (look ! (behind 6 13) refl))
+        (and-then ! (load ! (from ! (stop !)) (look ! (behind 6 38) refl))
+        (and-then ! (load ! (from ! (stop !)) (look ! (behind 6 40) refl))
+        (and-then ! (load ! (from ! (stop !)) (look ! (behind 6 42) refl)) (no-more !))))))) (λ u.
         promised ! tt K.the-row u
         (‵ (flft (ν₁ ∷ []) fullShare) ⊛ (‵ (flft (ν₂ ∷ []) fullShare)
         ⊛ (‵ (flft (ν₃ ∷ []) fullShare) ⊛ ‵ ftrue)))
         (lasts delivering.ended (ν₁ ∷ [], (ν₂ ∷ [], (ν₃ ∷ [], tt)))
         (delivers-passed logic f s turn for)) Said (id⊢ 𝓤 _) (λ r ws e good.
-        -- [the tokens; the last lists; kept; kept; kept; the run; κ; _29; …]
+        -- [the tokens; the last lists; kept; kept; kept; the run; κ; _42; …]
         move ! (1 ∷ []) $ fsplit ! $ drop ! $ fsplit ! $ drop ! $ fsplit ! $ drop ! $
         fsplit ! $ fsplit ! $ move ! (1 ∷ []) $ feqL ! (λ lm. move ! (1 ∷ []) $
         fsplit ! $ fsplit ! $ move ! (1 ∷ []) $ feqL ! (λ lc. move ! (1 ∷ []) $
@@ -186,18 +186,24 @@ module _ {M : Type 1} (logic : Logic M) (f : Called) (ok : Typed f) (l : Places)
         ν₂ δ₂ _ lc $
         move ! (2 ∷ []) $ split ! $ move ! (0 ∷ 8 ∷ 6 ∷ []) $
         returned u64 (f .log) (named 3) (named 2) (s .lent .log) ! tt ν₃ δ₃ _ ll $
-        -- [log; κ₃; true; coordinator's; κ₂; sites'; κ₁; true; the run; κ; _29; …]
+        -- [log; κ₃; true; coordinator's; κ₂; sites'; κ₁; true; the run; κ; _42; …]
         move ! (2 ∷ 7 ∷ []) $ drop ! $ drop ! $ move ! (6 ∷ 7 ∷ 4 ∷ 5 ∷ 2 ∷ 3 ∷ 0 ∷ 1 ∷ []) $
-        land-last ! (from ! (stop !))
-        (store ! 50 refl (LL.lawful K.the-type K′.the-laws 𝓤 H A W .typed r _ good .0)) $
-        rewrite ! 50 (λ (w : Val). ‵ (fat fullShare K′.mir l₈ 0 w))
+        land ! (from ! (stop !))
+        (init ! (cell 35) refl (LL.lawful K.the-type K′.the-laws 𝓤 H A W .typed r _ good .0)) $
+        rewrite ! (cell 35) (λ (w : Val). ‵ (fat fullShare K′.mir (l 35) 0 w))
         (ap only (LL.tells K.the-type K′.the-laws r (u ∷ []) good)) refl $
-        forget ! 8 refl $ forget ! 10 refl $ forget ! 12 refl $ forget ! 14 refl $
-        forget ! 16 refl $ forget ! 18 refl $ forget ! 20 refl $
-        (let s′ : Point f = record {
+        (let good′ = subst (Is K.the-row r) (LL.tells K.the-type K′.the-laws r (u ∷ []) good)
+        good in
+        assigns-last ! (of-opd ! (load ! (from ! (stop !)) (look ! (cell 35) refl)))
+        (from ! (stop !))
+        (store ! (cell 8) refl (LL.lawful K.the-type K′.the-laws 𝓤 H A W .typed r _ good′ .0)) $
+        forget ! (cell 34) refl $ forget ! (cell 35) refl $ forget ! (cell 36) refl $
+        forget ! (cell 37) refl $ forget ! (cell 38) refl $ forget ! (cell 39) refl $
+        forget ! (cell 40) refl $ forget ! (cell 41) refl $ forget ! (cell 42) refl $
+        let s′ : Point f = record {
           answer = r;
           lent = lentOf (ws .1 .1 .1 .0) (ws .1 .1 .1 .1 .0) (ws .1 .1 .1 .1 .1 .0);
-          good = subst (Is K.the-row r) (LL.tells K.the-type K′.the-laws r (u ∷ []) good) good;
+          good = good′;
           same = record {
             site-memory-same = lm ∙ s .same .site-memory-same;
             coordinator-memory-same = lc ∙ s .same .coordinator-memory-same;
@@ -205,39 +211,5 @@ module _ {M : Type 1} (logic : Logic M) (f : Called) (ok : Typed f) (l : Places)
           };
         } in
         by ! (steps s′ (loud s′ some e))))))))))))
-        (λ test. skips ! $ forget ! 20 refl $
+        (λ test. skips ! $ forget ! (cell 34) refl $
         by ! (steps s (quiet (none-of (turn .out .count) test))))
-
-  -- ---- The count
-
-  pub counts : (s : Point f) → CountAsks (s .answer) turn
-      → ((r : BatchAnswer) → r ≡ counted (s .answer) turn → (turn .out .count ≡ 0 → ⊥)
-      → DeliverAsks (f .settings) turn r (s .lent))
-      → ((r : BatchAnswer) (good : Is K.the-row r (VK r ∷ [])) → r ≡ counted (s .answer) turn
-      → turn .out .count ≡ 0
-      → ent 𝓤 (⋆ 𝓤 H A (At logic f l (i + 1) (answered s r good))) X)
-      → ((r : BatchAnswer) → r ≡ counted (s .answer) turn → (s′ : Point f)
-      → (turn .out .count ≡ 0 → ⊥)
-      → DeliverSays (f .settings) turn r (s .lent) (s′ .answer) (s′ .lent)
-      → ent 𝓤 (⋆ 𝓤 H A (At logic f l (i + 1) s′)) X)
-      → Sq W (Told logic f l i turn s)
-      (runs (𝓣 .C) (𝓣 .Λ) (locals logic f l) taken (anyQ (afterTurn 𝓤 H X (Left logic f l))))
-  counts s asks then-asks quiet loud =
-      use0 W (raw (Counts 𝓤 H A mem run .pre (counts-to logic f s turn)))
-      (counts-goes logic f s turn asks is) $
-      calls-at ! (fmOf 𝓤 H (W .laws) 𝓣) (Counts 𝓤 H A mem run) counts-known
-      (counts-to logic f s turn)
-      (and-then ! (load ! (from ! (stop !)) (look ! 51 refl))
-      (and-then ! (load ! (from ! (stop !)) (look ! 47 refl)) (no-more !))) (λ u.
-      promised ! tt K.the-row u (‵ ftrue)
-      (lasts counting.ended tt (counts-passed logic f s turn))
-      (λ (r : BatchAnswer) (ws : Unit {0} × (Unit {0} × Unit {0})). r ≡ counted (s .answer) turn)
-      (id⊢ 𝓤 _) (λ r ws e good.
-      -- [no token; no last list; the run; κ; …]
-      drop ! $ drop ! $
-      land ! (from ! (stop !))
-      (store ! 50 refl (LL.lawful K.the-type K′.the-laws 𝓤 H A W .typed r _ good .0)) $
-      rewrite ! 50 (λ (w : Val). ‵ (fat fullShare K′.mir l₈ 0 w))
-      (ap only (LL.tells K.the-type K′.the-laws r (u ∷ []) good)) refl $
-      (let good′ = subst (Is K.the-row r) (LL.tells K.the-type K′.the-laws r (u ∷ []) good) good in
-      sends (answered s r good′) (then-asks r e) (quiet r good′ e) (loud r e))))

@@ -1,0 +1,149 @@
+// The calls of a delivery, one by one: kind 7 is asked for, or the message that waits first is
+// handed to the coordinator or to its site, and what the call hands out waits last. The functions
+// are internal: `begin` and `deliver` alone call them, and what they require follows from what
+// those require and from `call_due`.
+ghost use mathlib.Core.Path.{_≡_};
+ghost use mathlib.Core.Bool.{true, false};
+ghost use mathlib.Core.List.{List};
+ghost use Prim.Native.Nat.{ℕ, _<_};
+ghost use Rattle.network_tests.specs.Contracts.{SitesFit};
+ghost use Rattle.public_delivery.specs.Progress.{joinedIf, refusedWith, recordIn};
+ghost use Rattle.public_delivery.specs.Steps.{AskAsks, HandAsks, DueAsks, StepSays};
+use crate::Progress;
+use counters::Word;
+use delivery::Queue;
+use model::ACCEPTED;
+use model::Message;
+use model::Settings;
+use model::SiteRecord;
+use model::Sites;
+use model::UNKNOWN_SITE;
+
+// The message that an answer hands out waits last, if there is one.
+fn join_answer(queue: Queue, count: u32, message: Message) -> Queue
+    ensures { λ r. ⌜ r ≡ joinedIf count queue message ⌝ }
+{
+    if count == 0 {
+        return queue;
+    }
+    delivery::join(queue, message)
+}
+
+// A call was refused: all else is as it was.
+fn stop(progress: Progress, refusal: u32) -> Progress
+    ensures { λ r. ⌜ r ≡ refusedWith progress refusal ⌝ }
+{
+    let sites = progress.sites;
+    let coordinator = progress.coordinator;
+    let waiting = progress.waiting;
+    Progress {
+        sites: sites,
+        coordinator: coordinator,
+        waiting: waiting,
+        refusal: refusal,
+        left: progress.left,
+    }
+}
+
+// The record of one site.
+pub fn record_at(sites: Sites, which: usize) -> SiteRecord
+    requires { ⌜ which < 32 ⌝ }
+    ensures { λ r. ⌜ r ≡ recordIn sites which ⌝ }
+{
+    sites.records[which]
+}
+
+// The next kind 7 is asked for, and waits.
+fn ask(settings: Settings, progress: Progress, coordinator_memory: &[u64]) -> Progress
+    requires { ⌜ AskAsks progress ⌝ }
+    ensures { λ r. ⌜ ((siteMemory : List ℕ) → StepSays settings siteMemory
+        (now («coordinator_memory» .entry)) (now («coordinator_memory» .entry)) progress r) ⌝ }
+{
+    let coordinator = progress.coordinator;
+    let answer = coordinator::next_announcement(settings, coordinator, coordinator_memory);
+    if answer.refusal != ACCEPTED {
+        return stop(progress, answer.refusal);
+    }
+    let after = answer.coordinator;
+    let out = answer.out;
+    let waiting = progress.waiting;
+    let mut next = progress;
+    next.coordinator = after;
+    next.waiting = join_answer(waiting, answer.count, out);
+    next
+}
+
+// The message that waits first is handed to the coordinator; the answer waits last.
+fn hand_to_coordinator(
+    settings: Settings,
+    progress: Progress,
+    coordinator_memory: &mut [u64],
+) -> Progress
+    requires { ⌜ HandAsks true progress ⌝ }
+    ensures { λ r. ⌜ ((siteMemory : List ℕ) → StepSays settings siteMemory
+        (now («coordinator_memory» .entry)) (now («coordinator_memory» .exit)) progress r) ⌝ }
+{
+    let coordinator = progress.coordinator;
+    let waiting = progress.waiting;
+    let message = waiting.first;
+    let answer = coordinator::receive(settings, coordinator, message, coordinator_memory);
+    if answer.refusal != ACCEPTED {
+        return stop(progress, answer.refusal);
+    }
+    let after = answer.coordinator;
+    let out = answer.out;
+    let mut next = progress;
+    next.coordinator = after;
+    next.waiting = join_answer(delivery::take_head(waiting), answer.count, out);
+    next
+}
+
+// The message that waits first is handed to the site that it names; the reply waits last.
+fn hand_to_site(settings: Settings, progress: Progress, site_memory: &[Word]) -> Progress
+    requires { ⌜ SitesFit settings (now «site_memory») × HandAsks false progress ⌝ }
+    ensures { λ r. ⌜ ((coordinatorMemory : List ℕ) → StepSays settings
+        (now («site_memory» .entry)) coordinatorMemory coordinatorMemory progress r) ⌝ }
+{
+    let sites = progress.sites;
+    let waiting = progress.waiting;
+    let message = waiting.first;
+    if settings.sites <= message.site {
+        return stop(progress, UNKNOWN_SITE);
+    }
+    let which = message.site as usize;
+    let start = which * site_memory::site_words(settings);
+    let part = &site_memory[start..];
+    let numbers = record_at(sites, which);
+    let answer = site::receive(settings, numbers, message.site, message, part);
+    if answer.refusal != ACCEPTED {
+        return stop(progress, answer.refusal);
+    }
+    let after = answer.site;
+    let out = answer.reply;
+    let mut next = progress;
+    next.sites = delivery::with_record(sites, which, after);
+    next.waiting = join_answer(delivery::take_head(waiting), answer.count, out);
+    next
+}
+
+// The call that is due.
+pub fn take_step(
+    settings: Settings,
+    progress: Progress,
+    site_memory: &[Word],
+    coordinator_memory: &mut [u64],
+) -> Progress
+    requires { ⌜ SitesFit settings (now «site_memory») × DueAsks progress ⌝ }
+    ensures { λ r. ⌜ StepSays settings (now («site_memory» .entry))
+        (now («coordinator_memory» .entry)) (now («coordinator_memory» .exit)) progress r ⌝ }
+{
+    let waiting = progress.waiting;
+    if waiting.count == 0 {
+        return ask(settings, progress, coordinator_memory);
+    }
+    let message = waiting.first;
+    if delivery::to_coordinator(message) {
+        return hand_to_coordinator(settings, progress, coordinator_memory);
+    }
+    hand_to_site(settings, progress, site_memory)
+}

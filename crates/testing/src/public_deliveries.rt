@@ -1,0 +1,79 @@
+// An arrival with full delivery by the public calls.
+ghost use mathlib.Core.Path.{_≡_};
+ghost use Rattle.model.specs.Instances.{arrivalWith};
+ghost use Rattle.testing.specs.Openings.{given};
+ghost use Rattle.testing.specs.Delivery.{oneIf, deliveryLends, DeliveryAsks, HandsDelivery, DeliveryExported};
+use crate::coordinator_numbers::coordinator_from;
+use crate::coordinator_numbers::write_coordinator;
+use crate::numbers::settings_from;
+use crate::numbers::sites_from;
+use crate::numbers::write_sites;
+use crate::openings::UNFIT;
+use crate::openings::network_lent;
+use model::Arrival;
+
+// A truth value as a number.
+fn one_if(truth: bool) -> u64
+    ensures { λ r. ⌜ r ≡ oneIf truth ⌝ }
+{
+    if truth {
+        return 1;
+    }
+    0
+}
+
+// The records are made from the numbers, and go back to them. Internal: `testing_deliver_arrival`
+// tests the lengths.
+fn deliver_lent(
+    settings: &[u32],
+    sites: &mut [u64],
+    coordinator: &mut [u64],
+    arrival: Arrival,
+    words: &mut [u32],
+    tables: &mut [u64],
+    out: &mut [u64],
+) -> u32
+    requires { ⌜ DeliveryAsks (now settings) (now sites) (now coordinator) (now out) ⌝ }
+    ensures { λ r. ⌜ HandsDelivery (given settings) arrival
+        (deliveryLends sites coordinator words tables out) r ⌝ }
+{
+    let rules = settings_from(settings);
+    let records = sites_from(sites);
+    let before = coordinator_from(coordinator);
+    let done = public_delivery::deliver_arrival(rules, records, before, arrival, words, tables);
+    let records_then = done.sites;
+    let then = done.coordinator;
+    write_sites(sites, records_then);
+    write_coordinator(coordinator, then);
+    out[0] = one_if(done.complete);
+    done.refusal
+}
+
+// `public_delivery::deliver_arrival`, with the sites' memory `words` and the coordinator's memory
+// `tables`: the records go back to `sites` and `coordinator`; `out` gets 1 where the delivery came
+// to rest, else 0.
+#[no_mangle]
+pub extern "C" fn testing_deliver_arrival(
+    settings: &[u32],
+    sites: &mut [u64],
+    coordinator: &mut [u64],
+    at: u32,
+    item: u32,
+    value: u32,
+    words: &mut [u32],
+    tables: &mut [u64],
+    out: &mut [u64],
+) -> u32
+    ensures { λ r. ⌜ DeliveryExported (given settings) (arrivalWith at item value)
+        (deliveryLends sites coordinator words tables out) r ⌝ }
+{
+    if network_lent(settings, sites, coordinator, out.len(), 1) {
+        let arrival = Arrival {
+            site: at,
+            item: item,
+            value: value,
+        };
+        return deliver_lent(settings, sites, coordinator, arrival, words, tables, out);
+    }
+    UNFIT
+}

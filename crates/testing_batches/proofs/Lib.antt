@@ -1,0 +1,2 @@
+-- Laws that the proofs of the boundary's batch call share.
+pub mod Batching

@@ -1,0 +1,2 @@
+-- What the batch call promises at the boundary.
+pub mod Batch

@@ -1,0 +1,181 @@
+-- The sites' records within an answer, as the machine has them: an array of structs in a struct in
+-- a struct. One of them is read, and another stored in its place.
+--
+--   VR, VK, VN       the machine's values of a site's record, an answer and a turn
+--   values           those of the records of a list
+--   values-at, values-set   of the record at a place, and with another there
+--   many-records     an answer has 32 records
+--   record-good, refusal-fits, written-fits   the record at a place and the numbers of an answer
+--                    are values of their types
+--   turn-refusal-fits, turn-record-good       so are a turn's refusal and record
+--   counted-good     so is the answer with a turn in it
+use mathlib.Core.Path.{_≡_, refl, sym, _∙_, ap, subst}
+use Prim.Native.Nat.{ℕ, zero, suc, _+_, _<_, _^_}
+use native.Mathlib.Nat.{not-suc-le-zero, le-of-suc-le-suc}
+use mathlib.Core.List.{List, [], _∷_, map}
+use lib.ListN.{length, getD, set, length-set, length-map}
+use mir.Val.{Val}
+use denote.RattleType.{RattleType}
+use denote.Laws.{Is, valss}
+use denote.Array.{each, arrayVal, Array, array-tells}
+use denote.Shadow.{shadow}
+use denote.Struct.Declared.{Declared, fields}
+use denote.Struct.Struct.{AreAll}
+use denote.Struct.Laws as LL
+use Rattle.model.specs.declared.SiteRecord.{SiteRecord}
+use Rattle.network_memory.specs.Records.{noRecord}
+use Rattle.tracker.specs.declared.BatchAnswer.{BatchAnswer}
+use Rattle.tracker.specs.declared.Turn.{Turn}
+use Rattle.tracker.specs.Turns.{counted}
+use Rattle.model.proofs.SiteRecord as R
+use Rattle.model.proofs.SiteRecord.Laws as R′
+use Rattle.model.proofs.Sites as P
+use Rattle.model.proofs.Sites.Laws as P′
+use Rattle.tracker.proofs.BatchAnswer as K
+use Rattle.tracker.proofs.BatchAnswer.Laws as K′
+use Rattle.tracker.proofs.Turn as N
+use Rattle.tracker.proofs.Turn.Laws as N′
+
+-- ---- The machine's values
+
+abbrev pub VR : SiteRecord → Val
+VR = LL.val R.the-type R′.the-laws
+
+abbrev pub VK : BatchAnswer → Val
+VK = LL.val K.the-type K′.the-laws
+
+abbrev pub VN : Turn → Val
+VN = LL.val N.the-type N′.the-laws
+
+abbrev pub values : List SiteRecord → List Val
+values rs = map (LL.tuple-val R.the-type R′.the-laws) (map (R.the-type .to) rs)
+
+pub length-values : (rs : List SiteRecord) → length (values rs) ≡ length rs
+length-values [] = refl
+length-values (r ∷ rs) = ap suc (length-values rs)
+
+pub values-at : (rs : List SiteRecord) (k : ℕ)
+    → getD (values rs) k (VR noRecord) ≡ VR (getD rs k noRecord)
+values-at [] k = refl
+values-at (r ∷ rs) zero = refl
+values-at (r ∷ rs) (suc k) = values-at rs k
+
+pub values-set : (rs : List SiteRecord) (k : ℕ) (r : SiteRecord)
+    → set (values rs) k (VR r) ≡ values (set rs k r)
+values-set [] k r = refl
+values-set (r₀ ∷ rs) zero r = refl
+values-set (r₀ ∷ rs) (suc k) r = ap (λ (us : List Val). VR r₀ ∷ us) (values-set rs k r)
+
+-- ---- Values of their types
+
+-- A record's tuple, as an element of the array has it.
+abbrev Element : RattleType
+Element = R.the-field .row
+
+abbrev Elements : List SiteRecord → List Val → Type 0
+Elements rs us = shadow (each (Element .Denot) (Element .own) (map (R.the-type .to) rs) us)
+
+element-good : (rs : List SiteRecord) (us : List Val) (k : ℕ) → Elements rs us → k < length rs
+    → Is R.the-row (getD rs k noRecord) (VR (getD rs k noRecord) ∷ [])
+element-good [] us k goods within = absurd (not-suc-le-zero within)
+element-good (r ∷ rs) [] k goods within = absurd goods
+element-good (r ∷ rs) (u ∷ us) zero goods within =
+    subst (Is R.the-row r) (LL.tells R.the-type R′.the-laws r (u ∷ []) (goods .0)) (goods .0)
+element-good (r ∷ rs) (u ∷ us) (suc k) goods within =
+    element-good rs us k (goods .1) (le-of-suc-le-suc within)
+
+set-good : (rs : List SiteRecord) (us : List Val) (k : ℕ) (r : SiteRecord) → Elements rs us
+    → Is R.the-row r (VR r ∷ [])
+    → Elements (set rs k r) (set us k (VR r))
+set-good [] [] k r goods good = goods
+set-good [] (u ∷ us) k r goods good = absurd goods
+set-good (r₀ ∷ rs) [] k r goods good = absurd goods
+set-good (r₀ ∷ rs) (u ∷ us) zero r goods good = (good, goods .1)
+set-good (r₀ ∷ rs) (u ∷ us) (suc k) r goods good =
+    (goods .0, set-good rs us k r (goods .1) good)
+
+-- ---- Of a turn and of an answer
+
+-- Each field of a struct is a value of its type.
+abbrev Fields : (T : Declared) → LL.Laws T → T .D → Type 0
+Fields T L d = AreAll (fields T) (T .to d) (valss (fields T) (LL.spells (T .parts) L) (T .to d))
+
+module _ (turn : Turn) (good : Is N.the-row turn (VN turn ∷ [])) where
+  abbrev parts-good : Fields N.the-type N′.the-laws turn
+  parts-good = LL.owed N.the-type N′.the-laws turn (VN turn ∷ []) good
+
+  pub turn-refusal-fits : turn .refusal < 2 ^ 32
+  turn-refusal-fits = parts-good .0 .1
+
+  pub turn-record-good : Is R.the-row (turn .site) (VR (turn .site) ∷ [])
+  turn-record-good = parts-good .1 .1 .0
+
+module _ (answer : BatchAnswer) (good : Is K.the-row answer (VK answer ∷ [])) where
+  abbrev records : List SiteRecord
+  records = answer .sites .records
+
+  abbrev fields-good : Fields K.the-type K′.the-laws answer
+  fields-good = LL.owed K.the-type K′.the-laws answer (VK answer ∷ []) good
+
+  abbrev sites-good : Fields P.the-type P′.the-laws (answer .sites)
+  sites-good =
+      LL.owed P.the-type P′.the-laws (answer .sites)
+      (LL.vals P.the-type P′.the-laws (answer .sites)) (fields-good .1 .1 .1 .0)
+
+  pub many-records : length records ≡ 32
+  many-records = sym (length-map records (R.the-type .to)) ∙ sites-good .0 .1 .0 .1
+
+  pub record-good : (k : ℕ) → k < 32
+      → Is R.the-row (getD records k noRecord) (VR (getD records k noRecord) ∷ [])
+  record-good k within =
+      element-good records (sites-good .0 .0) k (sites-good .0 .1 .1)
+      (subst (λ (n : ℕ). k < n) (sym many-records) within)
+
+  pub refusal-fits : answer .refusal < 2 ^ 32
+  refusal-fits = fields-good .0 .1
+
+  pub written-fits : answer .written < 2 ^ 64
+  written-fits = fields-good .1 .1 .0 .1
+
+  -- The array with another record at a place.
+  array-set : (k : ℕ) (r : SiteRecord) → Is R.the-row r (VR r ∷ [])
+      → Is (Array Element 32) (map (R.the-type .to) (set records k r))
+      (arrayVal (values (set records k r)) ∷ [])
+  array-set k r r-good =
+      let us = set (sites-good .0 .0) k (VR r) in
+      let is : Is (Array Element 32) (map (R.the-type .to) (set records k r)) (arrayVal us ∷ []) = (
+        us,
+        (
+          (
+            refl,
+            length-map (set records k r) (R.the-type .to) ∙ length-set records k r
+                ∙ many-records,
+          ),
+          set-good records (sites-good .0 .0) k r (sites-good .0 .1 .1) r-good,
+        ),
+      ) in
+      subst (Is (Array Element 32) (map (R.the-type .to) (set records k r)))
+      (array-tells Element (LL.tuple-vals R.the-type R′.the-laws)
+      (LL.tuple-tells R.the-type R′.the-laws) 32 (map (R.the-type .to) (set records k r))
+      (arrayVal us ∷ []) is) is
+
+  pub counted-good : (k : ℕ) (turn : Turn) → turn .refusal < 2 ^ 32
+      → answer .accepted + turn .taken < 2 ^ 64
+      → Is R.the-row (turn .site) (VR (turn .site) ∷ [])
+      → Is K.the-row (counted answer k turn) (VK (counted answer k turn) ∷ [])
+  counted-good k turn refusal-fits accepted-fits site-good =
+      let next = counted answer k turn in
+      LL.owes K.the-type K′.the-laws next (
+        (refl, refusal-fits),
+        (
+          (refl, accepted-fits),
+          (
+            fields-good .1 .1 .0,
+            (
+              LL.owes P.the-type P′.the-laws (next .sites)
+                  (array-set k (turn .site) site-good, sites-good .1),
+              fields-good .1 .1 .1 .1,
+            ),
+          ),
+        ),
+      )

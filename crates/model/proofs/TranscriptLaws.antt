@@ -72,7 +72,7 @@ pub transcript-with-long : (settings : Settings) (worklist : List ℕ)
     → 8192 < length worklist
     → transcriptWith settings worklist ≡ refusedLine (lengthRefusal settings)
 transcript-with-long settings worklist long =
-    let beyond : beyondProgram settings worklist ≡ true
+    let beyond : beyondProgram settings (length worklist) ≡ true
     = simp (lt-ltb 8192 (length worklist) long, or-true) in
     transcript-with-refused settings worklist (lengthRefusal settings)
     (ap (λ (test : Bool). settingsRefusal settings orElse when test memoryTooShort orElse accepted)

@@ -81,17 +81,17 @@ resultLines settings run =
 -- ---- The whole
 
 -- "Its memory serves k up to 4, c up to 100, u up to 1000 and a worklist up to 8192 bytes".
-abbrev pub beyondProgram : Settings → List ℕ → Bool
-beyondProgram settings worklist =
+abbrev pub beyondProgram : Settings → ℕ → Bool
+beyondProgram settings bytes =
     ltb 4 (settings .sites)
     || ltb 100 (settings .capacity)
     || ltb 1000 (settings .universe)
-    || ltb 8192 (length worklist)
+    || ltb 8192 bytes
 
 abbrev pub programRefusal : Settings → List ℕ → ℕ
 programRefusal settings worklist =
     settingsRefusal settings
-    orElse when (beyondProgram settings worklist) memoryTooShort
+    orElse when (beyondProgram settings (length worklist)) memoryTooShort
     orElse accepted
 
 -- "It takes each line's draw before it reads the next line": the arrivals one by one, from a run.

@@ -1,9 +1,10 @@
 -- The part of one site in memory that is long enough for all: where it starts, and that it fits.
 --
 --   site-few, starts-small, starts-within    site j's part starts within the memory
+--   PartStarts, starts-at                    the same of its start as the code counts it
 --   own-is, part-fits                        the part as the code names it
 -- Letter: j a site.
-use mathlib.Core.Path.{_≡_}
+use mathlib.Core.Path.{_≡_, ap}
 use mathlib.Core.List.{List}
 use Prim.Native.Nat.{ℕ, suc, _*_, _≤_, _<_}
 use native.Mathlib.Nat.{mul-le-mul-right}
@@ -15,6 +16,11 @@ use Rattle.model.proofs.SettingsLaws.{Settled, settled}
 use Rattle.site_memory.specs.Contracts.{MemoryFits}
 use Rattle.network_memory.proofs.SitePart.{few-sites, start-small, part, part-is}
 use Rattle.network_tests.specs.Contracts.{SitesFit}
+
+-- A part of so many words starts early enough, and within the memory.
+pub record PartStarts (memory : List ℕ) (j words : ℕ) : Type 0 where
+  pub small : j * words ≤ 32 * 13024
+  pub within : j * words ≤ length memory
 
 module _ {settings : Settings} {memory : List ℕ} (fits : SitesFit settings memory) where
   fit : Settled settings
@@ -34,6 +40,14 @@ module _ {settings : Settings} {memory : List ℕ} (fits : SitesFit settings mem
     starts-within = omega (arith, more, fits .long-enough)
 
     module _ (words : ℕ) (words-are : words ≡ siteWords settings) where
+      pub starts-at : PartStarts memory j words
+      starts-at =
+          let at-start = ap (λ (z : ℕ). j * z) words-are in
+          record {
+            small = omega (arith, starts-small, at-start);
+            within = omega (arith, starts-within, at-start);
+          }
+
       pub own-is : part memory j words ≡ drop (j * siteWords settings) memory
       own-is = part-is settings memory j words words-are
 

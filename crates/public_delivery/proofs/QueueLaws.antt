@@ -4,8 +4,9 @@
 --   queued-none, queued-head        nothing waits; the head, and what waits behind it
 --   few-without-head                one at most waits behind the head
 --   queued-joined, few-joined       the message of an answer waits last
+--   Joined, joined-is               the same of a queue that is known to be that
 --   queue-two                       the messages of an arrival's answer
-use mathlib.Core.Path.{_≡_, refl, sym}
+use mathlib.Core.Path.{_≡_, refl, sym, ap, subst, _∙_}
 use mathlib.Core.Bool.{false}
 use mathlib.Core.List.{List, [], _∷_, _++_, append-nil}
 use Prim.Native.Nat.{ℕ, zero, suc, _≤_, _<_}
@@ -100,6 +101,20 @@ pub few-joined : (count : ℕ) (waiting : Queue) (m : Message)
 few-joined zero waiting m few = omega arith
 few-joined (suc count) waiting m few =
     rw (nonzero count) (few-joined-by (waiting .count) (waiting .first) (waiting .second) m)
+
+-- The same of a queue that is known to be that.
+pub record Joined (queue : Queue) (all : List Message) : Type 0 where
+  pub few : queue .count ≤ 2
+  pub waits : all ≡ queued queue
+
+pub joined-is : {queue : Queue} (count : ℕ) (waiting : Queue) (m : Message)
+    → queue ≡ joinedIf count waiting m
+    → waiting .count ≤ 1
+    → Joined queue (queued waiting ++ take count (m ∷ []))
+joined-is count waiting m queue-is few = record {
+  few = subst (λ (q : Queue). q .count ≤ 2) (sym queue-is) (few-joined count waiting m few);
+  waits = sym (queued-joined count waiting m few) ∙ ap queued (sym queue-is);
+}
 
 -- An answer with two messages, or a count that says more.
 pub queue-two : (count : ℕ) (first second : Message)

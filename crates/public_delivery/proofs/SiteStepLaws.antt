@@ -5,7 +5,7 @@
 -- Letter: j the site that the message names.
 use mathlib.Core.Path.{_≡_, refl, sym, ap, _∙_, subst}
 use mathlib.Core.Bool.{false}
-use mathlib.Core.List.{List, _∷_}
+use mathlib.Core.List.{List, _∷_, _++_}
 use Prim.Native.Nat.{ℕ, suc, _-_, _*_, _≤_, _<_}
 use native.Mathlib.Nat.{mul-le-mul-right}
 use native.Mathlib.Omega.{arith}
@@ -30,8 +30,8 @@ use Rattle.history.specs.Histories.{to-site, answeredOut}
 use Rattle.public_delivery.specs.declared.Progress.{Progress}
 use Rattle.public_delivery.specs.Progress.{refusedWith, recordIn, heldBy, queued, joinedIf, Stands}
 use Rattle.public_delivery.specs.Steps.{site-refuses, goes, HandAsks, StepSays}
-use Rattle.public_delivery.proofs.QueueLaws.{queued-head, few-without-head, queued-joined, few-joined}
-use Rattle.public_delivery.proofs.StepLaws.{stopped}
+use Rattle.public_delivery.proofs.QueueLaws.{queued-head, few-without-head, Joined, joined-is}
+use Rattle.public_delivery.proofs.StepLaws.{movedOn, stopped}
 
 -- What a site accepts names one of the sites.
 known-of-accepted : (settings : Settings) (which first later : ℕ)
@@ -129,23 +129,16 @@ module _ {settings : Settings} {siteMemory : List ℕ} {progress : Progress}
         (sites-are : sites ≡ withRecord (progress .sites) j (answer .site))
         (queue-is : queue
         ≡ joinedIf (answer .count) (withoutHead (progress .waiting)) (answer .reply)) where
-      abbrev replied : Progress
-      replied = record {
-        sites = sites;
-        coordinator = progress .coordinator;
-        waiting = queue;
-        refusal = progress .refusal;
-        left = progress .left;
-      }
+      replied : Joined queue (behind ++ answeredOut answer)
+      replied = joined-is (answer .count) (withoutHead (progress .waiting)) (answer .reply) queue-is
+          few-behind
 
       pub site-goes : answer .refusal ≡ accepted
           → (memory : List ℕ)
-          → StepSays settings siteMemory memory memory progress replied
+          → StepSays settings siteMemory memory memory progress
+          (movedOn progress sites (progress .coordinator) queue)
       site-goes accepts memory = record {
-        few =
-            subst (λ (q : Queue). q .count ≤ 2) (sym queue-is)
-            (few-joined (answer .count) (withoutHead (progress .waiting)) (answer .reply)
-            few-behind);
+        few = replied .few;
         left-is = refl;
         steps = λ state stands.
             goes
@@ -160,10 +153,7 @@ module _ {settings : Settings} {siteMemory : List ℕ} {progress : Progress}
                   (stands .held-is)
                   ∙ ap (λ (s : Sites). heldBy s (progress .coordinator) siteMemory memory)
                   (sym sites-are);
-              waiting-are =
-                  sym (queued-joined (answer .count) (withoutHead (progress .waiting))
-                  (answer .reply) few-behind)
-                  ∙ ap queued (sym queue-is);
+              waiting-are = replied .waits;
             })
             (asks .not-refused);
       }

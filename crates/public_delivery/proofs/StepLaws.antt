@@ -1,6 +1,7 @@
 -- A call that is accepted is a step of delivery from every state that the progress stands for; one
 -- that is refused leaves that state, and was due.
 --
+--   movedOn                                the progress after a call that is accepted
 --   stopped                                a call that is refused, whichever it is
 --   ask-goes, ask-stops                    the next kind 7
 --   coordinator-goes, coordinator-stops    a message at the coordinator
@@ -12,6 +13,8 @@ use Prim.Native.Nat.{ℕ, _≤_}
 use native.Mathlib.Omega.{arith}
 use Rattle.model.specs.declared.Settings.{Settings}
 use Rattle.model.specs.declared.Message.{Message}
+use Rattle.model.specs.declared.Sites.{Sites}
+use Rattle.model.specs.declared.CoordinatorRecord.{CoordinatorRecord}
 use Rattle.model.specs.Refusals.{accepted}
 use Rattle.model.specs.Coordinator.{isAnnouncing}
 use Rattle.delivery.specs.declared.Queue.{Queue}
@@ -24,11 +27,21 @@ use Rattle.history.proofs.Answers.{refused-choice}
 use Rattle.public_delivery.specs.declared.Progress.{Progress}
 use Rattle.public_delivery.specs.Progress.{refusedWith, heldBy, queued, joinedIf, Stands}
 use Rattle.public_delivery.specs.Steps.{Blocked, coordinator-refuses, announcement-refused, goes, stops, AskAsks, HandAsks, StepSays}
-use Rattle.public_delivery.proofs.QueueLaws.{queued-head, few-without-head, queued-joined, few-joined}
+use Rattle.public_delivery.proofs.QueueLaws.{queued-head, few-without-head, Joined, joined-is}
 
 -- What is held by a progress.
 abbrev heldIn : Progress → List ℕ → List ℕ → Held
 heldIn progress = heldBy (progress .sites) (progress .coordinator)
+
+-- The progress after a call that is accepted.
+abbrev pub movedOn : Progress → Sites → CoordinatorRecord → Queue → Progress
+movedOn progress sites coordinator queue = record {
+  sites = sites;
+  coordinator = coordinator;
+  waiting = queue;
+  refusal = progress .refusal;
+  left = progress .left;
+}
 
 -- A call is refused that every state says is due; it left the memory as it was.
 module _ {settings : Settings} {siteMemory before : List ℕ} (progress : Progress) where
@@ -77,22 +90,15 @@ module _ {settings : Settings} {memory : List ℕ} {progress : Progress} (asks :
 
   module _ (queue : Queue)
       (queue-is : queue ≡ joinedIf (answer .count) (progress .waiting) (answer .out)) where
-    abbrev asked : Progress
-    asked = record {
-      sites = progress .sites;
-      coordinator = answer .coordinator;
-      waiting = queue;
-      refusal = progress .refusal;
-      left = progress .left;
-    }
+    joins : Joined queue (queued (progress .waiting) ++ receivedOut answer)
+    joins = joined-is (answer .count) (progress .waiting) (answer .out) queue-is few-asked
 
     pub ask-goes : answer .refusal ≡ accepted
         → (siteMemory : List ℕ)
-        → StepSays settings siteMemory memory memory progress asked
+        → StepSays settings siteMemory memory memory progress
+        (movedOn progress (progress .sites) (answer .coordinator) queue)
     ask-goes accepts siteMemory = record {
-      few =
-          subst (λ (q : Queue). q .count ≤ 2) (sym queue-is)
-          (few-joined (answer .count) (progress .waiting) (answer .out) few-asked);
+      few = joins .few;
       left-is = refl;
       steps = λ state stands.
           goes
@@ -111,8 +117,7 @@ module _ {settings : Settings} {memory : List ℕ} {progress : Progress} (asks :
                 (stands .held-is);
             waiting-are =
                 ap (λ (ms : List Message). ms ++ receivedOut answer) (stands .waiting-are)
-                ∙ sym (queued-joined (answer .count) (progress .waiting) (answer .out) few-asked)
-                ∙ ap queued (sym queue-is);
+                ∙ joins .waits;
           })
           (asks .not-refused);
     }
@@ -159,22 +164,16 @@ module _ {settings : Settings} {before after : List ℕ} {progress : Progress}
   module _ (queue : Queue)
       (queue-is : queue
       ≡ joinedIf (answer .count) (withoutHead (progress .waiting)) (answer .out)) where
-    abbrev handed : Progress
-    handed = record {
-      sites = progress .sites;
-      coordinator = answer .coordinator;
-      waiting = queue;
-      refusal = progress .refusal;
-      left = progress .left;
-    }
+    handed : Joined queue (later ++ receivedOut answer)
+    handed = joined-is (answer .count) (withoutHead (progress .waiting)) (answer .out) queue-is
+        few-later
 
     pub coordinator-goes : answer .refusal ≡ accepted
         → (siteMemory : List ℕ)
-        → StepSays settings siteMemory before after progress handed
+        → StepSays settings siteMemory before after progress
+        (movedOn progress (progress .sites) (answer .coordinator) queue)
     coordinator-goes accepts siteMemory = record {
-      few =
-          subst (λ (q : Queue). q .count ≤ 2) (sym queue-is)
-          (few-joined (answer .count) (withoutHead (progress .waiting)) (answer .out) few-later);
+      few = handed .few;
       left-is = refl;
       steps = λ state stands.
           goes
@@ -189,10 +188,7 @@ module _ {settings : Settings} {before after : List ℕ} {progress : Progress}
           (record {
             held-is = ap (λ (held : Held). afterCoordinatorCall held (answer .coordinator) after)
                 (stands .held-is);
-            waiting-are =
-                sym (queued-joined (answer .count) (withoutHead (progress .waiting)) (answer .out)
-                few-later)
-                ∙ ap queued (sym queue-is);
+            waiting-are = handed .waits;
           })
           (asks .not-refused);
     }

@@ -5,6 +5,7 @@
 // histories are made by code.
 
 ghost use mathlib.Core.Path.{_≡_};
+ghost use Rattle.model.specs.Coordinator.{isIdle, isAnnouncing};
 ghost use Rattle.network_tests.specs.Contracts.{SitesFit};
 ghost use Rattle.site.specs.Calls.{startRefusal};
 ghost use Rattle.public_delivery.specs.Progress.{QueueSays, isDue, isComplete, heldBy};
@@ -62,6 +63,18 @@ fn queue_of(count: u32, first: Message, second: Message) -> Queue
     }
 }
 
+// Whether kind 7 is still to go out.
+fn is_announcing(phase: Phase) -> bool
+    ensures { λ r. ⌜ r ≡ isAnnouncing phase ⌝ }
+{
+    match phase {
+        Phase::Idle => false,
+        Phase::Collecting(_) => false,
+        Phase::Probing(_, _, _, _) => false,
+        Phase::Announcing(_) => true,
+    }
+}
+
 // Whether a call is due, and may be made: a message waits, or the coordinator announces.
 fn call_due(progress: Progress) -> bool
     ensures { λ r. ⌜ r ≡ isDue progress ⌝ }
@@ -78,12 +91,7 @@ fn call_due(progress: Progress) -> bool
     }
     let coordinator = progress.coordinator;
     let phase = coordinator.phase;
-    match phase {
-        Phase::Idle => false,
-        Phase::Collecting(_) => false,
-        Phase::Probing(_, _, _, _) => false,
-        Phase::Announcing(_) => true,
-    }
+    is_announcing(phase)
 }
 
 // Call by call, until none is due.
@@ -167,6 +175,18 @@ fn memory_refusal(settings: Settings, site_memory: &[Word]) -> u32
     ACCEPTED
 }
 
+// Whether no round is being closed.
+fn is_idle(phase: Phase) -> bool
+    ensures { λ r. ⌜ r ≡ isIdle phase ⌝ }
+{
+    match phase {
+        Phase::Idle => true,
+        Phase::Collecting(_) => false,
+        Phase::Probing(_, _, _, _) => false,
+        Phase::Announcing(_) => false,
+    }
+}
+
 // Whether nothing waits and the coordinator is idle.
 fn is_complete(progress: Progress) -> bool
     ensures { λ r. ⌜ r ≡ isComplete progress ⌝ }
@@ -177,12 +197,7 @@ fn is_complete(progress: Progress) -> bool
     }
     let coordinator = progress.coordinator;
     let phase = coordinator.phase;
-    match phase {
-        Phase::Idle => true,
-        Phase::Collecting(_) => false,
-        Phase::Probing(_, _, _, _) => false,
-        Phase::Announcing(_) => false,
-    }
+    is_idle(phase)
 }
 
 // One arrival with full delivery, by the public calls. Refused, it changes nothing. Accepted at

@@ -22,6 +22,7 @@ use Rattle.model.specs.NetworkMemory.{sitesWords}
 use Rattle.model.specs.Lines.{Fields, readFields}
 use Rattle.model.proofs.RefusalLaws.{both-accepted, passed}
 use Rattle.coordinator_steps.proofs.StepLaws.{valueCount-is}
+use Rattle.model.specs.Transcript.{beyondProgram}
 use Rattle.reader.specs.declared.SettingsRead.{SettingsRead}
 use Rattle.reader.specs.Contracts.{SettingsSays, bytesAfter}
 use Rattle.site.specs.declared.StartedSites.{StartedSites}
@@ -31,7 +32,7 @@ use Rattle.coordinator.specs.Calls as CoordinatorCalls
 use Rattle.session.specs.declared.Session.{Session}
 use Rattle.session.specs.declared.Turn.{Turn}
 use Rattle.session.specs.Outcome.{Lent, lent, withOut, outcome, Refuses, refusedOf}
-use Rattle.session.specs.Begin.{beyondLimits, shorterThanLimits, startRefusalOf, beginRefusalOf, freshSession, firstSession, startedOf, beginOf}
+use Rattle.session.specs.Begin.{shorterThanLimits, startRefusalOf, beginRefusalOf, freshSession, firstSession, startedOf, beginOf}
 
 -- ---- Settings and memory within the program's limits
 
@@ -49,7 +50,7 @@ pub served : (line : ℕ) (settings : Settings) (bytes siteNumbers coordinatorNu
 served line settings bytes siteNumbers coordinatorNumbers none =
     let rows = both-accepted line _ none in
     let later = both-accepted (settingsRefusal settings) _ (rows .later-accepted) in
-    let within = passed (beyondLimits settings bytes) memoryTooShort _ (omega arith)
+    let within = passed (beyondProgram settings bytes) memoryTooShort _ (omega arith)
     (later .later-accepted) in
     let long = passed (shorterThanLimits siteNumbers coordinatorNumbers) memoryTooShort _
     (omega arith) (within .later-accepted) in

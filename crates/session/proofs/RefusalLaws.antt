@@ -63,8 +63,8 @@ pub begin-small : (input : List ℕ) (found : Fields) → beginRefusal input fou
 begin-small input found =
     or-small (lineRefusal found) _ (line-small found)
     (or-small (settingsRefusal (settingsIn found)) _ (settings-small (settingsIn found))
-    (row-small (beyondProgram (settingsIn found) (bytesAfter input found)) 4 0 (omega arith)
-    (omega arith)))
+    (row-small (beyondProgram (settingsIn found) (length (bytesAfter input found))) 4 0
+    (omega arith) (omega arith)))
   where
     line-small : (line : Fields) → lineRefusal line ≤ 99
     line-small malformed = omega arith

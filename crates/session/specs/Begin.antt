@@ -19,6 +19,7 @@ use Rattle.model.specs.Coordinator.{freshCoordinator}
 use Rattle.model.specs.CoordinatorMemory.{coordinatorRecord, coordinatorMemory}
 use Rattle.model.specs.NetworkMemory.{freshSites}
 use Rattle.model.specs.Lines.{Fields, readFields}
+use Rattle.model.specs.Transcript.{beyondProgram}
 use Rattle.reader.specs.Contracts.{lineRefusal, settingsIn, bytesAfter}
 use Rattle.site.specs.Calls.{cleared}
 use Rattle.session.specs.declared.Session.{Session}
@@ -27,15 +28,7 @@ use Rattle.session.specs.Outcome.{Lent, lent, Outcome, outcome, SameLeng
 
 -- ---- Why a session does not start
 
--- "Its memory serves k up to 4, c up to 100, u up to 1000 and a worklist up to 8192 bytes".
-abbrev pub beyondLimits : Settings → ℕ → Bool
-beyondLimits settings bytes =
-    ltb 4 (settings .sites)
-    || ltb 100 (settings .capacity)
-    || ltb 1000 (settings .universe)
-    || ltb 8192 bytes
-
--- Memory for these limits: 4 × (4 × 100 + 1024) numbers of the sites, 1000 + 1024 of the
+-- Memory for the program's limits: 4 × (4 × 100 + 1024) numbers of the sites, 1000 + 1024 of the
 -- coordinator.
 abbrev pub shorterThanLimits : ℕ → ℕ → Bool
 shorterThanLimits siteNumbers coordinatorNumbers =
@@ -47,7 +40,7 @@ abbrev pub startRefusalOf : ℕ → Settings → ℕ → ℕ → ℕ → ℕ
 startRefusalOf line settings bytes siteNumbers coordinatorNumbers =
     line
     orElse settingsRefusal settings
-    orElse when (beyondLimits settings bytes) memoryTooShort
+    orElse when (beyondProgram settings bytes) memoryTooShort
     orElse when (shorterThanLimits siteNumbers coordinatorNumbers) memoryTooShort
     orElse accepted
 

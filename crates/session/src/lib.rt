@@ -7,8 +7,9 @@ ghost use mathlib.Core.Path.{_≡_};
 ghost use mathlib.Core.List.{[]};
 ghost use Prim.Native.Nat.{_*_, _≤_};
 ghost use lib.ListN.{length};
+ghost use Rattle.model.specs.Transcript.{beyondProgram};
 ghost use Rattle.session.specs.Outcome.{lent, ended, Refuses};
-ghost use Rattle.session.specs.Begin.{beyondLimits, shorterThanLimits, startRefusalOf, freshSession, BeginSays};
+ghost use Rattle.session.specs.Begin.{shorterThanLimits, startRefusalOf, freshSession, BeginSays};
 ghost use Rattle.session.specs.Advance.{DrawSays, Finishes, AdvanceSays};
 ghost use Rattle.session.specs.Output.{MessagesWritten};
 use model::ACCEPTED;
@@ -91,7 +92,7 @@ fn refuse(session: Session, refusal: u32, out: &mut [u8]) -> Turn
 
 // Whether settings or worklist are beyond the program's limits.
 fn beyond_limits(settings: Settings, bytes: usize) -> bool
-    ensures { λ r. ⌜ r ≡ beyondLimits settings bytes ⌝ }
+    ensures { λ r. ⌜ r ≡ beyondProgram settings bytes ⌝ }
 {
     if SESSION_SITES < settings.sites {
         return true;

@@ -4,12 +4,14 @@
 --   SiteLent, site-is                  the same with a site's record
 --   CoordinatorLent, coordinator-is    the same with the coordinator's record
 --   NetworkLent, network-is            the same with all sites' records
---   places-room, site-room, ..         the same of an opening that fits
+--   opens-made, opens-zeros            both openings
+--   places-room, site-room, ..         what is lent to an opening that fits
 --   exported-handed, exported-kept     both cases of a promise
+--   hands, keeps                       the same of a call: what it hands back, or 255
 use Prim.Native.Nat.{ℕ, _≤_}
-use mathlib.Core.Path.{_≡_, sym, _∙_}
+use mathlib.Core.Path.{_≡_, refl, sym, _∙_}
 use mathlib.Core.Bool.{Bool, true, false, _&&_, false≢true}
-use mathlib.Core.List.{List}
+use mathlib.Core.List.{List, map}
 use lib.ListN.{length, getD}
 use lib.Dec.{leb}
 use borrow.Author.Tests.{leb-true}
@@ -18,8 +20,8 @@ use Rattle.testing.specs.Numbers.{coordinatorFits, greatestHeld, greates
 use Rattle.testing.specs.declared.openings.PlacesOpened.{PlacesOpened}
 use Rattle.testing.specs.declared.openings.SiteOpened.{SiteOpened}
 use Rattle.testing.specs.declared.openings.CoordinatorOpened.{CoordinatorOpened}
-use Rattle.testing.specs.Openings.{placesLent, siteLent, coordinatorLent, networkLent, OpensPlaces, OpensSite, OpensCoordinator}
-use Rattle.testing.specs.Calls.{Exported}
+use Rattle.testing.specs.Openings.{placesLent, siteLent, coordinatorLent, networkLent, Lent, MadeIf, OpensPlaces, OpensSite, OpensCoordinator}
+use Rattle.testing.specs.Calls.{unfit, Kept, Exported, Hands}
 
 pub record PlacesLent (settings : List ℕ) (places least : ℕ) : Type 0 where
   pub settings-long : 6 ≤ length settings
@@ -83,6 +85,28 @@ network-is settings sites numbers places least fits =
       sites-long = leb-true _ _ (both .second-true);
     }
 
+-- ---- Openings
+
+pub opens-made : {Opened : Type 0} {test : Bool} {whole zeros opened : Opened}
+    → test ≡ true
+    → opened ≡ whole
+    → MadeIf Opened test true whole zeros opened
+opens-made fit is-whole = record {
+  fits-is = sym fit;
+  made = λ _. is-whole;
+  left = λ unfit. absurd (false≢true (sym unfit));
+}
+
+pub opens-zeros : {Opened : Type 0} {test : Bool} {whole zeros opened : Opened}
+    → test ≡ false
+    → opened ≡ zeros
+    → MadeIf Opened test false whole zeros opened
+opens-zeros unfit are-zeros = record {
+  fits-is = sym unfit;
+  made = λ fit. absurd (false≢true fit);
+  left = λ _. are-zeros;
+}
+
 -- ---- Openings that fit
 
 pub places-room : {settings : List ℕ} {places least : ℕ} {opened : PlacesOpened}
@@ -90,14 +114,14 @@ pub places-room : {settings : List ℕ} {places least : ℕ} {opened : PlacesOpe
     → opened .fits ≡ true
     → PlacesLent settings places least
 places-room {settings} {places} {least} opens fit =
-    places-are settings places least (sym (opens .fits-is) ∙ fit)
+    places-are settings places least (sym (opens .opens .fits-is) ∙ fit)
 
 pub site-room : {settings site : List ℕ} {places least : ℕ} {opened : SiteOpened}
     → OpensSite settings site places least opened
     → opened .fits ≡ true
     → SiteLent settings site places least
 site-room {settings} {site} {places} {least} opens fit =
-    site-is settings site places least (sym (opens .fits-is) ∙ fit)
+    site-is settings site places least (sym (opens .opens .fits-is) ∙ fit)
 
 pub coordinator-room : {settings numbers : List ℕ} {places least : ℕ}
     {opened : CoordinatorOpened}
@@ -105,7 +129,43 @@ pub coordinator-room : {settings numbers : List ℕ} {places least : ℕ}
     → opened .fits ≡ true
     → CoordinatorLent settings numbers places least
 coordinator-room {settings} {numbers} {places} {least} opens fit =
-    coordinator-is settings numbers places least (sym (opens .fits-is) ∙ fit)
+    coordinator-is settings numbers places least (sym (opens .opens .fits-is) ∙ fit)
+
+-- Each place that such an opening has shown, for `search`: `room` holds all.
+pub places-enough : {settings : List ℕ} {places least : ℕ} {opened : PlacesOpened}
+    → OpensPlaces settings places least opened
+    → opened .fits ≡ true
+    → least ≤ places
+places-enough opens fit = places-room opens fit .places-enough
+
+pub site-long : {settings site : List ℕ} {places least : ℕ} {opened : SiteOpened}
+    → OpensSite settings site places least opened
+    → opened .fits ≡ true
+    → 4 ≤ length site
+site-long opens fit = site-room opens fit .site-long
+
+pub site-enough : {settings site : List ℕ} {places least : ℕ} {opened : SiteOpened}
+    → OpensSite settings site places least opened
+    → opened .fits ≡ true
+    → least ≤ places
+site-enough opens fit = site-room opens fit .lends .places-enough
+
+pub coordinator-long : {settings numbers : List ℕ} {places least : ℕ}
+    {opened : CoordinatorOpened}
+    → OpensCoordinator settings numbers places least opened
+    → opened .fits ≡ true
+    → 10 ≤ length numbers
+coordinator-long opens fit = coordinator-room opens fit .numbers-long
+
+pub coordinator-enough : {settings numbers : List ℕ} {places least : ℕ}
+    {opened : CoordinatorOpened}
+    → OpensCoordinator settings numbers places least opened
+    → opened .fits ≡ true
+    → least ≤ places
+coordinator-enough opens fit = coordinator-room opens fit .lends .places-enough
+
+pub ruleset room =
+    (places-enough, site-long, site-enough, coordinator-long, coordinator-enough)
 
 -- ---- The two cases
 
@@ -126,3 +186,31 @@ exported-kept fits Handed Unchanged unfit kept = record {
   handed = λ fit. absurd (false≢true (sym unfit ∙ fit));
   kept = λ _. kept;
 }
+
+module _ {Opened : Type 0} {test fits : Bool} {whole zeros opened : Opened}
+    (opens : MadeIf Opened test fits whole zeros opened) where
+  -- A call's result, where what is lent fits: its own promise says which refusal it answers.
+  pub hands : {Result Unchanged : Type 0} {refused answer : ℕ} {Says Written : Result → Type 0}
+      → fits ≡ true
+      → (result : Result)
+      → answer ≡ refused
+      → Says result
+      → Written result
+      → Exported test (Hands Result refused Says Written answer) Unchanged
+  hands fit result refusal says written =
+      exported-handed _ _ _ (sym (opens .fits-is) ∙ fit)
+      record {
+        refusal = refusal;
+        result = result;
+        says = says;
+        written = written;
+      }
+
+  -- The answer 255, where it does not fit: all is as it was.
+  pub keeps : {Handed : Type 0} {lents : List Lent}
+      → fits ≡ false
+      → map (λ (l : Lent). l .after) lents ≡ map (λ (l : Lent). l .before) lents
+      → Exported test Handed (Kept lents unfit)
+  keeps left unchanged =
+      exported-kept _ _ _ (sym (opens .fits-is) ∙ left)
+      (record { refused = refl; unchanged = unchanged })

@@ -3,7 +3,8 @@
 -- of the records that the numbers stand for, and the lent numbers are those of what it hands back.
 --
 --   Exported fits Handed Kept     Handed where what is lent fits, else Kept
---   HandsObserved ..              what each call hands back
+--   Hands ..                      what a call hands back
+--   HandsObserved ..              the same of each call
 use mathlib.Core.Path.{_≡_}
 use mathlib.Core.Bool.{Bool, true, false}
 use mathlib.Core.List.{List, [], _∷_, map}
@@ -47,14 +48,29 @@ pub record Exported (fits : Bool) (Handed Unchanged : Type 0) : Type 0 where
   pub handed : fits ≡ true → Handed
   pub kept : fits ≡ false → Unchanged
 
+-- What a call hands back: the refusal of the call behind it, and in the lent numbers a result of
+-- which that call's own promise holds.
+pub record Hands (Result : Type 0) (refused : ℕ) (Says Written : Result → Type 0) (answer : ℕ)
+    : Type 0 where
+  pub refusal : answer ≡ refused
+  pub result : Result
+  pub says : Says result
+  pub written : Written result
+
+-- Numbers written to those of a record, and others to those of the answer.
+pub record WritesBoth (next : List ℕ) (numbers : Lent) (sent : List ℕ) (out : Lent) : Type 0 where
+  pub numbers-are : Writes next numbers
+  pub out-is : Writes sent out
+
 -- ---- Sites
 
 -- Starting all sites: 129 numbers for the records and the count.
-pub record HandsSites (settings : Settings) (memory sites : Lent) (answer : ℕ) : Type 0 where
-  pub refusal : answer ≡ startRefusal settings (memory .before)
-  pub started : StartedSites
-  pub says : StartSays settings (memory .before) (memory .after) started
-  pub sites-are : Writes (sitesNumbers (started .sites)) sites
+abbrev pub HandsSites : Settings → Lent → Lent → ℕ → Type 0
+HandsSites settings memory sites =
+    Hands StartedSites
+    (startRefusal settings (memory .before))
+    (StartSays settings (memory .before) (memory .after))
+    (λ (started : StartedSites). Writes (sitesNumbers (started .sites)) sites)
 
 abbrev pub StartSitesExported : Slice → Slice → Slice → ℕ → Type 0
 StartSitesExported settings memory sites answer =
@@ -64,14 +80,13 @@ StartSitesExported settings memory sites answer =
     (Kept (lent memory ∷ (lent sites ∷ [])) answer)
 
 -- An arrival at a site: 9 numbers for two messages and how many there are.
-pub record HandsObserved (settings : Settings) (arrival : Arrival)
-    (site memory out : Lent) (answer : ℕ) : Type 0 where
-  pub refusal : answer ≡ observeRefusal settings (siteFrom (site .before)) arrival (memory .before)
-  pub observed : Observed
-  pub says : ObserveSays settings (siteFrom (site .before)) arrival
-      (memory .before) (memory .after) observed
-  pub site-is : Writes (siteNumbers (observed .site)) site
-  pub out-is : Writes (twoMessages (observed .count) (observed .first) (observed .second)) out
+abbrev pub HandsObserved : Settings → Arrival → Lent → Lent → Lent → ℕ → Type 0
+HandsObserved settings arrival site memory out =
+    Hands Observed
+    (observeRefusal settings (siteFrom (site .before)) arrival (memory .before))
+    (ObserveSays settings (siteFrom (site .before)) arrival (memory .before) (memory .after))
+    (λ (observed : Observed). WritesBoth (siteNumbers (observed .site)) site
+    (twoMessages (observed .count) (observed .first) (observed .second)) out)
 
 abbrev pub ObserveExported : Slice → Arrival → Slice → Slice → Slice → ℕ → Type 0
 ObserveExported settings arrival site memory out answer =
@@ -82,13 +97,13 @@ ObserveExported settings arrival site memory out answer =
     (Kept (lent site ∷ (lent memory ∷ (lent out ∷ []))) answer)
 
 -- A message at a site: 5 numbers for the reply and how many there are.
-pub record HandsAnswered (settings : Settings) (which : ℕ) (m : Message) (memory : List ℕ)
-    (site out : Lent) (answer : ℕ) : Type 0 where
-  pub refusal : answer ≡ receiveRefusal settings (siteFrom (site .before)) which m memory
-  pub answered : Answered
-  pub says : ReceiveSays settings (siteFrom (site .before)) which m memory answered
-  pub site-is : Writes (siteNumbers (answered .site)) site
-  pub out-is : Writes (oneMessage (answered .count) (answered .reply)) out
+abbrev pub HandsAnswered : Settings → ℕ → Message → List ℕ → Lent → Lent → ℕ → Type 0
+HandsAnswered settings which m memory site out =
+    Hands Answered
+    (receiveRefusal settings (siteFrom (site .before)) which m memory)
+    (ReceiveSays settings (siteFrom (site .before)) which m memory)
+    (λ (answered : Answered). WritesBoth (siteNumbers (answered .site)) site
+    (oneMessage (answered .count) (answered .reply)) out)
 
 abbrev pub ReplyExported : Slice → ℕ → Message → Slice → Slice → Slice → ℕ → Type 0
 ReplyExported settings which m memory site out answer =
@@ -101,12 +116,13 @@ ReplyExported settings which m memory site out answer =
 -- ---- The coordinator
 
 -- Starting the coordinator: 10 numbers for its record.
-pub record HandsCoordinator (settings : Settings) (memory numbers : Lent) (answer : ℕ)
-    : Type 0 where
-  pub refusal : answer ≡ coordinator.startRefusal settings (length (memory .before))
-  pub started : StartedCoordinator
-  pub says : coordinator.Starts settings (memory .before) (memory .after) started
-  pub numbers-are : Writes (coordinatorNumbers (started .coordinator)) numbers
+abbrev pub HandsCoordinator : Settings → Lent → Lent → ℕ → Type 0
+HandsCoordinator settings memory numbers =
+    Hands StartedCoordinator
+    (coordinator.startRefusal settings (length (memory .before)))
+    (coordinator.Starts settings (memory .before) (memory .after))
+    (λ (started : StartedCoordinator).
+    Writes (coordinatorNumbers (started .coordinator)) numbers)
 
 abbrev pub StartCoordinatorExported : Slice → Slice → Slice → ℕ → Type 0
 StartCoordinatorExported settings memory numbers answer =
@@ -116,17 +132,18 @@ StartCoordinatorExported settings memory numbers answer =
     (Kept (lent memory ∷ (lent numbers ∷ [])) answer)
 
 -- What a step hands back: the record's numbers and 5 numbers for a message.
-pub record HandsReceived (received : Received) (numbers out : Lent) : Type 0 where
-  pub numbers-are : Writes (coordinatorNumbers (received .coordinator)) numbers
-  pub out-is : Writes (oneMessage (received .count) (received .out)) out
+abbrev pub HandsReceived : Received → Lent → Lent → Type 0
+HandsReceived received numbers out =
+    WritesBoth (coordinatorNumbers (received .coordinator)) numbers
+    (oneMessage (received .count) (received .out)) out
 
 -- A message at the coordinator.
-pub record HandsReceipt (settings : Settings) (c : CoordinatorRecord) (m : Message)
-    (numbers memory out : Lent) (answer : ℕ) : Type 0 where
-  pub refusal : answer ≡ coordinator.receiveRefusal settings c m (memory .before)
-  pub received : Received
-  pub says : coordinator.Receives settings c m (memory .before) (memory .after) received
-  pub hands : HandsReceived received numbers out
+abbrev pub HandsReceipt : Settings → CoordinatorRecord → Message → Lent → Lent → Lent → ℕ → Type 0
+HandsReceipt settings c m numbers memory out =
+    Hands Received
+    (coordinator.receiveRefusal settings c m (memory .before))
+    (coordinator.Receives settings c m (memory .before) (memory .after))
+    (λ (received : Received). HandsReceived received numbers out)
 
 abbrev pub ReceiptExported : Slice → Message → Slice → Slice → Slice → ℕ → Type 0
 ReceiptExported settings m numbers memory out answer =
@@ -137,12 +154,12 @@ ReceiptExported settings m numbers memory out answer =
     (Kept (lent numbers ∷ (lent memory ∷ (lent out ∷ []))) answer)
 
 -- The next kind 7.
-pub record HandsAnnouncement (settings : Settings) (c : CoordinatorRecord) (memory : List ℕ)
-    (numbers out : Lent) (answer : ℕ) : Type 0 where
-  pub refusal : answer ≡ coordinator.announceRefusal settings c memory
-  pub received : Received
-  pub says : coordinator.Announces settings c memory received
-  pub hands : HandsReceived received numbers out
+abbrev pub HandsAnnouncement : Settings → CoordinatorRecord → List ℕ → Lent → Lent → ℕ → Type 0
+HandsAnnouncement settings c memory numbers out =
+    Hands Received
+    (coordinator.announceRefusal settings c memory)
+    (coordinator.Announces settings c memory)
+    (λ (received : Received). HandsReceived received numbers out)
 
 abbrev pub AnnouncementExported : Slice → Slice → Slice → Slice → ℕ → Type 0
 AnnouncementExported settings memory numbers out answer =
@@ -155,12 +172,12 @@ AnnouncementExported settings memory numbers out answer =
 -- ---- Reading
 
 -- The list: one number for how many items it wrote.
-pub record HandsList (settings : Settings) (c : CoordinatorRecord) (memory : List ℕ)
-    (list out : Lent) (answer : ℕ) : Type 0 where
-  pub refusal : answer ≡ listRefusal settings c memory (length (list .before))
-  pub listed : Listed
-  pub says : Lists settings c memory (list .before) (list .after) listed
-  pub out-is : Writes (listed .count ∷ []) out
+abbrev pub HandsList : Settings → CoordinatorRecord → List ℕ → Lent → Lent → ℕ → Type 0
+HandsList settings c memory list out =
+    Hands Listed
+    (listRefusal settings c memory (length (list .before)))
+    (Lists settings c memory (list .before) (list .after))
+    (λ (listed : Listed). Writes (listed .count ∷ []) out)
 
 abbrev pub ListExported : Slice → Slice → Slice → Slice → Slice → ℕ → Type 0
 ListExported settings numbers memory list out answer =
@@ -201,12 +218,12 @@ pub record MarginExports (settings numbers : Slice) (item : ℕ) (memory : Slice
   pub margin-is : MarginExported settings numbers item memory (read .margin)
 
 -- The quantile: two numbers.
-pub record HandsQuantile (settings : Settings) (c : CoordinatorRecord) (memory : List ℕ)
-    (out : Lent) (answer : ℕ) : Type 0 where
-  pub refusal : answer ≡ coordinatorMemoryRefusal settings c memory
-  pub read : QuantileRead
-  pub says : ReadsQuantile settings c memory read
-  pub out-is : Writes (quantileNumbers (read .quantile)) out
+abbrev pub HandsQuantile : Settings → CoordinatorRecord → List ℕ → Lent → ℕ → Type 0
+HandsQuantile settings c memory out =
+    Hands QuantileRead
+    (coordinatorMemoryRefusal settings c memory)
+    (ReadsQuantile settings c memory)
+    (λ (read : QuantileRead). Writes (quantileNumbers (read .quantile)) out)
 
 abbrev pub QuantileExported : Slice → Slice → Slice → Slice → ℕ → Type 0
 QuantileExported settings numbers memory out answer =

@@ -2,7 +2,8 @@
 --
 --   Slice, given, lent                           numbers as a call's promise names them
 --   placesLent, siteLent, .. networkLent         whether what is lent fits
---   OpensPlaces, OpensSite, OpensCoordinator     the records, all zeros where it does not fit
+--   MadeIf                                       the records, all zeros where it does not fit
+--   OpensPlaces, OpensSite, OpensCoordinator     the same of each opening
 use mathlib.Core.Path.{_≡_}
 use mathlib.Core.Bool.{Bool, true, false, _&&_}
 use mathlib.Core.List.{List}
@@ -93,20 +94,23 @@ coordinatorMade settings numbers = record {
 abbrev pub noCoordinator : CoordinatorOpened
 noCoordinator = record { fits = false; settings = zeroSettings; coordinator = zeroCoordinator }
 
+-- The records of the numbers where what is lent fits, else zeros.
+pub record MadeIf (Opened : Type 0) (test fits : Bool) (whole zeros opened : Opened) : Type 0 where
+  pub fits-is : fits ≡ test
+  pub made : fits ≡ true → opened ≡ whole
+  pub left : fits ≡ false → opened ≡ zeros
+
 pub record OpensPlaces (settings : List ℕ) (places least : ℕ) (opened : PlacesOpened)
     : Type 0 where
-  pub fits-is : opened .fits ≡ placesLent settings places least
-  pub made : opened .fits ≡ true → opened ≡ placesMade settings
-  pub left : opened .fits ≡ false → opened ≡ noPlaces
+  pub opens : MadeIf PlacesOpened (placesLent settings places least) (opened .fits)
+      (placesMade settings) noPlaces opened
 
 pub record OpensSite (settings site : List ℕ) (places least : ℕ) (opened : SiteOpened)
     : Type 0 where
-  pub fits-is : opened .fits ≡ siteLent settings site places least
-  pub made : opened .fits ≡ true → opened ≡ siteMade settings site
-  pub left : opened .fits ≡ false → opened ≡ noSite
+  pub opens : MadeIf SiteOpened (siteLent settings site places least) (opened .fits)
+      (siteMade settings site) noSite opened
 
 pub record OpensCoordinator (settings numbers : List ℕ) (places least : ℕ)
     (opened : CoordinatorOpened) : Type 0 where
-  pub fits-is : opened .fits ≡ coordinatorLent settings numbers places least
-  pub made : opened .fits ≡ true → opened ≡ coordinatorMade settings numbers
-  pub left : opened .fits ≡ false → opened ≡ noCoordinator
+  pub opens : MadeIf CoordinatorOpened (coordinatorLent settings numbers places least)
+      (opened .fits) (coordinatorMade settings numbers) noCoordinator opened

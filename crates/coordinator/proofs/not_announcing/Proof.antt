@@ -7,18 +7,6 @@ use Rattle.model.specs.Coordinator.{isAnnouncing}
 use Rattle.coordinator.proofs.not_announcing.Statement.{statement}
 use Rattle.coordinator.proofs.not_announcing.Tie as tie
 
-enum-told : tie.Need-enum-told
-enum-told c = search needs
-
-enum-told-2 : tie.Need-enum-told-2
-enum-told-2 c = search needs
-
-enum-told-3 : tie.Need-enum-told-3
-enum-told-3 c = search needs
-
-enum-told-4 : tie.Need-enum-told-4
-enum-told-4 c = search needs
-
 returns : tie.Need-returns
 returns c = ap (λ (p : Phase). not (isAnnouncing p)) (sym (c .enum-told .given .1))
 
@@ -35,10 +23,7 @@ pub not-announcing-spec : {M : Type 1} → statement M
 not-announcing-spec =
     tie.close
     (tie.spec
-    enum-told
-    enum-told-2
-    enum-told-3
-    enum-told-4
+    (λ c. search needs) (λ c. search needs) (λ c. search needs) (λ c. search needs)
     returns
     returns-2
     returns-3

@@ -7,15 +7,6 @@ use Rattle.coordinator.specs.Calls.{receiveRefusal}
 use Rattle.coordinator.proofs.receive.Statement.{statement}
 use Rattle.coordinator.proofs.receive.Tie as tie
 
-receive-refusal-requires : tie.Need-receive-refusal-requires
-receive-refusal-requires c κs = search needs
-
-no-message-requires : tie.Need-no-message-requires
-no-message-requires c κs = search needs
-
-same-length : tie.Need-same-length
-same-length c = search needs
-
 returns : tie.Need-returns
 returns c =
     let tests = c .before .before in
@@ -37,9 +28,6 @@ receive-step-requires c κs =
     step-asks (start .settings) (start .coordinator) (start .message) (start .memory .now)
     (sym (tests .receive-refusal .ensures) ∙ c .before .if1 .left)
 
-same-length-2 : tie.Need-same-length-2
-same-length-2 c = search needs
-
 returns-2 : tie.Need-returns-2
 returns-2 c =
     let stepped = c .before .before .before .before in
@@ -60,10 +48,8 @@ pub receive-spec : {M : Type 1} → statement M
 receive-spec =
     tie.close
     (tie.spec
-    receive-refusal-requires
-    no-message-requires
-    same-length
+    (λ c κs. search needs) (λ c κs. search needs) (λ c. search needs)
     returns
     receive-step-requires
-    same-length-2
+    (λ c. search needs)
     returns-2)

@@ -13,12 +13,6 @@ use Rattle.model.specs.SiteMemory.{overwrite}
 use Rattle.coordinator.proofs.start_coordinator.Statement.{statement}
 use Rattle.coordinator.proofs.start_coordinator.Tie as tie
 
-fresh-record-requires : tie.Need-fresh-record-requires
-fresh-record-requires c κs = search needs
-
-start-refusal-requires : tie.Need-start-refusal-requires
-start-refusal-requires c κs = search needs
-
 returns : tie.Need-returns
 returns c =
     let tests = c .before in
@@ -31,21 +25,12 @@ returns c =
       memory = refuses refusal _ _ (λ none. c .if1 .taken (result-is ∙ none));
     }
 
-cast-clear : tie.Need-cast-clear
-cast-clear c = search needs
-
-add-clear : tie.Need-add-clear
-add-clear c = search needs
-
 clear-requires : tie.Need-clear-requires
 clear-requires c κs =
     let tests = c .before .before .before in
     let start = tests .before .before .before .args in
     let none = sym (tests .start-refusal .ensures) ∙ c .before .before .if1 .left in
     omega (arith, start-long (start .settings) (length (start .memory .now)) none, valueCount-is)
-
-same-length : tie.Need-same-length
-same-length c = search needs
 
 returns-2 : tie.Need-returns-2
 returns-2 c =
@@ -71,11 +56,9 @@ pub start-coordinator-spec : {M : Type 1} → statement M
 start-coordinator-spec =
     tie.close
     (tie.spec
-    fresh-record-requires
-    start-refusal-requires
+    (λ c κs. search needs) (λ c κs. search needs)
     returns
-    cast-clear
-    add-clear
+    (λ c. search needs) (λ c. search needs)
     clear-requires
-    same-length
+    (λ c. search needs)
     returns-2)

@@ -9,30 +9,6 @@ use Rattle.model.specs.declared.Phase.the-variants.{Announcing}
 use Rattle.coordinator_steps.proofs.announce_step.Statement.{statement}
 use Rattle.coordinator_steps.proofs.announce_step.Tie as tie
 
-enum-told : tie.Need-enum-told
-enum-told c = search needs
-
-keep-silent-requires : tie.Need-keep-silent-requires
-keep-silent-requires c κs = search needs
-
-enum-told-2 : tie.Need-enum-told-2
-enum-told-2 c = search needs
-
-keep-silent-requires-2 : tie.Need-keep-silent-requires-2
-keep-silent-requires-2 c κs = search needs
-
-enum-told-3 : tie.Need-enum-told-3
-enum-told-3 c = search needs
-
-keep-silent-requires-3 : tie.Need-keep-silent-requires-3
-keep-silent-requires-3 c κs = search needs
-
-enum-known-phase : tie.Need-enum-known-phase
-enum-known-phase c = search needs
-
-announcement-of-requires : tie.Need-announcement-of-requires
-announcement-of-requires c κs = search needs
-
 add-if1 : tie.Need-add-if1
 add-if1 c =
     let start = c .before .before .before .before in
@@ -47,12 +23,6 @@ add-if1 c =
           .sites-few,
     )
 
-add-t10 : tie.Need-add-t10
-add-t10 c = search needs
-
-speak-requires : tie.Need-speak-requires
-speak-requires c κs = search needs
-
 returns : tie.Need-returns
 returns c = λ memory.
     rw (
@@ -61,9 +31,6 @@ returns c = λ memory.
           (c .before .if1 .taken),
     )
     (rw (c .before .before .before .announcement-of .ensures) at (c .speak .ensures))
-
-speak-requires-2 : tie.Need-speak-requires-2
-speak-requires-2 c κs = search needs
 
 returns-2 : tie.Need-returns-2
 returns-2 c = λ memory.
@@ -93,19 +60,12 @@ pub announce-step-spec : {M : Type 1} → statement M
 announce-step-spec =
     tie.close
     (tie.spec
-    enum-told
-    keep-silent-requires
-    enum-told-2
-    keep-silent-requires-2
-    enum-told-3
-    keep-silent-requires-3
-    enum-known-phase
-    announcement-of-requires
+    (λ c. search needs) (λ c κs. search needs) (λ c. search needs) (λ c κs. search needs)
+    (λ c. search needs) (λ c κs. search needs) (λ c. search needs) (λ c κs. search needs)
     add-if1
-    add-t10
-    speak-requires
+    (λ c. search needs) (λ c κs. search needs)
     returns
-    speak-requires-2
+    (λ c κs. search needs)
     returns-2
     returns-3
     returns-4

@@ -6,17 +6,11 @@ use Rattle.coordinator_steps.proofs.StepLaws.{item-asks, count-asks, po
 use Rattle.coordinator_steps.proofs.receive_step.Statement.{statement}
 use Rattle.coordinator_steps.proofs.receive_step.Tie as tie
 
-enum-told : tie.Need-enum-told
-enum-told c = search needs
-
 take-item-report-requires : tie.Need-take-item-report-requires
 take-item-report-requires c κs =
     let start = c .before .before .before .before .before .before in
     item-asks (start .args .settings) (start .args .coordinator) (start .args .message)
     (start .args .memory .now) (start .pre) (c .before .if1 .taken)
-
-same-length : tie.Need-same-length
-same-length c = search needs
 
 returns : tie.Need-returns
 returns c =
@@ -33,32 +27,17 @@ take-count-report-requires c κs =
     (start .args .memory .now) (start .pre) (c .before .before .before .enum-told .given .1)
     (c .before .if1 .left)
 
-enum-known-phase : tie.Need-enum-known-phase
-enum-known-phase c = search needs
-
 take-poll-answer-requires : tie.Need-take-poll-answer-requires
 take-poll-answer-requires c κs =
     let start = c .before .before .before .before in
     poll-asks (start .args .settings) (start .args .coordinator) (start .args .message)
     (start .args .memory .now) (start .pre) _ (c .before .phase .given .1)
 
-enum-known-phase-2 : tie.Need-enum-known-phase-2
-enum-known-phase-2 c = search needs
-
 take-probe-answer-requires : tie.Need-take-probe-answer-requires
 take-probe-answer-requires c κs =
     let start = c .before .before .before .before in
     probe-asks (start .args .settings) (start .args .coordinator) (start .args .message)
     (start .args .memory .now) (start .pre) _ _ _ _ (c .before .phase2 .given .1)
-
-enum-told-2 : tie.Need-enum-told-2
-enum-told-2 c = search needs
-
-keep-silent-requires : tie.Need-keep-silent-requires
-keep-silent-requires c κs = search needs
-
-same-length-2 : tie.Need-same-length-2
-same-length-2 c = search needs
 
 returns-2 : tie.Need-returns-2
 returns-2 c =
@@ -94,18 +73,16 @@ pub receive-step-spec : {M : Type 1} → statement M
 receive-step-spec =
     tie.close
     (tie.spec
-    enum-told
+    (λ c. search needs)
     take-item-report-requires
-    same-length
+    (λ c. search needs)
     returns
     take-count-report-requires
-    enum-known-phase
+    (λ c. search needs)
     take-poll-answer-requires
-    enum-known-phase-2
+    (λ c. search needs)
     take-probe-answer-requires
-    enum-told-2
-    keep-silent-requires
-    same-length-2
+    (λ c. search needs) (λ c κs. search needs) (λ c. search needs)
     returns-2
     returns-3
     returns-4

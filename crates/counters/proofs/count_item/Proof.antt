@@ -9,12 +9,6 @@ use Rattle.counters.proofs.CountLaws.{counted-own, counted-unused, coun
 use Rattle.counters.proofs.count_item.Statement.{statement}
 use Rattle.counters.proofs.count_item.Tie as tie
 
-find-counter-requires : tie.Need-find-counter-requires
-find-counter-requires c κs = search needs
-
-counter-at-requires : tie.Need-counter-at-requires
-counter-at-requires c κs = search needs
-
 add-t17 : tie.Need-add-t17
 add-t17 c =
     let at-counter-at = c .before in
@@ -27,12 +21,6 @@ add-t17 c =
       ap (λ (x : Counter). x .count) (at-counter-at .counter-at .ensures),
       small-at (a .memory .now) (a .capacity) (a .used) (start .pre) found (search needs),
     )
-
-put-counter-requires : tie.Need-put-counter-requires
-put-counter-requires c κs = search needs
-
-same-length : tie.Need-same-length
-same-length c = search needs
 
 returns : tie.Need-returns
 returns c =
@@ -48,15 +36,6 @@ returns c =
     (found .result) (found .ensures) (counterOf (old .result)) (old .ensures) (search needs)
     refl refl refl (put .ensures)
 
-put-counter-requires-2 : tie.Need-put-counter-requires-2
-put-counter-requires-2 c κs = search needs
-
-add-t24 : tie.Need-add-t24
-add-t24 c = search needs
-
-same-length-2 : tie.Need-same-length-2
-same-length-2 c = search needs
-
 returns-2 : tie.Need-returns-2
 returns-2 c =
     let at-put-counter2 = c .before .before in
@@ -68,9 +47,6 @@ returns-2 c =
     counted-unused (a .memory .now) (put .last .0) (a .capacity) (a .used) (a .item) (start .pre) _
     (found .result) (found .ensures) (search needs) (search needs)
     refl refl refl (put .ensures)
-
-least-counter-requires : tie.Need-least-counter-requires
-least-counter-requires c κs = search needs
 
 counter-at-requires-2 : tie.Need-counter-at-requires-2
 counter-at-requires-2 c κs =
@@ -116,9 +92,6 @@ put-counter-requires-3 c κs =
       least-within (a .memory .now) (a .capacity) (a .used) (start .pre) (search needs),
     )
 
-same-length-3 : tie.Need-same-length-3
-same-length-3 c = search needs
-
 returns-3 : tie.Need-returns-3
 returns-3 c =
     let at-put-counter3 = c .before .before in
@@ -141,19 +114,15 @@ pub count-item-spec : {M : Type 1} → statement M
 count-item-spec =
     tie.close
     (tie.spec
-    find-counter-requires
-    counter-at-requires
+    (λ c κs. search needs) (λ c κs. search needs)
     add-t17
-    put-counter-requires
-    same-length
+    (λ c κs. search needs) (λ c. search needs)
     returns
-    put-counter-requires-2
-    add-t24
-    same-length-2
+    (λ c κs. search needs) (λ c. search needs) (λ c. search needs)
     returns-2
-    least-counter-requires
+    (λ c κs. search needs)
     counter-at-requires-2
     add-t29
     put-counter-requires-3
-    same-length-3
+    (λ c. search needs)
     returns-3)

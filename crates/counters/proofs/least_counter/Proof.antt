@@ -17,57 +17,6 @@ abbrev μ-loop : tie.MeasureT-loop
 loop-holds : tie.Need-loop-holds Inv-loop μ-loop
 loop-holds c = least-start (c .before .args .memory .now) (c .before .args .used)
 
-mul-is-before : tie.Need-mul-is-before Inv-loop μ-loop
-mul-is-before c = search needs
-
-add-is-before : tie.Need-add-is-before Inv-loop μ-loop
-add-is-before c = search needs
-
-mul-is-before-2 : tie.Need-mul-is-before-2 Inv-loop μ-loop
-mul-is-before-2 c = search needs
-
-shared-slice-read-is-before : tie.Need-shared-slice-read-is-before Inv-loop μ-loop
-shared-slice-read-is-before c = search needs
-
-mul-is-before-3 : tie.Need-mul-is-before-3 Inv-loop μ-loop
-mul-is-before-3 c = search needs
-
-mul-is-before-4 : tie.Need-mul-is-before-4 Inv-loop μ-loop
-mul-is-before-4 c = search needs
-
-shared-slice-read-is-before-2 : tie.Need-shared-slice-read-is-before-2 Inv-loop μ-loop
-shared-slice-read-is-before-2 c = search needs
-
-mul-is-before-5 : tie.Need-mul-is-before-5 Inv-loop μ-loop
-mul-is-before-5 c = search needs
-
-add-is-before-2 : tie.Need-add-is-before-2 Inv-loop μ-loop
-add-is-before-2 c = search needs
-
-mul-is-before-6 : tie.Need-mul-is-before-6 Inv-loop μ-loop
-mul-is-before-6 c = search needs
-
-shared-slice-read-is-before-3 : tie.Need-shared-slice-read-is-before-3 Inv-loop μ-loop
-shared-slice-read-is-before-3 c = search needs
-
-mul-is-before-7 : tie.Need-mul-is-before-7 Inv-loop μ-loop
-mul-is-before-7 c = search needs
-
-mul-is-before-8 : tie.Need-mul-is-before-8 Inv-loop μ-loop
-mul-is-before-8 c = search needs
-
-shared-slice-read-is-before-4 : tie.Need-shared-slice-read-is-before-4 Inv-loop μ-loop
-shared-slice-read-is-before-4 c = search needs
-
-is-before-requires : tie.Need-is-before-requires Inv-loop μ-loop
-is-before-requires c κs = search needs
-
-add-i : tie.Need-add-i Inv-loop μ-loop
-add-i c = search needs
-
-loop-less : tie.Need-loop-less Inv-loop μ-loop
-loop-less c = search needs
-
 loop-again : tie.Need-loop-again Inv-loop μ-loop
 loop-again c =
     let at-loop = c .before .before .before .before .before .before .before in
@@ -98,22 +47,10 @@ least-counter-spec =
     Inv-loop
     μ-loop
     loop-holds
-    mul-is-before
-    add-is-before
-    mul-is-before-2
-    shared-slice-read-is-before
-    mul-is-before-3
-    mul-is-before-4
-    shared-slice-read-is-before-2
-    mul-is-before-5
-    add-is-before-2
-    mul-is-before-6
-    shared-slice-read-is-before-3
-    mul-is-before-7
-    mul-is-before-8
-    shared-slice-read-is-before-4
-    is-before-requires
-    add-i
-    loop-less
+    (λ c. search needs) (λ c. search needs) (λ c. search needs) (λ c. search needs)
+    (λ c. search needs) (λ c. search needs) (λ c. search needs) (λ c. search needs)
+    (λ c. search needs) (λ c. search needs) (λ c. search needs) (λ c. search needs)
+    (λ c. search needs) (λ c. search needs) (λ c κs. search needs) (λ c. search needs)
+    (λ c. search needs)
     loop-again
     returns)

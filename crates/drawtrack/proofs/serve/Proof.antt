@@ -19,12 +19,6 @@ abbrev μ-loop : tie.MeasureT-loop
     coordinator-memory log list out session turns =
     8241 - turns
 
-begin-requires : tie.Need-begin-requires Inv-loop μ-loop
-begin-requires c κs = search needs
-
-write-out-requires : tie.Need-write-out-requires Inv-loop μ-loop
-write-out-requires c κs = search needs
-
 loop-holds : tie.Need-loop-holds Inv-loop μ-loop
 loop-holds c =
     let begun = c .before .before .before .before .before .before .before .before .before in
@@ -33,12 +27,6 @@ loop-holds c =
     serving-begins (start .args .input .now) (start .args .site-memory .now)
     (start .args .coordinator-memory .now) (start .args .log .now) (start .args .list .now)
     (start .args .out .now) _ _ _ (begun .begin .result) (start .pre) (begun .begin .ensures)
-
-advance-requires : tie.Need-advance-requires Inv-loop μ-loop
-advance-requires c κs = search needs
-
-write-out-requires-2 : tie.Need-write-out-requires-2 Inv-loop μ-loop
-write-out-requires-2 c κs = search needs
 
 add-turns : tie.Need-add-turns Inv-loop μ-loop
 add-turns c =
@@ -67,41 +55,11 @@ loop-again c =
     serving-on _ _ _ _ _ _ _ _ _ _ _ _ (loop .turns) (loop .inv) _ _ _ _ _
     (advanced .advance .result) (inside .loop-test .taken) (advanced .advance .ensures)
 
-same-length : tie.Need-same-length Inv-loop μ-loop
-same-length c = search needs
-
-same-length-2 : tie.Need-same-length-2 Inv-loop μ-loop
-same-length-2 c = search needs
-
-same-length-3 : tie.Need-same-length-3 Inv-loop μ-loop
-same-length-3 c = search needs
-
-same-length-4 : tie.Need-same-length-4 Inv-loop μ-loop
-same-length-4 c = search needs
-
-same-length-5 : tie.Need-same-length-5 Inv-loop μ-loop
-same-length-5 c = search needs
-
 returns : tie.Need-returns Inv-loop μ-loop
 returns c =
     let loop = c .before .before .loop in
     serving-ended _ _ _ _ _ _ _ _ _ _ _ _ (loop .turns) (loop .inv)
     (ltb-false (loop .turns) _ (c .if1 .left))
-
-same-length-6 : tie.Need-same-length-6 Inv-loop μ-loop
-same-length-6 c = search needs
-
-same-length-7 : tie.Need-same-length-7 Inv-loop μ-loop
-same-length-7 c = search needs
-
-same-length-8 : tie.Need-same-length-8 Inv-loop μ-loop
-same-length-8 c = search needs
-
-same-length-9 : tie.Need-same-length-9 Inv-loop μ-loop
-same-length-9 c = search needs
-
-same-length-10 : tie.Need-same-length-10 Inv-loop μ-loop
-same-length-10 c = search needs
 
 returns-2 : tie.Need-returns-2 Inv-loop μ-loop
 returns-2 c = c .loop-test .left
@@ -112,23 +70,15 @@ serve-spec =
     (tie.spec
     Inv-loop
     μ-loop
-    begin-requires
-    write-out-requires
+    (λ c κs. search needs) (λ c κs. search needs)
     loop-holds
-    advance-requires
-    write-out-requires-2
+    (λ c κs. search needs) (λ c κs. search needs)
     add-turns
     loop-less
     loop-again
-    same-length
-    same-length-2
-    same-length-3
-    same-length-4
-    same-length-5
+    (λ c. search needs) (λ c. search needs) (λ c. search needs) (λ c. search needs)
+    (λ c. search needs)
     returns
-    same-length-6
-    same-length-7
-    same-length-8
-    same-length-9
-    same-length-10
+    (λ c. search needs) (λ c. search needs) (λ c. search needs) (λ c. search needs)
+    (λ c. search needs)
     returns-2)

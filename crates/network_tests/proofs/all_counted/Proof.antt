@@ -28,9 +28,6 @@ Inv-loop total sites count counted₀ arrived₀ j₀ counted arrived j =
 abbrev μ-loop : tie.MeasureT-loop
 μ-loop total sites count counted₀ arrived₀ j₀ counted arrived j = count - j
 
-cast-count : tie.Need-cast-count Inv-loop μ-loop
-cast-count c = search needs
-
 loop-holds : tie.Need-loop-holds Inv-loop μ-loop
 loop-holds c =
     let a = c .before .args in
@@ -41,9 +38,6 @@ loop-holds c =
       sums = λ settings memory.
           counted-start (a .settings .sites) settings (a .t2 .records) memory (a .total);
     }
-
-mul-numbers : tie.Need-mul-numbers Inv-loop μ-loop
-mul-numbers c = search needs
 
 element-copy-out-numbers : tie.Need-element-copy-out-numbers Inv-loop μ-loop
 element-copy-out-numbers c =
@@ -81,12 +75,6 @@ add-arrived c =
       inside,
       fit .sites .at-most,
     )
-
-add-j : tie.Need-add-j Inv-loop μ-loop
-add-j c = search needs
-
-loop-less : tie.Need-loop-less Inv-loop μ-loop
-loop-less c = search needs
 
 loop-again : tie.Need-loop-again Inv-loop μ-loop
 loop-again c =
@@ -127,13 +115,12 @@ all-counted-spec =
     (tie.spec
     Inv-loop
     μ-loop
-    cast-count
+    (λ c. search needs)
     loop-holds
-    mul-numbers
+    (λ c. search needs)
     element-copy-out-numbers
     add-counted
     add-arrived
-    add-j
-    loop-less
+    (λ c. search needs) (λ c. search needs)
     loop-again
     returns)

@@ -4,15 +4,6 @@ use borrow.Author.Needs.{needs}
 use Rattle.network_tests.proofs.at_rest.Statement.{statement}
 use Rattle.network_tests.proofs.at_rest.Tie as tie
 
-enum-told : tie.Need-enum-told
-enum-told c = search needs
-
-same-thresholds-requires : tie.Need-same-thresholds-requires
-same-thresholds-requires c κs = search needs
-
-all-counted-requires : tie.Need-all-counted-requires
-all-counted-requires c κs = search needs
-
 returns : tie.Need-returns
 returns c =
     let walked = c .before .before in
@@ -22,15 +13,6 @@ returns c =
           rw (idle, sym (walked .same-thresholds .ensures .same sites) ∙ c .before .if1 .taken)
           (c .all-counted .ensures .counted sites);
     }
-
-enum-told-2 : tie.Need-enum-told-2
-enum-told-2 c = search needs
-
-enum-told-3 : tie.Need-enum-told-3
-enum-told-3 c = search needs
-
-enum-told-4 : tie.Need-enum-told-4
-enum-told-4 c = search needs
 
 returns-2 : tie.Need-returns-2
 returns-2 c =
@@ -54,13 +36,9 @@ pub at-rest-spec : {M : Type 1} → statement M
 at-rest-spec =
     tie.close
     (tie.spec
-    enum-told
-    same-thresholds-requires
-    all-counted-requires
+    (λ c. search needs) (λ c κs. search needs) (λ c κs. search needs)
     returns
-    enum-told-2
-    enum-told-3
-    enum-told-4
+    (λ c. search needs) (λ c. search needs) (λ c. search needs)
     returns-2
     returns-3
     returns-4

@@ -18,17 +18,11 @@ Inv-loop threshold sites count j₀ j =
 abbrev μ-loop : tie.MeasureT-loop
 μ-loop threshold sites count j₀ j = count - j
 
-cast-count : tie.Need-cast-count Inv-loop μ-loop
-cast-count c = search needs
-
 loop-holds : tie.Need-loop-holds Inv-loop μ-loop
 loop-holds c =
     let a = c .before .args in
     λ settings memory.
     same-start (a .settings .sites) settings (a .t2 .records) memory (a .threshold)
-
-mul-numbers : tie.Need-mul-numbers Inv-loop μ-loop
-mul-numbers c = search needs
 
 element-copy-out-numbers : tie.Need-element-copy-out-numbers Inv-loop μ-loop
 element-copy-out-numbers c =
@@ -49,12 +43,6 @@ returns c =
           (at-loop .j) (at-loop .inv (a .settings) memory) inside
           (omega (arith, inside, start .pre .all-records)) (c .if1 .taken);
     }
-
-add-j : tie.Need-add-j Inv-loop μ-loop
-add-j c = search needs
-
-loop-less : tie.Need-loop-less Inv-loop μ-loop
-loop-less c = search needs
 
 loop-again : tie.Need-loop-again Inv-loop μ-loop
 loop-again c =
@@ -84,12 +72,11 @@ same-thresholds-spec =
     (tie.spec
     Inv-loop
     μ-loop
-    cast-count
+    (λ c. search needs)
     loop-holds
-    mul-numbers
+    (λ c. search needs)
     element-copy-out-numbers
     returns
-    add-j
-    loop-less
+    (λ c. search needs) (λ c. search needs)
     loop-again
     returns-2)

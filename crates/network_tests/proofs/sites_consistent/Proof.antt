@@ -4,10 +4,12 @@ use mathlib.Core.Path.{_≡_, refl, sym, ap, _∙_}
 use mathlib.Core.List.{List}
 use Prim.Native.Nat.{ℕ, _-_, _*_}
 use native.Mathlib.Omega.{arith}
+use lib.ListN.{getD, drop}
 use Rattle.model.specs.declared.Settings.{Settings}
 use Rattle.model.specs.declared.SiteRecord.{SiteRecord}
 use Rattle.model.specs.SiteMemory.{siteWords, siteConsistent}
-use Rattle.network_tests.proofs.PartLaws.{site-few, starts-small, starts-within, own-is, part-fits}
+use Rattle.network_memory.specs.Records.{noRecord}
+use Rattle.network_tests.proofs.PartLaws.{PartStarts, site-few, starts-at, own-is, part-fits}
 use Rattle.network_tests.proofs.SitesLaws.{Passing, passing-start, passing-on, passing-fails, passing-end}
 use borrow.Author.Needs.{needs}
 use Rattle.network_tests.proofs.sites_consistent.Statement.{statement}
@@ -30,12 +32,6 @@ Inv-loop settings memory sites count words j₀ j =
 abbrev μ-loop : tie.MeasureT-loop
 μ-loop settings memory sites count words j₀ j = count - j
 
-cast-count : tie.Need-cast-count Inv-loop μ-loop
-cast-count c = search needs
-
-site-words-requires : tie.Need-site-words-requires Inv-loop μ-loop
-site-words-requires c κs = search needs
-
 loop-holds : tie.Need-loop-holds Inv-loop μ-loop
 loop-holds c =
     let a = c .before .before .before .args in
@@ -46,16 +42,18 @@ loop-holds c =
           (a .memory .now);
     }
 
-mul-start : tie.Need-mul-start Inv-loop μ-loop
-mul-start c =
-    let at-loop = c .before in
+-- The part of the site looked at starts within the memory, as the code counts its words.
+starts : (tested : tie.In-loop Inv-loop μ-loop)
+    → let at-loop = tested .before in
     let start = at-loop .before .before .before .before in
-    let j = at-loop .loop .j in
-    let at-start = ap (λ (z : ℕ). j * z) (at-loop .before .site-words .ensures) in
-    omega (arith, starts-small (start .pre) j (c .loop-test .taken), at-start)
+    PartStarts (start .args .memory .now) (at-loop .loop .j) (at-loop .before .site-words .result)
+starts tested =
+    let at-loop = tested .before in
+    let start = at-loop .before .before .before .before in
+    starts-at (start .pre) _ (tested .loop-test .taken) _ (at-loop .before .site-words .ensures)
 
-mul-numbers : tie.Need-mul-numbers Inv-loop μ-loop
-mul-numbers c = search needs
+mul-start : tie.Need-mul-start Inv-loop μ-loop
+mul-start c = omega (arith, starts c .small)
 
 element-copy-out-numbers : tie.Need-element-copy-out-numbers Inv-loop μ-loop
 element-copy-out-numbers c =
@@ -64,34 +62,13 @@ element-copy-out-numbers c =
     omega (arith, site-few (start .pre) (at-loop .loop .j) (c .loop-test .taken))
 
 mul-site-consistent : tie.Need-mul-site-consistent Inv-loop μ-loop
-mul-site-consistent c =
-    let tested = c .before in
-    let at-loop = tested .before in
-    let start = at-loop .before .before .before .before in
-    let j = at-loop .loop .j in
-    let at-start = ap (λ (z : ℕ). j * z) (at-loop .before .site-words .ensures) in
-    omega (arith, starts-small (start .pre) j (tested .loop-test .taken), at-start)
+mul-site-consistent c = omega (arith, starts (c .before) .small)
 
 sub-site-consistent : tie.Need-sub-site-consistent Inv-loop μ-loop
-sub-site-consistent c =
-    let tested = c .before in
-    let at-loop = tested .before in
-    let start = at-loop .before .before .before .before in
-    let j = at-loop .loop .j in
-    let at-start = ap (λ (z : ℕ). j * z) (at-loop .before .site-words .ensures) in
-    omega (arith, starts-within (start .pre) j (tested .loop-test .taken), at-start)
+sub-site-consistent c = omega (arith, starts (c .before) .within)
 
 part-site-consistent-start : tie.Need-part-site-consistent-start Inv-loop μ-loop
-part-site-consistent-start c =
-    let tested = c .before in
-    let at-loop = tested .before in
-    let start = at-loop .before .before .before .before in
-    let j = at-loop .loop .j in
-    let at-start = ap (λ (z : ℕ). j * z) (at-loop .before .site-words .ensures) in
-    omega (arith, starts-within (start .pre) j (tested .loop-test .taken), at-start)
-
-part-site-consistent-end : tie.Need-part-site-consistent-end Inv-loop μ-loop
-part-site-consistent-end c = search needs
+part-site-consistent-start c = omega (arith, starts (c .before) .within)
 
 site-consistent-requires : tie.Need-site-consistent-requires Inv-loop μ-loop
 site-consistent-requires c κs =
@@ -102,47 +79,44 @@ site-consistent-requires c κs =
     part-fits (start .pre) (at-loop .loop .j) (tested .loop-test .taken) (words .result)
     (words .ensures)
 
-add-j : tie.Need-add-j Inv-loop μ-loop
-add-j c = search needs
-
-loop-less : tie.Need-loop-less Inv-loop μ-loop
-loop-less c = search needs
+-- The site looked at is tested by its own part of the memory.
+own-decides : (looked : tie.After-site-consistent Inv-loop μ-loop)
+    → let at-loop = looked .before .before .before .before in
+    let a = at-loop .before .before .before .before .args in
+    siteConsistent (a .settings) (getD (a .t2 .records) (at-loop .loop .j) noRecord)
+    (drop (at-loop .loop .j * siteWords (a .settings)) (a .memory .now))
+    ≡ looked .site-consistent .result
+own-decides looked =
+    let tested = looked .before .before .before in
+    let at-loop = tested .before in
+    let words = at-loop .before .site-words in
+    let start = at-loop .before .before .before .before in
+    ap (siteConsistent (start .args .settings) _)
+    (sym (own-is (start .pre) (at-loop .loop .j) (tested .loop-test .taken) (words .result)
+    (words .ensures)))
+    ∙ sym (looked .site-consistent .ensures)
 
 loop-again : tie.Need-loop-again Inv-loop μ-loop
 loop-again c =
     let tested = c .before .before .before .before in
     let at-loop = tested .before in
-    let words = at-loop .before .site-words in
-    let start = at-loop .before .before .before .before in
-    let a = start .args in
-    let j = at-loop .loop .j in
-    let inside = tested .loop-test .taken in
-    let own = own-is (start .pre) j inside (words .result) (words .ensures) in
-    let holds =
-    ap (siteConsistent (a .settings) _) (sym own)
-    ∙ sym (c .before .site-consistent .ensures) ∙ c .if1 .taken in
+    let a = at-loop .before .before .before .before .args in
     record {
       count-is = refl;
-      words-are = words .ensures;
-      passing = passing-on (a .settings .sites) (a .settings) (a .t2 .records) (a .memory .now) j
-          (at-loop .loop .inv .passing) inside holds;
+      words-are = at-loop .before .site-words .ensures;
+      passing = passing-on (a .settings .sites) (a .settings) (a .t2 .records) (a .memory .now)
+          (at-loop .loop .j) (at-loop .loop .inv .passing) (tested .loop-test .taken)
+          (own-decides (c .before) ∙ c .if1 .taken);
     }
 
 returns : tie.Need-returns Inv-loop μ-loop
 returns c =
     let tested = c .before .before .before .before in
     let at-loop = tested .before in
-    let words = at-loop .before .site-words in
-    let start = at-loop .before .before .before .before in
-    let a = start .args in
-    let j = at-loop .loop .j in
-    let inside = tested .loop-test .taken in
-    let own = own-is (start .pre) j inside (words .result) (words .ensures) in
-    let fails =
-    ap (siteConsistent (a .settings) _) (sym own)
-    ∙ sym (c .before .site-consistent .ensures) ∙ c .if1 .left in
-    passing-fails (a .settings .sites) (a .settings) (a .t2 .records) (a .memory .now) j
-    (at-loop .loop .inv .passing) inside fails
+    let a = at-loop .before .before .before .before .args in
+    passing-fails (a .settings .sites) (a .settings) (a .t2 .records) (a .memory .now)
+    (at-loop .loop .j) (at-loop .loop .inv .passing) (tested .loop-test .taken)
+    (own-decides (c .before) ∙ c .if1 .left)
 
 returns-2 : tie.Need-returns-2 Inv-loop μ-loop
 returns-2 c =
@@ -157,19 +131,17 @@ sites-consistent-spec =
     (tie.spec
     Inv-loop
     μ-loop
-    cast-count
-    site-words-requires
+    (λ c. search needs) (λ c κs. search needs)
     loop-holds
     mul-start
-    mul-numbers
+    (λ c. search needs)
     element-copy-out-numbers
     mul-site-consistent
     sub-site-consistent
     part-site-consistent-start
-    part-site-consistent-end
+    (λ c. search needs)
     site-consistent-requires
-    add-j
-    loop-less
+    (λ c. search needs) (λ c. search needs)
     loop-again
     returns
     returns-2)

@@ -10,15 +10,6 @@ use borrow.Author.Needs.{needs}
 use Rattle.public_delivery.proofs.begin.Statement.{statement}
 use Rattle.public_delivery.proofs.begin.Tie as tie
 
-site-asked-requires : tie.Need-site-asked-requires
-site-asked-requires c κs = search needs
-
-cast-which : tie.Need-cast-which
-cast-which c = search needs
-
-site-words-requires : tie.Need-site-words-requires
-site-words-requires c κs = search needs
-
 mul-start : tie.Need-mul-start
 mul-start c =
     let start = c .before .before .before in
@@ -58,12 +49,6 @@ part-observe-start c =
     let at-start = ap (λ (z : ℕ). which .result * z) (c .before .site-words .ensures) in
     omega (arith, starts-within (start .pre) (which .result) known, at-start)
 
-part-observe-end : tie.Need-part-observe-end
-part-observe-end c = search needs
-
-observe-requires : tie.Need-observe-requires
-observe-requires c κs = search needs
-
 with-record-requires : tie.Need-with-record-requires
 with-record-requires c κs =
     let asked = c .before .before .before .before .before .before .before .before .before in
@@ -71,15 +56,6 @@ with-record-requires c κs =
     let which = asked .site-asked in
     let known = which-known (start .pre) (start .args .arrival) (which .result) (which .ensures) in
     site-few (start .pre) (which .result) known
-
-queue-of-requires : tie.Need-queue-of-requires
-queue-of-requires c κs = search needs
-
-most-calls-requires : tie.Need-most-calls-requires
-most-calls-requires c κs = search needs
-
-same-length : tie.Need-same-length
-same-length c = search needs
 
 returns : tie.Need-returns
 returns c =
@@ -106,18 +82,13 @@ pub begin-spec : {M : Type 1} → statement M
 begin-spec =
     tie.close
     (tie.spec
-    site-asked-requires
-    cast-which
-    site-words-requires
+    (λ c κs. search needs) (λ c. search needs) (λ c κs. search needs)
     mul-start
     record-at-requires
     mul-observe
     sub-observe
     part-observe-start
-    part-observe-end
-    observe-requires
+    (λ c. search needs) (λ c κs. search needs)
     with-record-requires
-    queue-of-requires
-    most-calls-requires
-    same-length
+    (λ c κs. search needs) (λ c κs. search needs) (λ c. search needs)
     returns)

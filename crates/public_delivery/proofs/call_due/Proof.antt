@@ -27,21 +27,9 @@ returns-3 c =
       ne-eqb (progress .waiting .count) 0 (c .if3 .taken),
     )
 
-enum-told : tie.Need-enum-told
-enum-told c = search needs
-
-enum-told-2 : tie.Need-enum-told-2
-enum-told-2 c = search needs
-
-enum-told-3 : tie.Need-enum-told-3
-enum-told-3 c = search needs
-
-enum-told-4 : tie.Need-enum-told-4
-enum-told-4 c = search needs
-
 returns-4 : tie.Need-returns-4
 returns-4 c =
-    let none-waits = c .before .before .before in
+    let none-waits = c .before .before in
     let some-left = none-waits .before .before .before in
     let not-refused = some-left .before .before in
     let progress = not-refused .before .before .args .progress in
@@ -49,60 +37,10 @@ returns-4 c =
       eq-eqb (progress .refusal) 0 (not-refused .if1 .left),
       ne-eqb (progress .left) 0 (some-left .if2 .left),
       eq-eqb (progress .waiting .count) 0 (none-waits .if3 .left),
-      c .enum-told .given .1,
     )
-
-returns-5 : tie.Need-returns-5
-returns-5 c =
-    let none-waits = c .before .before .before in
-    let some-left = none-waits .before .before .before in
-    let not-refused = some-left .before .before in
-    let progress = not-refused .before .before .args .progress in
-    rw (
-      eq-eqb (progress .refusal) 0 (not-refused .if1 .left),
-      ne-eqb (progress .left) 0 (some-left .if2 .left),
-      eq-eqb (progress .waiting .count) 0 (none-waits .if3 .left),
-      c .enum-told2 .given .1,
-    )
-
-returns-6 : tie.Need-returns-6
-returns-6 c =
-    let none-waits = c .before .before .before in
-    let some-left = none-waits .before .before .before in
-    let not-refused = some-left .before .before in
-    let progress = not-refused .before .before .args .progress in
-    rw (
-      eq-eqb (progress .refusal) 0 (not-refused .if1 .left),
-      ne-eqb (progress .left) 0 (some-left .if2 .left),
-      eq-eqb (progress .waiting .count) 0 (none-waits .if3 .left),
-      c .enum-told3 .given .1,
-    )
-
-returns-7 : tie.Need-returns-7
-returns-7 c =
-    let none-waits = c .before .before .before in
-    let some-left = none-waits .before .before .before in
-    let not-refused = some-left .before .before in
-    let progress = not-refused .before .before .args .progress in
-    rw (
-      eq-eqb (progress .refusal) 0 (not-refused .if1 .left),
-      ne-eqb (progress .left) 0 (some-left .if2 .left),
-      eq-eqb (progress .waiting .count) 0 (none-waits .if3 .left),
-      c .enum-told4 .given .1,
-    )
+    (c .is-announcing .ensures)
 
 pub call-due-spec : {M : Type 1} → statement M
 call-due-spec =
     tie.close
-    (tie.spec
-    returns
-    returns-2
-    returns-3
-    enum-told
-    enum-told-2
-    enum-told-3
-    enum-told-4
-    returns-4
-    returns-5
-    returns-6
-    returns-7)
+    (tie.spec returns returns-2 returns-3 (λ c κs. search needs) returns-4)

@@ -9,52 +9,11 @@ returns c =
     let progress = c .before .before .before .args .progress in
     rw (ne-eqb (progress .waiting .count) 0 (c .if1 .taken))
 
-enum-told : tie.Need-enum-told
-enum-told c = search needs
-
-enum-told-2 : tie.Need-enum-told-2
-enum-told-2 c = search needs
-
-enum-told-3 : tie.Need-enum-told-3
-enum-told-3 c = search needs
-
-enum-told-4 : tie.Need-enum-told-4
-enum-told-4 c = search needs
-
 returns-2 : tie.Need-returns-2
 returns-2 c =
-    let none-waits = c .before .before .before in
+    let none-waits = c .before .before in
     let progress = none-waits .before .before .before .args .progress in
-    rw (eq-eqb (progress .waiting .count) 0 (none-waits .if1 .left), c .enum-told .given .1)
-
-returns-3 : tie.Need-returns-3
-returns-3 c =
-    let none-waits = c .before .before .before in
-    let progress = none-waits .before .before .before .args .progress in
-    rw (eq-eqb (progress .waiting .count) 0 (none-waits .if1 .left), c .enum-told2 .given .1)
-
-returns-4 : tie.Need-returns-4
-returns-4 c =
-    let none-waits = c .before .before .before in
-    let progress = none-waits .before .before .before .args .progress in
-    rw (eq-eqb (progress .waiting .count) 0 (none-waits .if1 .left), c .enum-told3 .given .1)
-
-returns-5 : tie.Need-returns-5
-returns-5 c =
-    let none-waits = c .before .before .before in
-    let progress = none-waits .before .before .before .args .progress in
-    rw (eq-eqb (progress .waiting .count) 0 (none-waits .if1 .left), c .enum-told4 .given .1)
+    rw (eq-eqb (progress .waiting .count) 0 (none-waits .if1 .left)) (c .is-idle .ensures)
 
 pub is-complete-spec : {M : Type 1} → statement M
-is-complete-spec =
-    tie.close
-    (tie.spec
-    returns
-    enum-told
-    enum-told-2
-    enum-told-3
-    enum-told-4
-    returns-2
-    returns-3
-    returns-4
-    returns-5)
+is-complete-spec = tie.close (tie.spec returns (λ c κs. search needs) returns-2)

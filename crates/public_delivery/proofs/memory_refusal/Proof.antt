@@ -10,6 +10,7 @@ use Rattle.model.specs.Refusals.{when, _orElse_, accepted, memoryTooShort}
 use Rattle.model.specs.Settings.{settingsRefusal}
 use Rattle.model.specs.NetworkMemory.{sitesWords}
 use Rattle.model.proofs.RefusalLaws.{refused-same}
+use Rattle.site.specs.Calls.{startRefusal}
 use Rattle.network_tests.proofs.ShortLaws.{all-words}
 use borrow.Author.Needs.{needs}
 use Rattle.public_delivery.proofs.memory_refusal.Statement.{statement}
@@ -42,27 +43,38 @@ mul-if2 c =
     let words = c .site-words in
     omega (arith, all-words settings (words .result) none (words .ensures))
 
+-- Settings that pass: the length decides.
+by-length : (sized : tie.After-site-words) {r : ℕ}
+    → let start = sized .before .before .before .before .before in
+    let settings = start .args .settings in
+    let memory = now (start .args .site-memory) in
+    r ≡ (when (ltb (length memory) (sitesWords settings)) memoryTooShort orElse accepted)
+    → r ≡ startRefusal settings memory
+by-length sized answered =
+    let settled = sized .before .before in
+    rw (sym (settled .before .test-settings .ensures) ∙ settled .if1 .left) answered
+
+-- The words of all sites, as the code counts them.
+all-sites : (sized : tie.After-site-words)
+    → let settings = sized .before .before .before .before .before .args .settings in
+    settings .sites * sized .site-words .result ≡ sitesWords settings
+all-sites sized =
+    let settings = sized .before .before .before .before .before .args .settings in
+    ap (λ (z : ℕ). settings .sites * z) (sized .site-words .ensures)
+
 returns-2 : tie.Need-returns-2
 returns-2 c =
     let start = c .before .before .before .before .before .before in
-    let settings = start .args .settings in
-    let memory = now (start .args .site-memory) in
-    let none : settingsRefusal settings ≡ accepted =
-    sym (c .before .before .before .before .test-settings .ensures)
-    ∙ c .before .before .before .if1 .left in
-    let all = ap (λ (z : ℕ). settings .sites * z) (c .before .site-words .ensures) in
-    rw (none, lt-ltb (length memory) (sitesWords settings) (omega (arith, c .if2 .taken, all)))
+    by-length (c .before)
+    (rw (lt-ltb (length (now (start .args .site-memory))) (sitesWords (start .args .settings))
+    (omega (arith, c .if2 .taken, all-sites (c .before)))))
 
 returns-3 : tie.Need-returns-3
 returns-3 c =
     let start = c .before .before .before .before .before .before in
-    let settings = start .args .settings in
-    let memory = now (start .args .site-memory) in
-    let none : settingsRefusal settings ≡ accepted =
-    sym (c .before .before .before .before .test-settings .ensures)
-    ∙ c .before .before .before .if1 .left in
-    let all = ap (λ (z : ℕ). settings .sites * z) (c .before .site-words .ensures) in
-    rw (none, le-ltb (length memory) (sitesWords settings) (omega (arith, c .if2 .left, all)))
+    by-length (c .before)
+    (rw (le-ltb (length (now (start .args .site-memory))) (sitesWords (start .args .settings))
+    (omega (arith, c .if2 .left, all-sites (c .before)))))
 
 pub memory-refusal-spec : {M : Type 1} → statement M
 memory-refusal-spec =

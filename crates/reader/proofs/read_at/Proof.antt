@@ -5,20 +5,11 @@ use borrow.Author.Needs.{needs}
 use Rattle.reader.proofs.read_at.Statement.{statement}
 use Rattle.reader.proofs.read_at.Tie as tie
 
-stand-requires : tie.Need-stand-requires
-stand-requires c κs = search needs
-
 returns : tie.Need-returns
 returns c =
     let args = c .before .before .before .args in
     c .stand .ensures ∙ sym (step-past (args .bytes .now) (args .at) (args .line)
     (c .before .if1 .taken))
-
-read-three-requires : tie.Need-read-three-requires
-read-three-requires c κs = search needs
-
-next-line-requires : tie.Need-next-line-requires
-next-line-requires c κs = search needs
 
 returns-2 : tie.Need-returns-2
 returns-2 c =
@@ -27,9 +18,6 @@ returns-2 c =
     step-found (args .bytes .now) (args .at) (args .line) (read .result)
     (c .before .before .before .if1 .left) (read .ensures) (c .next-line .result)
     (c .before .if2 .taken) (c .next-line .ensures)
-
-stand-requires-2 : tie.Need-stand-requires-2
-stand-requires-2 c κs = search needs
 
 returns-3 : tie.Need-returns-3
 returns-3 c =
@@ -44,10 +32,9 @@ pub read-at-spec : {M : Type 1} → statement M
 read-at-spec =
     tie.close
     (tie.spec
-    stand-requires
+    (λ c κs. search needs)
     returns
-    read-three-requires
-    next-line-requires
+    (λ c κs. search needs) (λ c κs. search needs)
     returns-2
-    stand-requires-2
+    (λ c κs. search needs)
     returns-3)

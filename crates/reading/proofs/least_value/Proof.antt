@@ -24,12 +24,6 @@ mul-needed c = omega (arith, mul-le-mul (c .pre .rank-small) (c .pre .total-with
 loop-holds : tie.Need-loop-holds Inv-loop μ-loop
 loop-holds c = searching-start (c .args .rank) (c .args .total) (c .args .counts .now)
 
-mul-below : tie.Need-mul-below Inv-loop μ-loop
-mul-below c = search needs
-
-shared-slice-read-below : tie.Need-shared-slice-read-below Inv-loop μ-loop
-shared-slice-read-below c = search needs
-
 -- The sum with the next count, which fits also a thousand times.
 sum-small : (c : tie.After-shared-slice-known Inv-loop μ-loop)
     → c .before .before .loop .below
@@ -62,12 +56,6 @@ returns c =
     (at-loop .loop .value)
     (at-loop .loop .inv) (c .before .before .loop-test .taken) (c .if1 .taken))
 
-add-value : tie.Need-add-value Inv-loop μ-loop
-add-value c = search needs
-
-loop-less : tie.Need-loop-less Inv-loop μ-loop
-loop-less c = search needs
-
 loop-again : tie.Need-loop-again Inv-loop μ-loop
 loop-again c =
     let at-loop = c .before .before .before in
@@ -95,13 +83,11 @@ least-value-spec =
     μ-loop
     mul-needed
     loop-holds
-    mul-below
-    shared-slice-read-below
+    (λ c. search needs) (λ c. search needs)
     add-below
     mul-if1
     cast-t12
     returns
-    add-value
-    loop-less
+    (λ c. search needs) (λ c. search needs)
     loop-again
     returns-2)

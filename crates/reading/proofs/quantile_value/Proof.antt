@@ -18,21 +18,6 @@ returns c =
     (start .memory .now))
     (c .before .before .if1 .taken) (c .if2 .taken))
 
-cast-items : tie.Need-cast-items
-cast-items c = search needs
-
-add-words : tie.Need-add-words
-add-words c = search needs
-
-mul-least-value : tie.Need-mul-least-value
-mul-least-value c = search needs
-
-sub-least-value : tie.Need-sub-least-value
-sub-least-value c = search needs
-
-part-least-value-start : tie.Need-part-least-value-start
-part-least-value-start c = search needs
-
 part-least-value-end : tie.Need-part-least-value-end
 part-least-value-end c =
     omega (
@@ -71,11 +56,8 @@ quantile-value-spec =
     tie.close
     (tie.spec
     returns
-    cast-items
-    add-words
-    mul-least-value
-    sub-least-value
-    part-least-value-start
+    (λ c. search needs) (λ c. search needs) (λ c. search needs) (λ c. search needs)
+    (λ c. search needs)
     part-least-value-end
     least-value-requires
     returns-2

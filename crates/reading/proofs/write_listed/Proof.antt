@@ -22,9 +22,6 @@ abbrev μ-loop : tie.MeasureT-loop
 μ-loop settings coordinator memory list₀ items count₀ next₀ list count next = settings .universe -
     next
 
-cast-items : tie.Need-cast-items Inv-loop μ-loop
-cast-items c = search needs
-
 loop-holds : tie.Need-loop-holds Inv-loop μ-loop
 loop-holds c =
     let start = c .before .before .before .args in
@@ -93,12 +90,6 @@ add-count c =
     let left = place c in
     search needs
 
-add-next : tie.Need-add-next Inv-loop μ-loop
-add-next c = search needs
-
-loop-less : tie.Need-loop-less Inv-loop μ-loop
-loop-less c = search needs
-
 loop-again : tie.Need-loop-again Inv-loop μ-loop
 loop-again c =
     let at-loop = c .before .before .before .before in
@@ -141,9 +132,6 @@ cast-result c =
       settled (start .args .settings) (start .pre .reading .settings-accepted) .universe,
     )
 
-same-length : tie.Need-same-length Inv-loop μ-loop
-same-length c = search needs
-
 returns : tie.Need-returns Inv-loop μ-loop
 returns c =
     let at-loop = c .before in
@@ -164,7 +152,7 @@ write-listed-spec =
     (tie.spec
     Inv-loop
     μ-loop
-    cast-items
+    (λ c. search needs)
     loop-holds
     mul-is-listed
     shared-slice-read-is-listed
@@ -173,9 +161,8 @@ write-listed-spec =
     mul-list
     slice-write-list
     add-count
-    add-next
-    loop-less
+    (λ c. search needs) (λ c. search needs)
     loop-again
     cast-result
-    same-length
+    (λ c. search needs)
     returns)

@@ -7,24 +7,6 @@ use borrow.Author.Needs.{needs}
 use Rattle.session.proofs.begin.Statement.{statement}
 use Rattle.session.proofs.begin.Tie as tie
 
-read-settings-requires : tie.Need-read-settings-requires
-read-settings-requires c κs = search needs
-
-fresh-session-requires : tie.Need-fresh-session-requires
-fresh-session-requires c κs = search needs
-
-sub-start-refusal : tie.Need-sub-start-refusal
-sub-start-refusal c = search needs
-
-start-refusal-requires : tie.Need-start-refusal-requires
-start-refusal-requires c κs = search needs
-
-refuse-requires : tie.Need-refuse-requires
-refuse-requires c κs = search needs
-
-same-length : tie.Need-same-length
-same-length c = search needs
-
 returns : tie.Need-returns
 returns c =
     let tested = c .before .before .before .before .before in
@@ -44,18 +26,6 @@ returns c =
         out = search needs;
       };
     }
-
-start-sites-requires : tie.Need-start-sites-requires
-start-sites-requires c κs = search needs
-
-start-coordinator-requires : tie.Need-start-coordinator-requires
-start-coordinator-requires c κs = search needs
-
-same-length-2 : tie.Need-same-length-2
-same-length-2 c = search needs
-
-same-length-3 : tie.Need-same-length-3
-same-length-3 c = search needs
 
 returns-2 : tie.Need-returns-2
 returns-2 c =
@@ -84,15 +54,8 @@ pub begin-spec : {M : Type 1} → statement M
 begin-spec =
     tie.close
     (tie.spec
-    read-settings-requires
-    fresh-session-requires
-    sub-start-refusal
-    start-refusal-requires
-    refuse-requires
-    same-length
+    (λ c κs. search needs) (λ c κs. search needs) (λ c. search needs)
+    (λ c κs. search needs) (λ c κs. search needs) (λ c. search needs)
     returns
-    start-sites-requires
-    start-coordinator-requires
-    same-length-2
-    same-length-3
+    (λ c κs. search needs) (λ c κs. search needs) (λ c. search needs) (λ c. search needs)
     returns-2)

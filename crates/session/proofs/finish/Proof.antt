@@ -4,18 +4,6 @@ use borrow.Author.Needs.{needs}
 use Rattle.session.proofs.finish.Statement.{statement}
 use Rattle.session.proofs.finish.Tie as tie
 
-list-heavy-hitters-requires : tie.Need-list-heavy-hitters-requires
-list-heavy-hitters-requires c κs = search needs
-
-refuse-requires : tie.Need-refuse-requires
-refuse-requires c κs = search needs
-
-same-length : tie.Need-same-length
-same-length c = search needs
-
-same-length-2 : tie.Need-same-length-2
-same-length-2 c = search needs
-
 returns : tie.Need-returns
 returns c =
     let refused = c .before .before in
@@ -23,32 +11,11 @@ returns c =
     finish-refused _ _ _ _ (listed .result) (listed .ensures) _ _ _ (refused .refuse .ensures)
     (refused .before .before .if1 .taken)
 
-read-quantile-requires : tie.Need-read-quantile-requires
-read-quantile-requires c κs = search needs
-
-cast-write-listed : tie.Need-cast-write-listed
-cast-write-listed c = search needs
-
-write-listed-requires : tie.Need-write-listed-requires
-write-listed-requires c κs = search needs
-
-write-class-requires : tie.Need-write-class-requires
-write-class-requires c κs = search needs
-
-write-count-requires : tie.Need-write-count-requires
-write-count-requires c κs = search needs
-
-stop-requires : tie.Need-stop-requires
-stop-requires c κs = search needs
-
 same-length-3 : tie.Need-same-length-3
 same-length-3 c =
     let known = c .before .before .before .before .before .before .before .before .before
     .before .before .before .before .before .before .before .before .before in
     search needs
-
-same-length-4 : tie.Need-same-length-4
-same-length-4 c = search needs
 
 returns-2 : tie.Need-returns-2
 returns-2 c =
@@ -68,17 +35,10 @@ pub finish-spec : {M : Type 1} → statement M
 finish-spec =
     tie.close
     (tie.spec
-    list-heavy-hitters-requires
-    refuse-requires
-    same-length
-    same-length-2
+    (λ c κs. search needs) (λ c κs. search needs) (λ c. search needs) (λ c. search needs)
     returns
-    read-quantile-requires
-    cast-write-listed
-    write-listed-requires
-    write-class-requires
-    write-count-requires
-    stop-requires
+    (λ c κs. search needs) (λ c. search needs) (λ c κs. search needs)
+    (λ c κs. search needs) (λ c κs. search needs) (λ c κs. search needs)
     same-length-3
-    same-length-4
+    (λ c. search needs)
     returns-2)

@@ -6,24 +6,6 @@ use borrow.Author.Needs.{needs}
 use Rattle.session.proofs.take_draw.Statement.{statement}
 use Rattle.session.proofs.take_draw.Tie as tie
 
-run-one-requires : tie.Need-run-one-requires
-run-one-requires c κs = search needs
-
-refuse-requires : tie.Need-refuse-requires
-refuse-requires c κs = search needs
-
-same-length : tie.Need-same-length
-same-length c = search needs
-
-same-length-2 : tie.Need-same-length-2
-same-length-2 c = search needs
-
-same-length-3 : tie.Need-same-length-3
-same-length-3 c = search needs
-
-same-length-4 : tie.Need-same-length-4
-same-length-4 c = search needs
-
 returns : tie.Need-returns
 returns c =
     let refused = c .before .before in
@@ -46,18 +28,6 @@ put-messages-requires c κs =
     log-holds (start .session) (start .step) given _ (run .run-one .result) (run .run-one .ensures)
     (c .before .before .if1 .left)
 
-same-length-5 : tie.Need-same-length-5
-same-length-5 c = search needs
-
-same-length-6 : tie.Need-same-length-6
-same-length-6 c = search needs
-
-same-length-7 : tie.Need-same-length-7
-same-length-7 c = search needs
-
-same-length-8 : tie.Need-same-length-8
-same-length-8 c = search needs
-
 returns-2 : tie.Need-returns-2
 returns-2 c =
     let put = c .before .before .before .before in
@@ -74,16 +44,9 @@ pub take-draw-spec : {M : Type 1} → statement M
 take-draw-spec =
     tie.close
     (tie.spec
-    run-one-requires
-    refuse-requires
-    same-length
-    same-length-2
-    same-length-3
-    same-length-4
+    (λ c κs. search needs) (λ c κs. search needs) (λ c. search needs) (λ c. search needs)
+    (λ c. search needs) (λ c. search needs)
     returns
     put-messages-requires
-    same-length-5
-    same-length-6
-    same-length-7
-    same-length-8
+    (λ c. search needs) (λ c. search needs) (λ c. search needs) (λ c. search needs)
     returns-2)

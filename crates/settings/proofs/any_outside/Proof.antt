@@ -1,22 +1,18 @@
 -- Some setting is outside its range: the ranges before it hold, and its own fails. Each place of
 -- the code where a range was passed is named by it.
+use mathlib.Core.Path.{_≡_}
+use mathlib.Core.Bool.{true, _&&_}
 use borrow.Author.Needs.{needs}
 use Rattle.model.specs.Choice.{between}
 use Rattle.laws.proofs.Tests.{false-of-not, true-of-not}
 use Rattle.settings.proofs.any_outside.Statement.{statement}
 use Rattle.settings.proofs.any_outside.Tie as tie
 
-outside-requires : tie.Need-outside-requires
-outside-requires c κs = search needs
-
 returns : tie.Need-returns
 returns c =
     let s = c .before .before .args .settings in
     rw
     (false-of-not (between 1 (s .sites) 32) (c .before .outside .ensures) (c .if1 .taken))
-
-outside-requires-2 : tie.Need-outside-requires-2
-outside-requires-2 c κs = search needs
 
 returns-2 : tie.Need-returns-2
 returns-2 c =
@@ -27,76 +23,73 @@ returns-2 c =
       false-of-not (between 2 (s .epsilon) 1000) (c .before .outside2 .ensures) (c .if2 .taken),
     )
 
-outside-requires-3 : tie.Need-outside-requires-3
-outside-requires-3 c κs = search needs
-
-returns-3 : tie.Need-returns-3
-returns-3 c =
-    let second = c .before .before in
+-- Two ranges were passed, and two more.
+two-within : (second : tie.Else2)
+    → let s = second .before .before .before .before .args .settings in
+    (between 1 (s .sites) 32 && between 2 (s .epsilon) 1000) ≡ true
+two-within second =
     let first = second .before .before in
     let s = first .before .before .args .settings in
     rw (
       true-of-not (between 1 (s .sites) 32) (first .before .outside .ensures) (first .if1 .left),
       true-of-not (between 2 (s .epsilon) 1000)
           (second .before .outside2 .ensures) (second .if2 .left),
-      false-of-not (between 1 (s .phi) 1000) (c .before .outside3 .ensures) (c .if3 .taken),
     )
 
-outside-requires-4 : tie.Need-outside-requires-4
-outside-requires-4 c κs = search needs
+four-within : (fourth : tie.Else4)
+    → let third = fourth .before .before in
+    let s = third .before .before .before .before .before .before .args .settings in
+    (between 1 (s .sites) 32 && between 2 (s .epsilon) 1000
+    && between 1 (s .phi) 1000 && between 1 (s .rank) 1000) ≡ true
+four-within fourth =
+    let third = fourth .before .before in
+    let second = third .before .before in
+    let s = second .before .before .before .before .args .settings in
+    rw (
+      two-within second,
+      true-of-not (between 1 (s .phi) 1000) (third .before .outside3 .ensures) (third .if3 .left),
+      true-of-not (between 1 (s .rank) 1000)
+          (fourth .before .outside4 .ensures) (fourth .if4 .left),
+    )
+
+returns-3 : tie.Need-returns-3
+returns-3 c =
+    let second = c .before .before in
+    let s = second .before .before .before .before .args .settings in
+    rw (
+      two-within second,
+      false-of-not (between 1 (s .phi) 1000) (c .before .outside3 .ensures) (c .if3 .taken),
+    )
 
 returns-4 : tie.Need-returns-4
 returns-4 c =
     let third = c .before .before in
     let second = third .before .before in
-    let first = second .before .before in
-    let s = first .before .before .args .settings in
+    let s = second .before .before .before .before .args .settings in
     rw (
-      true-of-not (between 1 (s .sites) 32) (first .before .outside .ensures) (first .if1 .left),
-      true-of-not (between 2 (s .epsilon) 1000)
-          (second .before .outside2 .ensures) (second .if2 .left),
+      two-within second,
       true-of-not (between 1 (s .phi) 1000) (third .before .outside3 .ensures) (third .if3 .left),
       false-of-not (between 1 (s .rank) 1000) (c .before .outside4 .ensures) (c .if4 .taken),
     )
 
-outside-requires-5 : tie.Need-outside-requires-5
-outside-requires-5 c κs = search needs
-
 returns-5 : tie.Need-returns-5
 returns-5 c =
     let fourth = c .before .before in
-    let third = fourth .before .before in
-    let second = third .before .before in
-    let first = second .before .before in
-    let s = first .before .before .args .settings in
+    let second = fourth .before .before .before .before in
+    let s = second .before .before .before .before .args .settings in
     rw (
-      true-of-not (between 1 (s .sites) 32) (first .before .outside .ensures) (first .if1 .left),
-      true-of-not (between 2 (s .epsilon) 1000)
-          (second .before .outside2 .ensures) (second .if2 .left),
-      true-of-not (between 1 (s .phi) 1000) (third .before .outside3 .ensures) (third .if3 .left),
-      true-of-not (between 1 (s .rank) 1000)
-          (fourth .before .outside4 .ensures) (fourth .if4 .left),
+      four-within fourth,
       false-of-not (between 1 (s .capacity) 3000) (c .before .outside5 .ensures) (c .if5 .taken),
     )
-
-outside-requires-6 : tie.Need-outside-requires-6
-outside-requires-6 c κs = search needs
 
 returns-6 : tie.Need-returns-6
 returns-6 c =
     let fifth = c .before in
     let fourth = fifth .before .before in
-    let third = fourth .before .before in
-    let second = third .before .before in
-    let first = second .before .before in
-    let s = first .before .before .args .settings in
+    let second = fourth .before .before .before .before in
+    let s = second .before .before .before .before .args .settings in
     rw (
-      true-of-not (between 1 (s .sites) 32) (first .before .outside .ensures) (first .if1 .left),
-      true-of-not (between 2 (s .epsilon) 1000)
-          (second .before .outside2 .ensures) (second .if2 .left),
-      true-of-not (between 1 (s .phi) 1000) (third .before .outside3 .ensures) (third .if3 .left),
-      true-of-not (between 1 (s .rank) 1000)
-          (fourth .before .outside4 .ensures) (fourth .if4 .left),
+      four-within fourth,
       true-of-not (between 1 (s .capacity) 3000)
           (fifth .before .outside5 .ensures) (fifth .if5 .left),
     )
@@ -106,15 +99,15 @@ pub any-outside-spec : {M : Type 1} → statement M
 any-outside-spec =
     tie.close
     (tie.spec
-    outside-requires
+    (λ c κs. search needs)
     returns
-    outside-requires-2
+    (λ c κs. search needs)
     returns-2
-    outside-requires-3
+    (λ c κs. search needs)
     returns-3
-    outside-requires-4
+    (λ c κs. search needs)
     returns-4
-    outside-requires-5
+    (λ c κs. search needs)
     returns-5
-    outside-requires-6
+    (λ c κs. search needs)
     returns-6)

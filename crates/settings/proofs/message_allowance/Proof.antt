@@ -13,9 +13,6 @@ use Rattle.model.proofs.Digits.{digits-bound}
 use Rattle.settings.proofs.message_allowance.Statement.{statement}
 use Rattle.settings.proofs.message_allowance.Tie as tie
 
-test-settings-requires : tie.Need-test-settings-requires
-test-settings-requires c κs = search needs
-
 returns : tie.Need-returns
 returns c =
     let answer = c .before .test-settings in
@@ -25,9 +22,6 @@ returns c =
           rw (ne-eqb (settingsRefusal (c .before .before .args .settings)) 0
           (λ none. c .if1 .taken (answer .ensures ∙ none)));
     }
-
-count-digits-requires : tie.Need-count-digits-requires
-count-digits-requires c κs = search needs
 
 -- The digits of a 64-bit number are at most 64.
 few-digits : (c : tie.After-count-digits) → c .count-digits .result ≤ 64
@@ -41,12 +35,6 @@ few-digits c =
 
 add-rounds : tie.Need-add-rounds
 add-rounds c = record { fits = omega (arith, few-digits c) }
-
-cast-sites : tie.Need-cast-sites
-cast-sites c = search needs
-
-cast-epsilon : tie.Need-cast-epsilon
-cast-epsilon c = search needs
 
 -- Where the branch was not taken, the settings are accepted.
 none-refused : (c : tie.After-count-digits)
@@ -89,12 +77,11 @@ pub message-allowance-spec : {M : Type 1} → statement M
 message-allowance-spec =
     tie.close
     (tie.spec
-    test-settings-requires
+    (λ c κs. search needs)
     returns
-    count-digits-requires
+    (λ c κs. search needs)
     add-rounds
-    cast-sites
-    cast-epsilon
+    (λ c. search needs) (λ c. search needs)
     mul-t8
     mul-t9
     div-t10

@@ -5,15 +5,6 @@ use Rattle.site.proofs.CallLaws.{observe-asks, observe-accepted, observ
 use Rattle.site.proofs.observe.Statement.{statement}
 use Rattle.site.proofs.observe.Tie as tie
 
-observe-refusal-requires : tie.Need-observe-refusal-requires
-observe-refusal-requires c κs = search needs
-
-make-message-requires : tie.Need-make-message-requires
-make-message-requires c κs = search needs
-
-same-length : tie.Need-same-length
-same-length c = search needs
-
 returns : tie.Need-returns
 returns c =
     let at-if1 = c .before in
@@ -34,9 +25,6 @@ observe-step-requires c κs =
     observe-asks (a .settings) (a .site) (a .arrival) (a .memory .now)
     (sym (at-observe-refusal .observe-refusal .ensures) ∙ at-if1 .if1 .left)
 
-same-length-2 : tie.Need-same-length-2
-same-length-2 c = search needs
-
 returns-2 : tie.Need-returns-2
 returns-2 c =
     let at-observe-step = c .before .before in
@@ -53,10 +41,8 @@ pub observe-spec : {M : Type 1} → statement M
 observe-spec =
     tie.close
     (tie.spec
-    observe-refusal-requires
-    make-message-requires
-    same-length
+    (λ c κs. search needs) (λ c κs. search needs) (λ c. search needs)
     returns
     observe-step-requires
-    same-length-2
+    (λ c. search needs)
     returns-2)

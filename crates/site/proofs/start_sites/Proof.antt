@@ -9,12 +9,6 @@ use Rattle.site.proofs.StartLaws.{words-fit, start-settings, start-shor
 use Rattle.site.proofs.start_sites.Statement.{statement}
 use Rattle.site.proofs.start_sites.Tie as tie
 
-fresh-sites-requires : tie.Need-fresh-sites-requires
-fresh-sites-requires c κs = search needs
-
-test-settings-requires : tie.Need-test-settings-requires
-test-settings-requires c κs = search needs
-
 returns : tie.Need-returns
 returns c =
     let at-test-settings = c .before in
@@ -25,9 +19,6 @@ returns c =
     (at-fresh-sites .fresh-sites .ensures)
     (at-test-settings .test-settings .result) (at-test-settings .test-settings .ensures)
     (c .if1 .taken)
-
-cast-words : tie.Need-cast-words
-cast-words c = search needs
 
 site-words-requires : tie.Need-site-words-requires
 site-words-requires c κs = sym (c .before .before .test-settings .ensures) ∙ c .before .if1 .left
@@ -59,12 +50,6 @@ returns-2 c =
     (at-fresh-sites .fresh-sites .ensures)
     (sym (at-test-settings .test-settings .ensures) ∙ at-if1 .if1 .left) (omega (arith, words))
 
-clear-requires : tie.Need-clear-requires
-clear-requires c κs = search needs
-
-same-length : tie.Need-same-length
-same-length c = search needs
-
 returns-3 : tie.Need-returns-3
 returns-3 c =
     let at-clear = c .before .before in
@@ -85,13 +70,11 @@ pub start-sites-spec : {M : Type 1} → statement M
 start-sites-spec =
     tie.close
     (tie.spec
-    fresh-sites-requires
-    test-settings-requires
+    (λ c κs. search needs) (λ c κs. search needs)
     returns
-    cast-words
+    (λ c. search needs)
     site-words-requires
     mul-words
     returns-2
-    clear-requires
-    same-length
+    (λ c κs. search needs) (λ c. search needs)
     returns-3)

@@ -8,9 +8,6 @@ use Rattle.site_memory.proofs.ConsistencyLaws.{item-unknown, parts-abov
 use Rattle.site_memory.proofs.counter_consistent.Statement.{statement}
 use Rattle.site_memory.proofs.counter_consistent.Tie as tie
 
-counter-at-requires : tie.Need-counter-at-requires
-counter-at-requires c κs = search needs
-
 returns : tie.Need-returns
 returns c =
     let at-counter-at = c .before .before .before in
@@ -41,9 +38,6 @@ returns-3 c =
     parts-above (a .settings) site (counterOf (read .result)) (omega arith)
     ∙ ap (counterConsistent (a .settings) site) (read .ensures)
 
-cast-if4 : tie.Need-cast-if4
-cast-if4 c = search needs
-
 returns-4 : tie.Need-returns-4
 returns-4 c =
     let earlier = c .before .before .before .before .before .before .before in
@@ -54,12 +48,6 @@ returns-4 c =
     let read = at-counter-at .counter-at in
     count-above (a .settings) site (counterOf (read .result)) (search needs)
     ∙ ap (counterConsistent (a .settings) site) (read .ensures)
-
-sub-result : tie.Need-sub-result
-sub-result c = search needs
-
-cast-result : tie.Need-cast-result
-cast-result c = search needs
 
 returns-5 : tie.Need-returns-5
 returns-5 c =
@@ -80,12 +68,11 @@ pub counter-consistent-spec : {M : Type 1} → statement M
 counter-consistent-spec =
     tie.close
     (tie.spec
-    counter-at-requires
+    (λ c κs. search needs)
     returns
     returns-2
     returns-3
-    cast-if4
+    (λ c. search needs)
     returns-4
-    sub-result
-    cast-result
+    (λ c. search needs) (λ c. search needs)
     returns-5)

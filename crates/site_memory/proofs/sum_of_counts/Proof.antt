@@ -16,15 +16,6 @@ abbrev μ-loop : tie.MeasureT-loop
 loop-holds : tie.Need-loop-holds Inv-loop μ-loop
 loop-holds c = adding-start (c .args .memory .now) (c .args .from) (c .args .places)
 
-add-counted : tie.Need-add-counted Inv-loop μ-loop
-add-counted c = search needs
-
-mul-counted : tie.Need-mul-counted Inv-loop μ-loop
-mul-counted c = search needs
-
-shared-slice-read-counted : tie.Need-shared-slice-read-counted Inv-loop μ-loop
-shared-slice-read-counted c = search needs
-
 cast-counted : tie.Need-cast-counted Inv-loop μ-loop
 cast-counted c =
     let at-loop = c .before .before in
@@ -42,12 +33,6 @@ add-counted-2 c =
       valueCount-is,
       c .shared-slice-known .given (start .args .from + at-loop .loop .i),
     )
-
-add-i : tie.Need-add-i Inv-loop μ-loop
-add-i c = search needs
-
-loop-less : tie.Need-loop-less Inv-loop μ-loop
-loop-less c = search needs
 
 loop-again : tie.Need-loop-again Inv-loop μ-loop
 loop-again c =
@@ -75,12 +60,9 @@ sum-of-counts-spec =
     Inv-loop
     μ-loop
     loop-holds
-    add-counted
-    mul-counted
-    shared-slice-read-counted
+    (λ c. search needs) (λ c. search needs) (λ c. search needs)
     cast-counted
     add-counted-2
-    add-i
-    loop-less
+    (λ c. search needs) (λ c. search needs)
     loop-again
     returns)

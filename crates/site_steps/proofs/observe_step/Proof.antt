@@ -4,33 +4,6 @@ use Rattle.site_steps.proofs.StoreLaws.{observed-step}
 use Rattle.site_steps.proofs.observe_step.Statement.{statement}
 use Rattle.site_steps.proofs.observe_step.Tie as tie
 
-store-arrival-requires : tie.Need-store-arrival-requires
-store-arrival-requires c κs = search needs
-
-add-pending : tie.Need-add-pending
-add-pending c = search needs
-
-value-reported-requires : tie.Need-value-reported-requires
-value-reported-requires c κs = search needs
-
-add-t15 : tie.Need-add-t15
-add-t15 c = search needs
-
-pending-after-requires : tie.Need-pending-after-requires
-pending-after-requires c κs = search needs
-
-cast-item : tie.Need-cast-item
-cast-item c = search needs
-
-make-message-requires : tie.Need-make-message-requires
-make-message-requires c κs = search needs
-
-make-message-requires-2 : tie.Need-make-message-requires-2
-make-message-requires-2 c κs = search needs
-
-gather-requires : tie.Need-gather-requires
-gather-requires c κs = search needs
-
 same-length : tie.Need-same-length
 same-length c =
     let earlier = c .before .before .before .before .before .before .before in
@@ -60,14 +33,8 @@ pub observe-step-spec : {M : Type 1} → statement M
 observe-step-spec =
     tie.close
     (tie.spec
-    store-arrival-requires
-    add-pending
-    value-reported-requires
-    add-t15
-    pending-after-requires
-    cast-item
-    make-message-requires
-    make-message-requires-2
-    gather-requires
+    (λ c κs. search needs) (λ c. search needs) (λ c κs. search needs) (λ c. search needs)
+    (λ c κs. search needs) (λ c. search needs) (λ c κs. search needs)
+    (λ c κs. search needs) (λ c κs. search needs)
     same-length
     returns)

@@ -10,9 +10,6 @@ use Rattle.site_steps.proofs.ReceiveLaws.{record-with}
 use Rattle.site_steps.proofs.receive_step.Statement.{statement}
 use Rattle.site_steps.proofs.receive_step.Tie as tie
 
-make-message-requires : tie.Need-make-message-requires
-make-message-requires c κs = search needs
-
 returns : tie.Need-returns
 returns c =
     let at-if1 = c .before in
@@ -25,9 +22,6 @@ returns c =
       count = rw poll;
       reply = rw poll (c .make-message .ensures);
     }
-
-cast-from : tie.Need-cast-from
-cast-from c = search needs
 
 mul-from : tie.Need-mul-from
 mul-from c =
@@ -50,9 +44,6 @@ count-up-to-requires c κs =
       value-within = omega (arith, asks .value-known probe, valueCount-is);
     }
 
-make-message-requires-2 : tie.Need-make-message-requires-2
-make-message-requires-2 c κs = search needs
-
 returns-2 : tie.Need-returns-2
 returns-2 c =
     let at-count-up-to = c .before in
@@ -72,9 +63,6 @@ returns-2 c =
           ∙ ap (message 6 (a .message .site) (a .message .a))
           (at-count-up-to .count-up-to .ensures));
     }
-
-make-message-requires-3 : tie.Need-make-message-requires-3
-make-message-requires-3 c κs = search needs
 
 returns-3 : tie.Need-returns-3
 returns-3 c =
@@ -96,12 +84,12 @@ pub receive-step-spec : {M : Type 1} → statement M
 receive-step-spec =
     tie.close
     (tie.spec
-    make-message-requires
+    (λ c κs. search needs)
     returns
-    cast-from
+    (λ c. search needs)
     mul-from
     count-up-to-requires
-    make-message-requires-2
+    (λ c κs. search needs)
     returns-2
-    make-message-requires-3
+    (λ c κs. search needs)
     returns-3)

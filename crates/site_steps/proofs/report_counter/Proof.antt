@@ -6,36 +6,6 @@ use borrow.Author.Needs.{needs}
 use Rattle.site_steps.proofs.report_counter.Statement.{statement}
 use Rattle.site_steps.proofs.report_counter.Tie as tie
 
-sub-unreported : tie.Need-sub-unreported
-sub-unreported c = search needs
-
-sub-unreported-2 : tie.Need-sub-unreported-2
-sub-unreported-2 c = search needs
-
-cast-if1 : tie.Need-cast-if1
-cast-if1 c = search needs
-
-cast-amount : tie.Need-cast-amount
-cast-amount c = search needs
-
-mul-last : tie.Need-mul-last
-mul-last c = search needs
-
-add-last : tie.Need-add-last
-add-last c = search needs
-
-add-memory : tie.Need-add-memory
-add-memory c = search needs
-
-mul-memory : tie.Need-mul-memory
-mul-memory c = search needs
-
-slice-write-memory : tie.Need-slice-write-memory
-slice-write-memory c = search needs
-
-same-length : tie.Need-same-length
-same-length c = search needs
-
 returns : tie.Need-returns
 returns c =
     let at-if1 = c .before in
@@ -58,15 +28,8 @@ pub report-counter-spec : {M : Type 1} → statement M
 report-counter-spec =
     tie.close
     (tie.spec
-    sub-unreported
-    sub-unreported-2
-    cast-if1
-    cast-amount
-    mul-last
-    add-last
-    add-memory
-    mul-memory
-    slice-write-memory
-    same-length
+    (λ c. search needs) (λ c. search needs) (λ c. search needs) (λ c. search needs)
+    (λ c. search needs) (λ c. search needs) (λ c. search needs) (λ c. search needs)
+    (λ c. search needs) (λ c. search needs)
     returns
     returns-2)

@@ -6,9 +6,6 @@ use Rattle.site_steps.proofs.StoreLaws.{count-asks, report-asks, value-
 use Rattle.site_steps.proofs.store_arrival.Statement.{statement}
 use Rattle.site_steps.proofs.store_arrival.Tie as tie
 
-cast-capacity : tie.Need-cast-capacity
-cast-capacity c = search needs
-
 count-item-requires : tie.Need-count-item-requires
 count-item-requires c κs =
     let start = c .before .before .before in
@@ -24,15 +21,6 @@ report-counter-requires c κs =
     report-asks (a .settings) (a .site) (a .arrival) (a .memory .now) (start .pre)
     (counted .last .0)
     (counted .result) (counted .ensures) (search needs)
-
-mul-value-place : tie.Need-mul-value-place
-mul-value-place c = search needs
-
-cast-value-place : tie.Need-cast-value-place
-cast-value-place c = search needs
-
-add-value-place : tie.Need-add-value-place
-add-value-place c = search needs
 
 count-value-requires : tie.Need-count-value-requires
 count-value-requires c κs =
@@ -54,9 +42,6 @@ count-value-requires c κs =
           (report .ensures) same-reported,
     )
 
-same-length : tie.Need-same-length
-same-length c = search needs
-
 returns : tie.Need-returns
 returns c =
     let at-count-value = c .before .before in
@@ -76,12 +61,10 @@ pub store-arrival-spec : {M : Type 1} → statement M
 store-arrival-spec =
     tie.close
     (tie.spec
-    cast-capacity
+    (λ c. search needs)
     count-item-requires
     report-counter-requires
-    mul-value-place
-    cast-value-place
-    add-value-place
+    (λ c. search needs) (λ c. search needs) (λ c. search needs)
     count-value-requires
-    same-length
+    (λ c. search needs)
     returns)

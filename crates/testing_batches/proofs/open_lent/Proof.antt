@@ -5,9 +5,6 @@ use borrow.Author.Needs.{needs}
 use Rattle.testing_batches.proofs.open_lent.Statement.{statement}
 use Rattle.testing_batches.proofs.open_lent.Tie as tie
 
-batch-fits-requires : tie.Need-batch-fits-requires
-batch-fits-requires c κs = search needs
-
 sites-from-requires : tie.Need-sites-from-requires
 sites-from-requires c κs =
     let at-if1 = c .before in
@@ -30,12 +27,6 @@ settings-from-requires c κs =
     (batch-fits (a .settings .now) (a .sites .now) (a .coordinator .now) (a .places)
     (sym (at-if1 .before .batch-fits .ensures) ∙ at-if1 .if1 .taken)) .lends .lends .settings-long
 
-same-length : tie.Need-same-length
-same-length c = search needs
-
-same-length-2 : tie.Need-same-length-2
-same-length-2 c = search needs
-
 returns : tie.Need-returns
 returns c =
     let at-coordinator-from = c .before in
@@ -53,15 +44,6 @@ returns c =
       coordinator-stays = refl;
     }
 
-no-opening-requires : tie.Need-no-opening-requires
-no-opening-requires c κs = search needs
-
-same-length-3 : tie.Need-same-length-3
-same-length-3 c = search needs
-
-same-length-4 : tie.Need-same-length-4
-same-length-4 c = search needs
-
 returns-2 : tie.Need-returns-2
 returns-2 c =
     let at-if1 = c .before in
@@ -77,14 +59,11 @@ pub open-lent-spec : {M : Type 1} → statement M
 open-lent-spec =
     tie.close
     (tie.spec
-    batch-fits-requires
+    (λ c κs. search needs)
     sites-from-requires
     coordinator-from-requires
     settings-from-requires
-    same-length
-    same-length-2
+    (λ c. search needs) (λ c. search needs)
     returns
-    no-opening-requires
-    same-length-3
-    same-length-4
+    (λ c κs. search needs) (λ c. search needs) (λ c. search needs)
     returns-2)

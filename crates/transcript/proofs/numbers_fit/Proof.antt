@@ -16,18 +16,9 @@ abbrev μ-loop : tie.MeasureT-loop
 loop-holds : tie.Need-loop-holds Inv-loop μ-loop
 loop-holds c = fitting-begins (c .before .args .items .now) (c .before .args .room)
 
-mul-spaced-length : tie.Need-mul-spaced-length Inv-loop μ-loop
-mul-spaced-length c = search needs
-
-shared-slice-read-spaced-length : tie.Need-shared-slice-read-spaced-length Inv-loop μ-loop
-shared-slice-read-spaced-length c = search needs
-
 cast-spaced-length : tie.Need-cast-spaced-length Inv-loop μ-loop
 cast-spaced-length c =
     omega (arith, c .shared-slice-known2 .given (c .before .before .loop .done))
-
-spaced-length-requires : tie.Need-spaced-length-requires Inv-loop μ-loop
-spaced-length-requires c κs = search needs
 
 returns : tie.Need-returns Inv-loop μ-loop
 returns c =
@@ -35,12 +26,6 @@ returns c =
     fitting-short (loop .done) (loop .inv) (c .before .spaced-length .result)
     (c .before .before .before .loop-test .taken) (c .before .spaced-length .ensures .is)
     (c .if1 .taken)
-
-add-done : tie.Need-add-done Inv-loop μ-loop
-add-done c = search needs
-
-loop-less : tie.Need-loop-less Inv-loop μ-loop
-loop-less c = search needs
 
 loop-again : tie.Need-loop-again Inv-loop μ-loop
 loop-again c =
@@ -60,12 +45,10 @@ numbers-fit-spec =
     Inv-loop
     μ-loop
     loop-holds
-    mul-spaced-length
-    shared-slice-read-spaced-length
+    (λ c. search needs) (λ c. search needs)
     cast-spaced-length
-    spaced-length-requires
+    (λ c κs. search needs)
     returns
-    add-done
-    loop-less
+    (λ c. search needs) (λ c. search needs)
     loop-again
     returns-2)

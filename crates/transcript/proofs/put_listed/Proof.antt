@@ -8,12 +8,6 @@ use borrow.Author.Needs.{needs}
 use Rattle.transcript.proofs.put_listed.Statement.{statement}
 use Rattle.transcript.proofs.put_listed.Tie as tie
 
-slice-aggregate-put-text : tie.Need-slice-aggregate-put-text
-slice-aggregate-put-text c = search needs
-
-put-text-requires : tie.Need-put-text-requires
-put-text-requires c κs = search needs
-
 -- Before the first piece, behind the word, and behind the items.
 begun : (c : tie.Start)
     → let items = c .args .items .now in
@@ -40,14 +34,8 @@ behind-items c = stage-on (behind-word (c .before .before .before .before))
 put-numbers-requires : tie.Need-put-numbers-requires
 put-numbers-requires c κs = stage-room (behind-word (c .before .before .before))
 
-slice-aggregate-put-text-2 : tie.Need-slice-aggregate-put-text-2
-slice-aggregate-put-text-2 c = search needs
-
 put-text-requires-2 : tie.Need-put-text-requires-2
 put-text-requires-2 c κs = stage-room (behind-items (c .before .before .before .before))
-
-same-length : tie.Need-same-length
-same-length c = search needs
 
 returns : tie.Need-returns
 returns c =
@@ -58,10 +46,9 @@ pub put-listed-spec : {M : Type 1} → statement M
 put-listed-spec =
     tie.close
     (tie.spec
-    slice-aggregate-put-text
-    put-text-requires
+    (λ c. search needs) (λ c κs. search needs)
     put-numbers-requires
-    slice-aggregate-put-text-2
+    (λ c. search needs)
     put-text-requires-2
-    same-length
+    (λ c. search needs)
     returns)

@@ -18,12 +18,6 @@ loop-holds c =
     let args = c .before .before .args in
     putting-begins (args .items .now) (args .at) (args .out .now)
 
-mul-put-spaced : tie.Need-mul-put-spaced Inv-loop μ-loop
-mul-put-spaced c = search needs
-
-shared-slice-read-put-spaced : tie.Need-shared-slice-read-put-spaced Inv-loop μ-loop
-shared-slice-read-put-spaced c = search needs
-
 cast-put-spaced : tie.Need-cast-put-spaced Inv-loop μ-loop
 cast-put-spaced c =
     omega (arith, c .shared-slice-known2 .given (c .before .before .loop .done))
@@ -34,12 +28,6 @@ put-spaced-requires c κs =
     let loop = c .before .before .before .loop in
     putting-room (loop .done) (start .pre) (loop .inv) (c .before .before .loop-test .taken)
 
-add-done : tie.Need-add-done Inv-loop μ-loop
-add-done c = search needs
-
-loop-less : tie.Need-loop-less Inv-loop μ-loop
-loop-less c = search needs
-
 loop-again : tie.Need-loop-again Inv-loop μ-loop
 loop-again c =
     let start = c .before .before .before .before .before .before .before .before .before in
@@ -47,9 +35,6 @@ loop-again c =
     putting-on (loop .done) (start .pre) (loop .inv)
     (c .before .before .before .before .before .loop-test .taken)
     _ _ (c .before .before .put-spaced .ensures)
-
-same-length : tie.Need-same-length Inv-loop μ-loop
-same-length c = search needs
 
 returns : tie.Need-returns Inv-loop μ-loop
 returns c =
@@ -64,12 +49,10 @@ put-numbers-spec =
     Inv-loop
     μ-loop
     loop-holds
-    mul-put-spaced
-    shared-slice-read-put-spaced
+    (λ c. search needs) (λ c. search needs)
     cast-put-spaced
     put-spaced-requires
-    add-done
-    loop-less
+    (λ c. search needs) (λ c. search needs)
     loop-again
-    same-length
+    (λ c. search needs)
     returns)

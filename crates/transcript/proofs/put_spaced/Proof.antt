@@ -5,15 +5,6 @@ use borrow.Author.Needs.{needs}
 use Rattle.transcript.proofs.put_spaced.Statement.{statement}
 use Rattle.transcript.proofs.put_spaced.Tie as tie
 
-slice-aggregate-put-text : tie.Need-slice-aggregate-put-text
-slice-aggregate-put-text c = search needs
-
-put-text-requires : tie.Need-put-text-requires
-put-text-requires c κs = search needs
-
-write-decimal-requires : tie.Need-write-decimal-requires
-write-decimal-requires c κs = search needs
-
 returns : tie.Need-returns
 returns c =
     let start = c .before .before .before .before .before .before .before .before .before .before in
@@ -27,16 +18,11 @@ add-result c =
     let start = c .before .before .before .before .before .before .before .before .before .before in
     record { fits = omega (arith, start .good .1 .0 .0, start .pre, returns c .place-after) }
 
-same-length : tie.Need-same-length
-same-length c = search needs
-
 pub put-spaced-spec : {M : Type 1} → statement M
 put-spaced-spec =
     tie.close
     (tie.spec
-    slice-aggregate-put-text
-    put-text-requires
-    write-decimal-requires
+    (λ c. search needs) (λ c κs. search needs) (λ c κs. search needs)
     add-result
-    same-length
+    (λ c. search needs)
     returns)

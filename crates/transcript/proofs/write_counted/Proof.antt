@@ -12,18 +12,6 @@ use borrow.Author.Needs.{needs}
 use Rattle.transcript.proofs.write_counted.Statement.{statement}
 use Rattle.transcript.proofs.write_counted.Tie as tie
 
-spaced-length-requires : tie.Need-spaced-length-requires
-spaced-length-requires c κs = search needs
-
-add-need : tie.Need-add-need
-add-need c = search needs
-
-add-need-2 : tie.Need-add-need-2
-add-need-2 c = search needs
-
-has-room-requires : tie.Need-has-room-requires
-has-room-requires c κs = search needs
-
 -- What the test for room says of the line.
 fits : (c : tie.After-has-room)
     → c .has-room .result ≡ true
@@ -54,9 +42,6 @@ short c lacking =
 put-counted-requires : tie.Need-put-counted-requires
 put-counted-requires c κs = fits (c .before .before) (c .before .if1 .taken)
 
-same-length : tie.Need-same-length
-same-length c = search needs
-
 returns : tie.Need-returns
 returns c =
     let tested = c .before .before .before .before .before in
@@ -75,11 +60,8 @@ pub write-counted-spec : {M : Type 1} → statement M
 write-counted-spec =
     tie.close
     (tie.spec
-    spaced-length-requires
-    add-need
-    add-need-2
-    has-room-requires
+    (λ c κs. search needs) (λ c. search needs) (λ c. search needs) (λ c κs. search needs)
     put-counted-requires
-    same-length
+    (λ c. search needs)
     returns
     returns-2)

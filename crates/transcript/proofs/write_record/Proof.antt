@@ -14,30 +14,6 @@ use borrow.Author.Needs.{needs}
 use Rattle.transcript.proofs.write_record.Statement.{statement}
 use Rattle.transcript.proofs.write_record.Tie as tie
 
-spaced-length-requires : tie.Need-spaced-length-requires
-spaced-length-requires c κs = search needs
-
-spaced-length-requires-2 : tie.Need-spaced-length-requires-2
-spaced-length-requires-2 c κs = search needs
-
-add-head : tie.Need-add-head
-add-head c = search needs
-
-spaced-length-requires-3 : tie.Need-spaced-length-requires-3
-spaced-length-requires-3 c κs = search needs
-
-add-need : tie.Need-add-need
-add-need c = search needs
-
-spaced-length-requires-4 : tie.Need-spaced-length-requires-4
-spaced-length-requires-4 c κs = search needs
-
-add-need-2 : tie.Need-add-need-2
-add-need-2 c = search needs
-
-has-room-requires : tie.Need-has-room-requires
-has-room-requires c κs = search needs
-
 -- The message of the four numbers.
 abbrev given : tie.Start → Message
 given start = message (start .args .kind) (start .args .site) (start .args .a) (start .args .b)
@@ -104,9 +80,6 @@ short c lacking =
 put-message-requires : tie.Need-put-message-requires
 put-message-requires c κs = fits (c .before .before) (c .before .if1 .taken)
 
-same-length : tie.Need-same-length
-same-length c = search needs
-
 returns : tie.Need-returns
 returns c =
     let tested = c .before .before .before .before .before in
@@ -135,15 +108,10 @@ pub write-record-spec : {M : Type 1} → statement M
 write-record-spec =
     tie.close
     (tie.spec
-    spaced-length-requires
-    spaced-length-requires-2
-    add-head
-    spaced-length-requires-3
-    add-need
-    spaced-length-requires-4
-    add-need-2
-    has-room-requires
+    (λ c κs. search needs) (λ c κs. search needs) (λ c. search needs)
+    (λ c κs. search needs) (λ c. search needs) (λ c κs. search needs) (λ c. search needs)
+    (λ c κs. search needs)
     put-message-requires
-    same-length
+    (λ c. search needs)
     returns
     returns-2)

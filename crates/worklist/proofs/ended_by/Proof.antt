@@ -7,18 +7,9 @@ use borrow.Author.Needs.{needs}
 use Rattle.worklist.proofs.ended_by.Statement.{statement}
 use Rattle.worklist.proofs.ended_by.Tie as tie
 
-no-number-requires : tie.Need-no-number-requires
-no-number-requires c κs = search needs
-
 returns : tie.Need-returns
 returns c =
     rw (c .no-number .ensures) (none-read _ (ended-past _ _ _ _ (c .before .if1 .taken)))
-
-shared-slice-read-if2 : tie.Need-shared-slice-read-if2
-shared-slice-read-if2 c = search needs
-
-add-t10 : tie.Need-add-t10
-add-t10 c = search needs
 
 returns-2 : tie.Need-returns-2
 returns-2 c =
@@ -30,9 +21,6 @@ returns-2 c =
       small = start .pre .1;
     }
 
-no-number-requires-2 : tie.Need-no-number-requires-2
-no-number-requires-2 c κs = search needs
-
 returns-3 : tie.Need-returns-3
 returns-3 c =
     let here = c .before .before .before in
@@ -43,10 +31,9 @@ pub ended-by-spec : {M : Type 1} → statement M
 ended-by-spec =
     tie.close
     (tie.spec
-    no-number-requires
+    (λ c κs. search needs)
     returns
-    shared-slice-read-if2
-    add-t10
+    (λ c. search needs) (λ c. search needs)
     returns-2
-    no-number-requires-2
+    (λ c κs. search needs)
     returns-3)

@@ -23,15 +23,6 @@ loop-holds c =
     let within = c .before .pre in
     reading-begins (args .bytes .now) (args .start) (args .first) (within .0) (within .1)
 
-shared-slice-read-byte : tie.Need-shared-slice-read-byte Inv-loop μ-loop
-shared-slice-read-byte c = search needs
-
-is-digit-requires : tie.Need-is-digit-requires Inv-loop μ-loop
-is-digit-requires c κs = search needs
-
-no-number-requires : tie.Need-no-number-requires Inv-loop μ-loop
-no-number-requires c κs = search needs
-
 returns : tie.Need-returns Inv-loop μ-loop
 returns c =
     let turn = c .before .before .before .before .before in
@@ -56,15 +47,6 @@ digit-value-requires c κs = sym (c .before .before .is-digit .ensures) ∙ c .b
 
 add-value : tie.Need-add-value Inv-loop μ-loop
 add-value c = record { fits = omega (arith, value-small (c .before), c .digit-value .ensures .1) }
-
-sub-more : tie.Need-sub-more Inv-loop μ-loop
-sub-more c = search needs
-
-add-next : tie.Need-add-next Inv-loop μ-loop
-add-next c = search needs
-
-loop-less : tie.Need-loop-less Inv-loop μ-loop
-loop-less c = search needs
 
 loop-again : tie.Need-loop-again Inv-loop μ-loop
 loop-again c =
@@ -91,16 +73,12 @@ more-digits-spec =
     Inv-loop
     μ-loop
     loop-holds
-    shared-slice-read-byte
-    is-digit-requires
-    no-number-requires
+    (λ c. search needs) (λ c κs. search needs) (λ c κs. search needs)
     returns
     mul-value
     digit-value-requires
     add-value
-    sub-more
-    add-next
-    loop-less
+    (λ c. search needs) (λ c. search needs) (λ c. search needs)
     loop-again
     returns-2
     returns-3)

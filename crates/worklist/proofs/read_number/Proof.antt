@@ -10,27 +10,9 @@ use borrow.Author.Needs.{needs}
 use Rattle.worklist.proofs.read_number.Statement.{statement}
 use Rattle.worklist.proofs.read_number.Tie as tie
 
-no-number-requires : tie.Need-no-number-requires
-no-number-requires c κs = search needs
-
 returns : tie.Need-returns
 returns c =
     rw (c .no-number .ensures) (none-read _ (read-number-past _ _ (c .before .if1 .taken)))
-
-shared-slice-read-first : tie.Need-shared-slice-read-first
-shared-slice-read-first c = search needs
-
-add-next : tie.Need-add-next
-add-next c = search needs
-
-is-digit-requires : tie.Need-is-digit-requires
-is-digit-requires c κs = search needs
-
-leading-zero-requires : tie.Need-leading-zero-requires
-leading-zero-requires c κs = search needs
-
-no-number-requires-2 : tie.Need-no-number-requires-2
-no-number-requires-2 c κs = search needs
 
 returns-2 : tie.Need-returns-2
 returns-2 c =
@@ -44,9 +26,6 @@ returns-2 c =
 digit-value-requires : tie.Need-digit-value-requires
 digit-value-requires c κs =
     sym (c .before .before .before .is-digit .ensures) ∙ c .before .before .if2 .taken
-
-more-digits-requires : tie.Need-more-digits-requires
-more-digits-requires c κs = search needs
 
 returns-3 : tie.Need-returns-3
 returns-3 c =
@@ -63,9 +42,6 @@ returns-3 c =
     ∙ rw (digit, no-zero) (ap (λ (v : ℕ). moreDigits 6 v rest) first-value))
     (c .more-digits .ensures)
 
-no-number-requires-3 : tie.Need-no-number-requires-3
-no-number-requires-3 c κs = search needs
-
 returns-4 : tie.Need-returns-4
 returns-4 c =
     let other = sym (c .before .before .is-digit .ensures) ∙ c .before .if2 .left in
@@ -76,16 +52,13 @@ pub read-number-spec : {M : Type 1} → statement M
 read-number-spec =
     tie.close
     (tie.spec
-    no-number-requires
+    (λ c κs. search needs)
     returns
-    shared-slice-read-first
-    add-next
-    is-digit-requires
-    leading-zero-requires
-    no-number-requires-2
+    (λ c. search needs) (λ c. search needs) (λ c κs. search needs) (λ c κs. search needs)
+    (λ c κs. search needs)
     returns-2
     digit-value-requires
-    more-digits-requires
+    (λ c κs. search needs)
     returns-3
-    no-number-requires-3
+    (λ c κs. search needs)
     returns-4)

@@ -8,28 +8,16 @@ use borrow.Author.Needs.{needs}
 use Rattle.worklist.proofs.write_decimal.Statement.{statement}
 use Rattle.worklist.proofs.write_decimal.Tie as tie
 
-count-decimal-requires : tie.Need-count-decimal-requires
-count-decimal-requires c κs = search needs
-
 returns : tie.Need-returns
 returns c =
     let args = c .before .before .before .args in
     not-written (args .n) (args .at) (args .bytes .now) (omega arith)
-
-sub-if2 : tie.Need-sub-if2
-sub-if2 c = search needs
 
 returns-2 : tie.Need-returns-2
 returns-2 c =
     let args = c .before .before .before .before .args in
     not-written (args .n) (args .at) (args .bytes .now)
     (omega (arith, c .before .before .count-decimal .ensures))
-
-put-digits-requires : tie.Need-put-digits-requires
-put-digits-requires c κs = search needs
-
-same-length : tie.Need-same-length
-same-length c = search needs
 
 returns-3 : tie.Need-returns-3
 returns-3 c =
@@ -42,10 +30,9 @@ pub write-decimal-spec : {M : Type 1} → statement M
 write-decimal-spec =
     tie.close
     (tie.spec
-    count-decimal-requires
+    (λ c κs. search needs)
     returns
-    sub-if2
+    (λ c. search needs)
     returns-2
-    put-digits-requires
-    same-length
+    (λ c κs. search needs) (λ c. search needs)
     returns-3)

@@ -4,20 +4,8 @@ use borrow.Author.Needs.{needs}
 use Rattle.coordinator_steps.proofs.rounds.narrow.Statement.{statement}
 use Rattle.coordinator_steps.proofs.rounds.narrow.Tie as tie
 
-keep-silent-requires : tie.Need-keep-silent-requires
-keep-silent-requires c κs = search needs
-
 returns : tie.Need-returns
 returns c = λ memory. rw (eq-eqb _ _ (c .before .if1 .taken)) (c .keep-silent .ensures)
-
-middle-of-requires : tie.Need-middle-of-requires
-middle-of-requires c κs = search needs
-
-probe-of-requires : tie.Need-probe-of-requires
-probe-of-requires c κs = search needs
-
-speak-requires : tie.Need-speak-requires
-speak-requires c κs = search needs
 
 returns-2 : tie.Need-returns-2
 returns-2 c = λ memory.
@@ -29,9 +17,7 @@ pub narrow-spec : {M : Type 1} → statement M
 narrow-spec =
     tie.close
     (tie.spec
-    keep-silent-requires
+    (λ c κs. search needs)
     returns
-    middle-of-requires
-    probe-of-requires
-    speak-requires
+    (λ c κs. search needs) (λ c κs. search needs) (λ c κs. search needs)
     returns-2)

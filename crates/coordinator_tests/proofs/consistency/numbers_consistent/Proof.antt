@@ -13,12 +13,6 @@ use Rattle.coordinator_steps.proofs.StepLaws.{valueCount-is}
 use Rattle.coordinator_tests.proofs.consistency.numbers_consistent.Statement.{statement}
 use Rattle.coordinator_tests.proofs.consistency.numbers_consistent.Tie as tie
 
-cast-items : tie.Need-cast-items
-cast-items c = search needs
-
-add-words : tie.Need-add-words
-add-words c = search needs
-
 slice-aggregate-all-within : tie.Need-slice-aggregate-all-within
 slice-aggregate-all-within c =
     let start = c .before .before .before in
@@ -27,33 +21,9 @@ slice-aggregate-all-within c =
     (arith, start .pre .memory-long) in
     sym (length-take-le (start .args .settings .universe) memory fits)
 
-all-within-requires : tie.Need-all-within-requires
-all-within-requires c κs = search needs
-
-mul-all-within : tie.Need-mul-all-within
-mul-all-within c = search needs
-
-sub-all-within : tie.Need-sub-all-within
-sub-all-within c = search needs
-
-part-all-within-start : tie.Need-part-all-within-start
-part-all-within-start c = search needs
-
 part-all-within-end : tie.Need-part-all-within-end
 part-all-within-end c =
     omega (arith, c .before .before .before .before .before .pre .memory-long, valueCount-is)
-
-all-within-requires-2 : tie.Need-all-within-requires-2
-all-within-requires-2 c κs = search needs
-
-mul-sum-of : tie.Need-mul-sum-of
-mul-sum-of c = search needs
-
-sub-sum-of : tie.Need-sub-sum-of
-sub-sum-of c = search needs
-
-part-sum-of-start : tie.Need-part-sum-of-start
-part-sum-of-start c = search needs
 
 part-sum-of-end : tie.Need-part-sum-of-end
 part-sum-of-end c =
@@ -118,18 +88,11 @@ pub numbers-consistent-spec : {M : Type 1} → statement M
 numbers-consistent-spec =
     tie.close
     (tie.spec
-    cast-items
-    add-words
+    (λ c. search needs) (λ c. search needs)
     slice-aggregate-all-within
-    all-within-requires
-    mul-all-within
-    sub-all-within
-    part-all-within-start
+    (λ c κs. search needs) (λ c. search needs) (λ c. search needs) (λ c. search needs)
     part-all-within-end
-    all-within-requires-2
-    mul-sum-of
-    sub-sum-of
-    part-sum-of-start
+    (λ c κs. search needs) (λ c. search needs) (λ c. search needs) (λ c. search needs)
     part-sum-of-end
     sum-of-requires
     returns

@@ -5,21 +5,6 @@ use borrow.Author.Needs.{needs}
 use Rattle.coordinator_tests.proofs.consistency.phase_consistent.Statement.{statement}
 use Rattle.coordinator_tests.proofs.consistency.phase_consistent.Tie as tie
 
-enum-told : tie.Need-enum-told
-enum-told c = search needs
-
-enum-known-phase : tie.Need-enum-known-phase
-enum-known-phase c = search needs
-
-closing-consistent-requires : tie.Need-closing-consistent-requires
-closing-consistent-requires c κs = search needs
-
-enum-known-phase-2 : tie.Need-enum-known-phase-2
-enum-known-phase-2 c = search needs
-
-closing-consistent-requires-2 : tie.Need-closing-consistent-requires-2
-closing-consistent-requires-2 c κs = search needs
-
 returns : tie.Need-returns
 returns c =
     let at-first = c .before .before in
@@ -29,12 +14,6 @@ returns c =
       lt-ltb _ _ (c .before .if2 .taken),
       le-leb _ _ (c .if3 .taken),
     )
-
-enum-known-phase-3 : tie.Need-enum-known-phase-3
-enum-known-phase-3 c = search needs
-
-closing-consistent-requires-3 : tie.Need-closing-consistent-requires-3
-closing-consistent-requires-3 c κs = search needs
 
 returns-2 : tie.Need-returns-2
 returns-2 c = rw (c .before .enum-told .given .1)
@@ -75,14 +54,10 @@ pub phase-consistent-spec : {M : Type 1} → statement M
 phase-consistent-spec =
     tie.close
     (tie.spec
-    enum-told
-    enum-known-phase
-    closing-consistent-requires
-    enum-known-phase-2
-    closing-consistent-requires-2
+    (λ c. search needs) (λ c. search needs) (λ c κs. search needs) (λ c. search needs)
+    (λ c κs. search needs)
     returns
-    enum-known-phase-3
-    closing-consistent-requires-3
+    (λ c. search needs) (λ c κs. search needs)
     returns-2
     returns-3
     returns-4

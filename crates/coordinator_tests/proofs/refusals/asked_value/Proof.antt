@@ -3,27 +3,6 @@ use borrow.Author.Needs.{needs}
 use Rattle.coordinator_tests.proofs.refusals.asked_value.Statement.{statement}
 use Rattle.coordinator_tests.proofs.refusals.asked_value.Tie as tie
 
-enum-told : tie.Need-enum-told
-enum-told c = search needs
-
-enum-told-2 : tie.Need-enum-told-2
-enum-told-2 c = search needs
-
-enum-known-phase : tie.Need-enum-known-phase
-enum-known-phase c = search needs
-
-cast-result : tie.Need-cast-result
-cast-result c = search needs
-
-cast-result-2 : tie.Need-cast-result-2
-cast-result-2 c = search needs
-
-add-result : tie.Need-add-result
-add-result c = search needs
-
-enum-told-3 : tie.Need-enum-told-3
-enum-told-3 c = search needs
-
 returns : tie.Need-returns
 returns c = search needs
 
@@ -40,13 +19,8 @@ pub asked-value-spec : {M : Type 1} → statement M
 asked-value-spec =
     tie.close
     (tie.spec
-    enum-told
-    enum-told-2
-    enum-known-phase
-    cast-result
-    cast-result-2
-    add-result
-    enum-told-3
+    (λ c. search needs) (λ c. search needs) (λ c. search needs) (λ c. search needs)
+    (λ c. search needs) (λ c. search needs) (λ c. search needs)
     returns
     returns-2
     returns-3

@@ -4,26 +4,14 @@ use borrow.Author.Needs.{needs}
 use Rattle.coordinator_tests.proofs.refusals.not_due.Statement.{statement}
 use Rattle.coordinator_tests.proofs.refusals.not_due.Tie as tie
 
-enum-told : tie.Need-enum-told
-enum-told c = search needs
-
 returns : tie.Need-returns
 returns c = rw (c .before .before .enum-told .given .1, c .if1 .taken)
-
-enum-known-phase : tie.Need-enum-known-phase
-enum-known-phase c = search needs
 
 returns-2 : tie.Need-returns-2
 returns-2 c = rw (c .before .before .before .before .phase .given .1, c .before .if2 .taken)
 
-enum-known-phase-2 : tie.Need-enum-known-phase-2
-enum-known-phase-2 c = search needs
-
 returns-3 : tie.Need-returns-3
 returns-3 c = rw (c .before .before .before .before .phase2 .given .1, c .before .if3 .taken)
-
-enum-told-2 : tie.Need-enum-told-2
-enum-told-2 c = search needs
 
 returns-4 : tie.Need-returns-4
 returns-4 c = rw (c .before .before .before .enum-told .given .1, ne-eqb _ _ (c .before .if1 .left))
@@ -41,13 +29,13 @@ pub not-due-spec : {M : Type 1} → statement M
 not-due-spec =
     tie.close
     (tie.spec
-    enum-told
+    (λ c. search needs)
     returns
-    enum-known-phase
+    (λ c. search needs)
     returns-2
-    enum-known-phase-2
+    (λ c. search needs)
     returns-3
-    enum-told-2
+    (λ c. search needs)
     returns-4
     returns-5
     returns-6

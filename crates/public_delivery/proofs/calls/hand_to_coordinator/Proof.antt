@@ -7,15 +7,6 @@ use borrow.Author.Needs.{needs}
 use Rattle.public_delivery.proofs.calls.hand_to_coordinator.Statement.{statement}
 use Rattle.public_delivery.proofs.calls.hand_to_coordinator.Tie as tie
 
-receive-requires : tie.Need-receive-requires
-receive-requires c κs = search needs
-
-stop-requires : tie.Need-stop-requires
-stop-requires c κs = search needs
-
-same-length : tie.Need-same-length
-same-length c = search needs
-
 returns : tie.Need-returns
 returns c =
     let received = c .before .before .before .before .before in
@@ -25,15 +16,6 @@ returns c =
     rw (c .stop .ensures)
     (coordinator-stops (start .pre) (answer .result) (answer .ensures) (c .before .if1 .taken)
     siteMemory)
-
-take-head-requires : tie.Need-take-head-requires
-take-head-requires c κs = search needs
-
-join-answer-requires : tie.Need-join-answer-requires
-join-answer-requires c κs = search needs
-
-same-length-2 : tie.Need-same-length-2
-same-length-2 c = search needs
 
 returns-2 : tie.Need-returns-2
 returns-2 c =
@@ -50,11 +32,7 @@ pub hand-to-coordinator-spec : {M : Type 1} → statement M
 hand-to-coordinator-spec =
     tie.close
     (tie.spec
-    receive-requires
-    stop-requires
-    same-length
+    (λ c κs. search needs) (λ c κs. search needs) (λ c. search needs)
     returns
-    take-head-requires
-    join-answer-requires
-    same-length-2
+    (λ c κs. search needs) (λ c κs. search needs) (λ c. search needs)
     returns-2)

@@ -1,18 +1,15 @@
 -- `public_delivery::hand_to_site` meets its contract: no site has the number, or by whether the
 -- site accepts.
 use mathlib.Core.Path.{ap, _∙_}
-use Prim.Native.Nat.{ℕ, _*_}
 use native.Mathlib.Omega.{arith}
+use denote.Ref.{now}
 use Rattle.delivery.specs.declared.Queue.{Queue}
-use Rattle.network_tests.proofs.PartLaws.{site-few, starts-small, starts-within}
+use Rattle.network_tests.proofs.PartLaws.{site-few, PartStarts, starts-at}
 use Rattle.public_delivery.specs.Progress.{joinedIf}
 use Rattle.public_delivery.proofs.SiteStepLaws.{site-unknown, site-stops, site-goes}
 use borrow.Author.Needs.{needs}
 use Rattle.public_delivery.proofs.calls.hand_to_site.Statement.{statement}
 use Rattle.public_delivery.proofs.calls.hand_to_site.Tie as tie
-
-stop-requires : tie.Need-stop-requires
-stop-requires c κs = search needs
 
 returns : tie.Need-returns
 returns c =
@@ -21,58 +18,33 @@ returns c =
     rw (c .stop .ensures)
     (site-unknown (start .pre .0) (start .pre .1) (c .before .if1 .taken) memory)
 
-cast-which : tie.Need-cast-which
-cast-which c = search needs
-
-site-words-requires : tie.Need-site-words-requires
-site-words-requires c κs = search needs
+-- The site's part starts within the memory, as the code counts its words.
+starts : (sized : tie.After-site-words)
+    → let start = sized .before .before .before .before .before .before .before .before .before in
+    PartStarts (now (start .args .site-memory)) (start .args .progress .waiting .first .site)
+    (sized .site-words .result)
+starts sized =
+    let known = sized .before .before in
+    let start = known .before .before .before .before .before .before .before in
+    starts-at (start .pre .0) _ (known .if1 .left) _ (sized .site-words .ensures)
 
 mul-start : tie.Need-mul-start
-mul-start c =
-    let start = c .before .before .before .before .before .before .before .before .before in
-    let known = c .before .before .if1 .left in
-    let j = start .args .progress .waiting .first .site in
-    let at-start = ap (λ (z : ℕ). j * z) (c .site-words .ensures) in
-    omega (arith, starts-small (start .pre .0) j known, at-start)
+mul-start c = omega (arith, starts c .small)
 
 mul-part : tie.Need-mul-part
-mul-part c =
-    let start = c .before .before .before .before .before .before .before .before .before in
-    let known = c .before .before .if1 .left in
-    let j = start .args .progress .waiting .first .site in
-    let at-start = ap (λ (z : ℕ). j * z) (c .site-words .ensures) in
-    omega (arith, starts-small (start .pre .0) j known, at-start)
+mul-part c = omega (arith, starts c .small)
 
 sub-part : tie.Need-sub-part
-sub-part c =
-    let start = c .before .before .before .before .before .before .before .before .before in
-    let known = c .before .before .if1 .left in
-    let j = start .args .progress .waiting .first .site in
-    let at-start = ap (λ (z : ℕ). j * z) (c .site-words .ensures) in
-    omega (arith, starts-within (start .pre .0) j known, at-start)
+sub-part c = omega (arith, starts c .within)
 
 part-part-start : tie.Need-part-part-start
-part-part-start c =
-    let start = c .before .before .before .before .before .before .before .before .before in
-    let known = c .before .before .if1 .left in
-    let j = start .args .progress .waiting .first .site in
-    let at-start = ap (λ (z : ℕ). j * z) (c .site-words .ensures) in
-    omega (arith, starts-within (start .pre .0) j known, at-start)
-
-part-part-end : tie.Need-part-part-end
-part-part-end c = search needs
+part-part-start c = omega (arith, starts c .within)
 
 record-at-requires : tie.Need-record-at-requires
 record-at-requires c κs =
     let start = c .before .before .before .before .before .before .before .before .before .before in
     site-few (start .pre .0) (start .args .progress .waiting .first .site)
     (c .before .before .before .if1 .left)
-
-receive-requires : tie.Need-receive-requires
-receive-requires c κs = search needs
-
-stop-requires-2 : tie.Need-stop-requires-2
-stop-requires-2 c κs = search needs
 
 returns-2 : tie.Need-returns-2
 returns-2 c =
@@ -95,12 +67,6 @@ with-record-requires c κs =
     let known = c .before .before .before .before .before .before .before .before .before in
     let start = known .before .before .before .before .before .before .before in
     site-few (start .pre .0) (start .args .progress .waiting .first .site) (known .if1 .left)
-
-take-head-requires : tie.Need-take-head-requires
-take-head-requires c κs = search needs
-
-join-answer-requires : tie.Need-join-answer-requires
-join-answer-requires c κs = search needs
 
 returns-3 : tie.Need-returns-3
 returns-3 c =
@@ -126,20 +92,17 @@ pub hand-to-site-spec : {M : Type 1} → statement M
 hand-to-site-spec =
     tie.close
     (tie.spec
-    stop-requires
+    (λ c κs. search needs)
     returns
-    cast-which
-    site-words-requires
+    (λ c. search needs) (λ c κs. search needs)
     mul-start
     mul-part
     sub-part
     part-part-start
-    part-part-end
+    (λ c. search needs)
     record-at-requires
-    receive-requires
-    stop-requires-2
+    (λ c κs. search needs) (λ c κs. search needs)
     returns-2
     with-record-requires
-    take-head-requires
-    join-answer-requires
+    (λ c κs. search needs) (λ c κs. search needs)
     returns-3)

@@ -11,38 +11,8 @@ use Rattle.testing.proofs.coordinator_numbers.coordinator_fits.Tie as t
 returns : tie.Need-returns
 returns c = rw (lt-leb 10 _ (c .if1 .taken))
 
-shared-slice-read-if2 : tie.Need-shared-slice-read-if2
-shared-slice-read-if2 c = search needs
-
 returns-2 : tie.Need-returns-2
 returns-2 c = rw (le-leb 10 _ (c .before .before .if1 .left), lt-leb _ 3 (c .if2 .taken))
-
-shared-slice-read-larger : tie.Need-shared-slice-read-larger
-shared-slice-read-larger c = search needs
-
-shared-slice-read-larger-2 : tie.Need-shared-slice-read-larger-2
-shared-slice-read-larger-2 c = search needs
-
-larger-requires : tie.Need-larger-requires
-larger-requires c κs = search needs
-
-shared-slice-read-larger-3 : tie.Need-shared-slice-read-larger-3
-shared-slice-read-larger-3 c = search needs
-
-shared-slice-read-larger-4 : tie.Need-shared-slice-read-larger-4
-shared-slice-read-larger-4 c = search needs
-
-larger-requires-2 : tie.Need-larger-requires-2
-larger-requires-2 c κs = search needs
-
-shared-slice-read-larger-5 : tie.Need-shared-slice-read-larger-5
-shared-slice-read-larger-5 c = search needs
-
-larger-requires-3 : tie.Need-larger-requires-3
-larger-requires-3 c κs = search needs
-
-larger-requires-4 : tie.Need-larger-requires-4
-larger-requires-4 c κs = search needs
 
 returns-3 : tie.Need-returns-3
 returns-3 c =
@@ -71,15 +41,9 @@ coordinator-fits-spec =
     tie.close
     (tie.spec
     returns
-    shared-slice-read-if2
+    (λ c. search needs)
     returns-2
-    shared-slice-read-larger
-    shared-slice-read-larger-2
-    larger-requires
-    shared-slice-read-larger-3
-    shared-slice-read-larger-4
-    larger-requires-2
-    shared-slice-read-larger-5
-    larger-requires-3
-    larger-requires-4
+    (λ c. search needs) (λ c. search needs) (λ c κs. search needs) (λ c. search needs)
+    (λ c. search needs) (λ c κs. search needs) (λ c. search needs) (λ c κs. search needs)
+    (λ c κs. search needs)
     returns-3)

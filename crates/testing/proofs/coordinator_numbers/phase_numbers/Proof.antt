@@ -3,18 +3,6 @@ use borrow.Author.Needs.{needs}
 use Rattle.testing.proofs.coordinator_numbers.phase_numbers.Statement.{statement}
 use Rattle.testing.proofs.coordinator_numbers.phase_numbers.Tie as tie
 
-enum-told : tie.Need-enum-told
-enum-told c = search needs
-
-enum-known-phase : tie.Need-enum-known-phase
-enum-known-phase c = search needs
-
-enum-known-phase-2 : tie.Need-enum-known-phase-2
-enum-known-phase-2 c = search needs
-
-enum-known-phase-3 : tie.Need-enum-known-phase-3
-enum-known-phase-3 c = search needs
-
 returns : tie.Need-returns
 returns c = rw (c .enum-told .given .1)
 
@@ -31,10 +19,7 @@ pub phase-numbers-spec : {M : Type 1} → statement M
 phase-numbers-spec =
     tie.close
     (tie.spec
-    enum-told
-    enum-known-phase
-    enum-known-phase-2
-    enum-known-phase-3
+    (λ c. search needs) (λ c. search needs) (λ c. search needs) (λ c. search needs)
     returns
     returns-2
     returns-3

@@ -9,21 +9,6 @@ use Rattle.testing.proofs.Writing.{written}
 use Rattle.testing.proofs.coordinator_numbers.write_quantile.Statement.{statement}
 use Rattle.testing.proofs.coordinator_numbers.write_quantile.Tie as tie
 
-found-numbers-requires : tie.Need-found-numbers-requires
-found-numbers-requires c κs = search needs
-
-slice-write-numbers : tie.Need-slice-write-numbers
-slice-write-numbers c = search needs
-
-cast-numbers : tie.Need-cast-numbers
-cast-numbers c = search needs
-
-slice-write-numbers-2 : tie.Need-slice-write-numbers-2
-slice-write-numbers-2 c = search needs
-
-same-length : tie.Need-same-length
-same-length c = search needs
-
 returns : tie.Need-returns
 returns c =
     let a = c .before .before .before .args in
@@ -35,9 +20,6 @@ pub write-quantile-spec : {M : Type 1} → statement M
 write-quantile-spec =
     tie.close
     (tie.spec
-    found-numbers-requires
-    slice-write-numbers
-    cast-numbers
-    slice-write-numbers-2
-    same-length
+    (λ c κs. search needs) (λ c. search needs) (λ c. search needs) (λ c. search needs)
+    (λ c. search needs)
     returns)

@@ -14,7 +14,7 @@ read-margin-requires c κs = search needs
 returns : tie.Need-returns
 returns c =
     let at-if1 = c .before in
-    let opens = at-if1 .before .open-coordinator .ensures in
+    let opens = at-if1 .before .open-coordinator .ensures .opens in
     let fit = at-if1 .if1 .taken in
     let says = rw (opens .made fit) at (c .read-margin .ensures) in
     record {
@@ -24,7 +24,7 @@ returns c =
 
 returns-2 : tie.Need-returns-2
 returns-2 c =
-    let unfit = sym (c .before .open-coordinator .ensures .fits-is) ∙ c .if1 .left in
+    let unfit = sym (c .before .open-coordinator .ensures .opens .fits-is) ∙ c .if1 .left in
     record {
       refusal = exported-kept _ _ _ unfit refl;
       margin-is = exported-kept _ _ _ unfit refl;

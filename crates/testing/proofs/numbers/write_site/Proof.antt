@@ -7,21 +7,6 @@ use Rattle.testing.proofs.Writing.{written}
 use Rattle.testing.proofs.numbers.write_site.Statement.{statement}
 use Rattle.testing.proofs.numbers.write_site.Tie as tie
 
-slice-write-numbers : tie.Need-slice-write-numbers
-slice-write-numbers c = search needs
-
-slice-write-numbers-2 : tie.Need-slice-write-numbers-2
-slice-write-numbers-2 c = simp length-set (omega arith)
-
-slice-write-numbers-3 : tie.Need-slice-write-numbers-3
-slice-write-numbers-3 c = simp length-set (omega arith)
-
-slice-write-numbers-4 : tie.Need-slice-write-numbers-4
-slice-write-numbers-4 c = search needs
-
-same-length : tie.Need-same-length
-same-length c = search needs
-
 returns : tie.Need-returns
 returns c = written (siteNumbers (c .args .site)) (c .args .numbers .now) (omega arith)
 
@@ -29,9 +14,6 @@ pub write-site-spec : {M : Type 1} → statement M
 write-site-spec =
     tie.close
     (tie.spec
-    slice-write-numbers
-    slice-write-numbers-2
-    slice-write-numbers-3
-    slice-write-numbers-4
-    same-length
+    (λ c. search needs) (λ c. simp length-set (omega arith))
+    (λ c. simp length-set (omega arith)) (λ c. search needs) (λ c. search needs)
     returns)

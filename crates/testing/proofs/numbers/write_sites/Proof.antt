@@ -17,54 +17,6 @@ abbrev μ-loop : tie.MeasureT-loop
 loop-holds : tie.Need-loop-holds Inv-loop μ-loop
 loop-holds c = recording-start (c .args .numbers .now) (c .args .t2 .records)
 
-mul-site : tie.Need-mul-site Inv-loop μ-loop
-mul-site c = search needs
-
-element-copy-out-site : tie.Need-element-copy-out-site Inv-loop μ-loop
-element-copy-out-site c = search needs
-
-mul-at : tie.Need-mul-at Inv-loop μ-loop
-mul-at c = search needs
-
-mul-numbers : tie.Need-mul-numbers Inv-loop μ-loop
-mul-numbers c = search needs
-
-slice-write-numbers : tie.Need-slice-write-numbers Inv-loop μ-loop
-slice-write-numbers c = search needs
-
-add-numbers : tie.Need-add-numbers Inv-loop μ-loop
-add-numbers c = search needs
-
-mul-numbers-2 : tie.Need-mul-numbers-2 Inv-loop μ-loop
-mul-numbers-2 c = search needs
-
-slice-write-numbers-2 : tie.Need-slice-write-numbers-2 Inv-loop μ-loop
-slice-write-numbers-2 c = simp length-set (omega arith)
-
-add-numbers-2 : tie.Need-add-numbers-2 Inv-loop μ-loop
-add-numbers-2 c = search needs
-
-mul-numbers-3 : tie.Need-mul-numbers-3 Inv-loop μ-loop
-mul-numbers-3 c = search needs
-
-slice-write-numbers-3 : tie.Need-slice-write-numbers-3 Inv-loop μ-loop
-slice-write-numbers-3 c = simp length-set (omega arith)
-
-add-numbers-3 : tie.Need-add-numbers-3 Inv-loop μ-loop
-add-numbers-3 c = search needs
-
-mul-numbers-4 : tie.Need-mul-numbers-4 Inv-loop μ-loop
-mul-numbers-4 c = search needs
-
-slice-write-numbers-4 : tie.Need-slice-write-numbers-4 Inv-loop μ-loop
-slice-write-numbers-4 c = simp length-set (omega arith)
-
-add-i : tie.Need-add-i Inv-loop μ-loop
-add-i c = search needs
-
-loop-less : tie.Need-loop-less Inv-loop μ-loop
-loop-less c = search needs
-
 loop-again : tie.Need-loop-again Inv-loop μ-loop
 loop-again c =
     let at-loop = c .before .before in
@@ -72,12 +24,6 @@ loop-again c =
     let loop = at-loop .loop in
     recording-on (start .args .numbers .now) (start .args .t2 .records) (loop .numbers) (loop .i) _
     (start .pre) (loop .inv) (search needs) (four-stores (loop .numbers) (4 * loop .i) _ _ _ _)
-
-slice-write-numbers-5 : tie.Need-slice-write-numbers-5 Inv-loop μ-loop
-slice-write-numbers-5 c = search needs
-
-same-length : tie.Need-same-length Inv-loop μ-loop
-same-length c = search needs
 
 returns : tie.Need-returns Inv-loop μ-loop
 returns c =
@@ -94,23 +40,11 @@ write-sites-spec =
     Inv-loop
     μ-loop
     loop-holds
-    mul-site
-    element-copy-out-site
-    mul-at
-    mul-numbers
-    slice-write-numbers
-    add-numbers
-    mul-numbers-2
-    slice-write-numbers-2
-    add-numbers-2
-    mul-numbers-3
-    slice-write-numbers-3
-    add-numbers-3
-    mul-numbers-4
-    slice-write-numbers-4
-    add-i
-    loop-less
+    (λ c. search needs) (λ c. search needs) (λ c. search needs) (λ c. search needs)
+    (λ c. search needs) (λ c. search needs) (λ c. search needs)
+    (λ c. simp length-set (omega arith)) (λ c. search needs) (λ c. search needs)
+    (λ c. simp length-set (omega arith)) (λ c. search needs) (λ c. search needs)
+    (λ c. simp length-set (omega arith)) (λ c. search needs) (λ c. search needs)
     loop-again
-    slice-write-numbers-5
-    same-length
+    (λ c. search needs) (λ c. search needs)
     returns)

@@ -1,70 +1,45 @@
 -- The records where what is lent fits; else zeros.
 use mathlib.Core.Path.{sym, _∙_}
-use mathlib.Core.Bool.{true, false, false≢true}
-use Rattle.testing.proofs.Lending.{site-is}
+use Rattle.testing.proofs.Lending.{SiteLent, site-is, opens-made, opens-zeros}
 use borrow.Author.Needs.{needs}
 use Rattle.testing.proofs.openings.open_site.Statement.{statement}
 use Rattle.testing.proofs.openings.open_site.Tie as tie
 
-site-lent-requires : tie.Need-site-lent-requires
-site-lent-requires c κs = search needs
+lends : (at-if1 : tie.Then1)
+    → let a = at-if1 .before .before .before .before .args in
+    SiteLent (a .settings .now) (a .site .now) (a .places) (a .least)
+lends at-if1 =
+    site-is _ _ _ _ (sym (at-if1 .before .site-lent .ensures) ∙ at-if1 .if1 .taken)
 
 settings-from-requires : tie.Need-settings-from-requires
-settings-from-requires c κs =
-    let at-if1 = c in
-    let a = at-if1 .before .before .before .before .args in
-    let room = site-is (a .settings .now) (a .site .now) (a .places) (a .least)
-    (sym (at-if1 .before .site-lent .ensures) ∙ at-if1 .if1 .taken) in
-    room .lends .settings-long
+settings-from-requires c κs = lends c .lends .settings-long
 
 site-from-requires : tie.Need-site-from-requires
-site-from-requires c κs =
-    let at-if1 = c .before in
-    let a = at-if1 .before .before .before .before .args in
-    let room = site-is (a .settings .now) (a .site .now) (a .places) (a .least)
-    (sym (at-if1 .before .site-lent .ensures) ∙ at-if1 .if1 .taken) in
-    room .site-long
+site-from-requires c κs = lends (c .before) .site-long
 
 returns : tie.Need-returns
 returns c =
     let at-if1 = c .before .before in
+    let fit = sym (at-if1 .before .site-lent .ensures) ∙ at-if1 .if1 .taken in
     record {
-      fits-is = sym (at-if1 .if1 .taken) ∙ at-if1 .before .site-lent .ensures;
-      made = λ _ j. record {
-        fits = true;
-        settings = c .before .settings-from .ensures j;
-        site = c .site-from .ensures j;
-      };
-      left = λ unfit. absurd (false≢true (sym unfit));
+      opens = opens-made fit (rw (c .before .settings-from .ensures, c .site-from .ensures));
     }
-
-zero-settings-requires : tie.Need-zero-settings-requires
-zero-settings-requires c κs = search needs
-
-zero-site-requires : tie.Need-zero-site-requires
-zero-site-requires c κs = search needs
 
 returns-2 : tie.Need-returns-2
 returns-2 c =
     let at-if1 = c .before .before in
+    let unfit = sym (at-if1 .before .site-lent .ensures) ∙ at-if1 .if1 .left in
     record {
-      fits-is = sym (at-if1 .if1 .left) ∙ at-if1 .before .site-lent .ensures;
-      made = λ fit. absurd (false≢true fit);
-      left = λ _ j. record {
-        fits = false;
-        settings = c .before .zero-settings .ensures j;
-        site = c .zero-site .ensures j;
-      };
+      opens = opens-zeros unfit (rw (c .before .zero-settings .ensures, c .zero-site .ensures));
     }
 
 pub open-site-spec : {M : Type 1} → statement M
 open-site-spec =
     tie.close
     (tie.spec
-    site-lent-requires
+    (λ c κs. search needs)
     settings-from-requires
     site-from-requires
     returns
-    zero-settings-requires
-    zero-site-requires
+    (λ c κs. search needs) (λ c κs. search needs)
     returns-2)

@@ -9,18 +9,6 @@ use borrow.Author.Needs.{needs}
 use Rattle.testing.proofs.public_deliveries.deliver_lent.Statement.{statement}
 use Rattle.testing.proofs.public_deliveries.deliver_lent.Tie as tie
 
-settings-from-requires : tie.Need-settings-from-requires
-settings-from-requires c κs = search needs
-
-sites-from-requires : tie.Need-sites-from-requires
-sites-from-requires c κs = search needs
-
-coordinator-from-requires : tie.Need-coordinator-from-requires
-coordinator-from-requires c κs = search needs
-
-deliver-arrival-requires : tie.Need-deliver-arrival-requires
-deliver-arrival-requires c κs = search needs
-
 write-sites-requires : tie.Need-write-sites-requires
 write-sites-requires c κs =
     let at-deliver = c .before .before .before .before .before .before .before in
@@ -35,9 +23,6 @@ write-coordinator-requires c κs =
     let at-settings-from = at-deliver .before .before .before .before .before .before .before in
     at-settings-from .before .before .before .before .before .before .before .pre .coordinator-long
 
-one-if-requires : tie.Need-one-if-requires
-one-if-requires c κs = search needs
-
 slice-write-out : tie.Need-slice-write-out
 slice-write-out c =
     let at-write-sites = c .before .before .before .before .before .before .before in
@@ -46,21 +31,6 @@ slice-write-out c =
     .before .before .before .before in
     let at-settings-from = at-deliver .before .before .before .before .before .before .before in
     at-settings-from .before .before .before .before .before .before .before .pre .out-long
-
-same-length : tie.Need-same-length
-same-length c = search needs
-
-same-length-2 : tie.Need-same-length-2
-same-length-2 c = search needs
-
-same-length-3 : tie.Need-same-length-3
-same-length-3 c = search needs
-
-same-length-4 : tie.Need-same-length-4
-same-length-4 c = search needs
-
-same-length-5 : tie.Need-same-length-5
-same-length-5 c = search needs
 
 returns : tie.Need-returns
 returns c =
@@ -95,17 +65,12 @@ pub deliver-lent-spec : {M : Type 1} → statement M
 deliver-lent-spec =
     tie.close
     (tie.spec
-    settings-from-requires
-    sites-from-requires
-    coordinator-from-requires
-    deliver-arrival-requires
+    (λ c κs. search needs) (λ c κs. search needs) (λ c κs. search needs)
+    (λ c κs. search needs)
     write-sites-requires
     write-coordinator-requires
-    one-if-requires
+    (λ c κs. search needs)
     slice-write-out
-    same-length
-    same-length-2
-    same-length-3
-    same-length-4
-    same-length-5
+    (λ c. search needs) (λ c. search needs) (λ c. search needs) (λ c. search needs)
+    (λ c. search needs)
     returns)

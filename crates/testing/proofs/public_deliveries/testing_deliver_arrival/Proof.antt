@@ -6,9 +6,6 @@ use borrow.Author.Needs.{needs}
 use Rattle.testing.proofs.public_deliveries.testing_deliver_arrival.Statement.{statement}
 use Rattle.testing.proofs.public_deliveries.testing_deliver_arrival.Tie as tie
 
-network-lent-requires : tie.Need-network-lent-requires
-network-lent-requires c κs = search needs
-
 deliver-lent-requires : tie.Need-deliver-lent-requires
 deliver-lent-requires c κs =
     let at-if1 = c .before .before .before .before .before in
@@ -28,21 +25,6 @@ deliver-lent-requires c κs =
       out-long = room .lends .lends .places-enough;
     }
 
-same-length : tie.Need-same-length
-same-length c = search needs
-
-same-length-2 : tie.Need-same-length-2
-same-length-2 c = search needs
-
-same-length-3 : tie.Need-same-length-3
-same-length-3 c = search needs
-
-same-length-4 : tie.Need-same-length-4
-same-length-4 c = search needs
-
-same-length-5 : tie.Need-same-length-5
-same-length-5 c = search needs
-
 returns : tie.Need-returns
 returns c =
     let at-deliver-lent =
@@ -51,12 +33,6 @@ returns c =
     let at-if1 = at-deliver-lent .before .before .before .before .before .before in
     exported-handed _ _ _ (sym (at-if1 .before .network-lent .ensures) ∙ at-if1 .if1 .taken)
     (at-deliver-lent .deliver-lent .ensures)
-
-same-length-6 : tie.Need-same-length-6
-same-length-6 c = search needs
-
-same-length-7 : tie.Need-same-length-7
-same-length-7 c = search needs
 
 returns-2 : tie.Need-returns-2
 returns-2 c =
@@ -67,14 +43,10 @@ pub testing-deliver-arrival-spec : {M : Type 1} → statement M
 testing-deliver-arrival-spec =
     tie.close
     (tie.spec
-    network-lent-requires
+    (λ c κs. search needs)
     deliver-lent-requires
-    same-length
-    same-length-2
-    same-length-3
-    same-length-4
-    same-length-5
+    (λ c. search needs) (λ c. search needs) (λ c. search needs) (λ c. search needs)
+    (λ c. search needs)
     returns
-    same-length-6
-    same-length-7
+    (λ c. search needs) (λ c. search needs)
     returns-2)

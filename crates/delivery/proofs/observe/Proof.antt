@@ -7,12 +7,6 @@ use borrow.Author.Needs.{needs}
 use Rattle.delivery.proofs.observe.Statement.{statement}
 use Rattle.delivery.proofs.observe.Tie as tie
 
-cast-which : tie.Need-cast-which
-cast-which c = search needs
-
-site-words-requires : tie.Need-site-words-requires
-site-words-requires c κs = search needs
-
 mul-start : tie.Need-mul-start
 mul-start c =
     let start = c .before .before .before in
@@ -37,18 +31,12 @@ part-observe-step-start c =
     let words = ap (λ (z : ℕ). start .args .arrival .site * z) (c .site-words .ensures) in
     omega (arith, starts-within (start .pre .asks), words)
 
-part-observe-step-end : tie.Need-part-observe-step-end
-part-observe-step-end c = search needs
-
 observe-step-requires : tie.Need-observe-step-requires
 observe-step-requires c κs =
     let start = c .before .before .before .before in
     let words = c .before .site-words in
     observe-asks (start .pre .asks) (start .args .own) (words .result) (start .pre .own-is)
     (words .ensures)
-
-same-length : tie.Need-same-length
-same-length c = search needs
 
 returns : tie.Need-returns
 returns c =
@@ -65,13 +53,12 @@ pub observe-spec : {M : Type 1} → statement M
 observe-spec =
     tie.close
     (tie.spec
-    cast-which
-    site-words-requires
+    (λ c. search needs) (λ c κs. search needs)
     mul-start
     mul-observe-step
     sub-observe-step
     part-observe-step-start
-    part-observe-step-end
+    (λ c. search needs)
     observe-step-requires
-    same-length
+    (λ c. search needs)
     returns)

@@ -6,23 +6,11 @@ use borrow.Author.Needs.{needs}
 use Rattle.tracker.proofs.deliver_turn.Statement.{statement}
 use Rattle.tracker.proofs.deliver_turn.Tie as tie
 
-at-rest-requires : tie.Need-at-rest-requires
-at-rest-requires c κs = search needs
-
 deliver-messages-requires : tie.Need-deliver-messages-requires
 deliver-messages-requires c κs =
     let rests = c .before .before .before in
     let start = rests .before .before .before .before .before .before .before in
     rw (rests .at-rest .ensures) (messages-ask (start .pre))
-
-same-length : tie.Need-same-length
-same-length c = search needs
-
-same-length-2 : tie.Need-same-length-2
-same-length-2 c = search needs
-
-same-length-3 : tie.Need-same-length-3
-same-length-3 c = search needs
 
 returns : tie.Need-returns
 returns c =
@@ -39,9 +27,7 @@ pub deliver-turn-spec : {M : Type 1} → statement M
 deliver-turn-spec =
     tie.close
     (tie.spec
-    at-rest-requires
+    (λ c κs. search needs)
     deliver-messages-requires
-    same-length
-    same-length-2
-    same-length-3
+    (λ c. search needs) (λ c. search needs) (λ c. search needs)
     returns)

@@ -5,27 +5,12 @@ use borrow.Author.Needs.{needs}
 use Rattle.tracker.proofs.one_refusal.Statement.{statement}
 use Rattle.tracker.proofs.one_refusal.Tie as tie
 
-arrival-refusal-requires : tie.Need-arrival-refusal-requires
-arrival-refusal-requires c κs = search needs
-
 returns : tie.Need-returns
 returns c =
     let called = c .before .arrival-refusal in
     let a = c .before .before .args in
     arrival-refused (a .settings) (a .own) (a .arrival) (a .numbers) (a .written)
     (called .result) (called .ensures) (c .if1 .taken)
-
-sub-free : tie.Need-sub-free
-sub-free c = search needs
-
-cast-if2 : tie.Need-cast-if2
-cast-if2 c = search needs
-
-mul-if2 : tie.Need-mul-if2
-mul-if2 c = search needs
-
-add-if2 : tie.Need-add-if2
-add-if2 c = search needs
 
 returns-2 : tie.Need-returns-2
 returns-2 c =
@@ -45,11 +30,8 @@ pub one-refusal-spec : {M : Type 1} → statement M
 one-refusal-spec =
     tie.close
     (tie.spec
-    arrival-refusal-requires
+    (λ c κs. search needs)
     returns
-    sub-free
-    cast-if2
-    mul-if2
-    add-if2
+    (λ c. search needs) (λ c. search needs) (λ c. search needs) (λ c. search needs)
     returns-2
     returns-3)

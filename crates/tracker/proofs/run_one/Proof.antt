@@ -30,15 +30,6 @@ opened-one : (settings : Settings) (sites : Sites) (coordinator : CoordinatorRec
 opened-one _ _ _ _ _ _ _ answer siteThen coordinatorThen says =
     walked-open _ answer siteThen coordinatorThen says
 
-open-batch-requires : tie.Need-open-batch-requires
-open-batch-requires c κs = search needs
-
-same-length : tie.Need-same-length
-same-length c = search needs
-
-same-length-2 : tie.Need-same-length-2
-same-length-2 c = search needs
-
 returns : tie.Need-returns
 returns c =
     let opened = c .before .before .before .before .before .before in
@@ -60,15 +51,6 @@ take-arrival-requires c κs =
     (opens .ensures) in
     walked-asks walked (tested .if1 .left)
 
-same-length-3 : tie.Need-same-length-3
-same-length-3 c = search needs
-
-same-length-4 : tie.Need-same-length-4
-same-length-4 c = search needs
-
-same-length-5 : tie.Need-same-length-5
-same-length-5 c = search needs
-
 returns-2 : tie.Need-returns-2
 returns-2 c =
     let takes = c .before .before .before .before .before .before in
@@ -85,12 +67,8 @@ pub run-one-spec : {M : Type 1} → statement M
 run-one-spec =
     tie.close
     (tie.spec
-    open-batch-requires
-    same-length
-    same-length-2
+    (λ c κs. search needs) (λ c. search needs) (λ c. search needs)
     returns
     take-arrival-requires
-    same-length-3
-    same-length-4
-    same-length-5
+    (λ c. search needs) (λ c. search needs) (λ c. search needs)
     returns-2)

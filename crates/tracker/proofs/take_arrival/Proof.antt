@@ -6,9 +6,6 @@ use borrow.Author.Needs.{needs}
 use Rattle.tracker.proofs.take_arrival.Statement.{statement}
 use Rattle.tracker.proofs.take_arrival.Tie as tie
 
-place-of-requires : tie.Need-place-of-requires
-place-of-requires c κs = search needs
-
 record-of-requires : tie.Need-record-of-requires
 record-of-requires c κs =
     let places = c .before in
@@ -35,9 +32,6 @@ count-turn-requires c κs =
     (count-asks lent (a .arrival) (a .answer)
     (rw (places .place-of .ensures) at (reads .record-of .ensures)) (takes .take-turn .ensures)
     (start .pre))
-
-same-length : tie.Need-same-length
-same-length c = search needs
 
 returns : tie.Need-returns
 returns c =
@@ -67,15 +61,6 @@ deliver-turn-requires c κs =
     (counts .count-turn .result) (rw (places .place-of .ensures) at (counts .count-turn .ensures))
     (start .pre) (some .if1 .left)
 
-same-length-2 : tie.Need-same-length-2
-same-length-2 c = search needs
-
-same-length-3 : tie.Need-same-length-3
-same-length-3 c = search needs
-
-same-length-4 : tie.Need-same-length-4
-same-length-4 c = search needs
-
 returns-2 : tie.Need-returns-2
 returns-2 c =
     let delivers = c .before .before .before .before .before .before in
@@ -95,14 +80,12 @@ pub take-arrival-spec : {M : Type 1} → statement M
 take-arrival-spec =
     tie.close
     (tie.spec
-    place-of-requires
+    (λ c κs. search needs)
     record-of-requires
     take-turn-requires
     count-turn-requires
-    same-length
+    (λ c. search needs)
     returns
     deliver-turn-requires
-    same-length-2
-    same-length-3
-    same-length-4
+    (λ c. search needs) (λ c. search needs) (λ c. search needs)
     returns-2)

@@ -19,21 +19,12 @@ announce-step-requires c κs =
     let u = start .pre .delivering in
     ask-asks u (asking u (c .if1 .taken) (start .pre .goes-on))
 
-coordinator-change-requires : tie.Need-coordinator-change-requires
-coordinator-change-requires c κs = search needs
-
 returns : tie.Need-returns
 returns c =
     let asked = c .before in
     let start = asked .before .before .before .before .before in
     asked-says (asked .before .if1 .taken) (start .pre .goes-on) (asked .announce-step .result)
     (asked .announce-step .ensures) (c .coordinator-change .result) (c .coordinator-change .ensures)
-
-take-head-requires : tie.Need-take-head-requires
-take-head-requires c κs = search needs
-
-to-coordinator-requires : tie.Need-to-coordinator-requires
-to-coordinator-requires c κs = search needs
 
 receive-step-requires : tie.Need-receive-step-requires
 receive-step-requires c κs =
@@ -43,12 +34,6 @@ receive-step-requires c κs =
     let way = sym (called .to-coordinator .ensures)
     ∙ c .before .if2 .taken in
     coordinator-asks u (handing u (tested .if1 .left)) way
-
-coordinator-change-requires-2 : tie.Need-coordinator-change-requires-2
-coordinator-change-requires-2 c κs = search needs
-
-same-length : tie.Need-same-length
-same-length c = search needs
 
 returns-2 : tie.Need-returns-2
 returns-2 c =
@@ -60,9 +45,6 @@ returns-2 c =
     received-says (called .before .before .before .if1 .left) (rest .result) (rest .ensures) way
     (received .receive-step .result) _ (received .receive-step .ensures)
     (c .coordinator-change2 .result) (c .coordinator-change2 .ensures)
-
-cast-which : tie.Need-cast-which
-cast-which c = search needs
 
 site-words-requires : tie.Need-site-words-requires
 site-words-requires c κs =
@@ -97,9 +79,6 @@ sub-part c =
 part-part-start : tie.Need-part-part-start
 part-part-start c = sub-part c
 
-part-part-end : tie.Need-part-part-end
-part-part-end c = search needs
-
 receive-step-requires-2 : tie.Need-receive-step-requires-2
 receive-step-requires-2 c κs =
     let words = c .before in
@@ -133,20 +112,18 @@ hand-over-spec =
     tie.close
     (tie.spec
     announce-step-requires
-    coordinator-change-requires
+    (λ c κs. search needs)
     returns
-    take-head-requires
-    to-coordinator-requires
+    (λ c κs. search needs) (λ c κs. search needs)
     receive-step-requires
-    coordinator-change-requires-2
-    same-length
+    (λ c κs. search needs) (λ c. search needs)
     returns-2
-    cast-which
+    (λ c. search needs)
     site-words-requires
     mul-start
     mul-part
     sub-part
     part-part-start
-    part-part-end
+    (λ c. search needs)
     receive-step-requires-2
     returns-3)

@@ -1,4 +1,5 @@
-//! Arrivals through the batch call: several settings and streams, at several places of the stream.
+//! Arrivals through the batch call: several settings and streams, over whole streams and at several
+//! places of a stream.
 
 use std::hint::black_box;
 use std::time::Instant;
@@ -25,6 +26,56 @@ const PLACES: [u64; 4] = [0, 100_000, 1_000_000, 10_000_000];
 const NANOSECONDS: f64 = 400_000_000.0;
 const ROUNDS: (usize, usize) = (60, 800);
 
+/// Whole streams of so many arrivals, from a fresh start.
+pub fn measure_whole(arrivals: u64) {
+    println!("| k | c | e | stream | arrivals | messages | proved, /s | reference, /s | ratio |");
+    println!("|---|---|---|---|---|---|---|---|---|");
+    for settings in SETTINGS {
+        for (name, stream) in &ALL[..3] {
+            measure_whole_stream(settings, name, *stream, arrivals);
+        }
+    }
+}
+
+/// Both sides take the same batches, each of them first in every other one; their times add up.
+fn measure_whole_stream(settings: [u32; 6], name: &str, stream: Stream, arrivals: u64) {
+    let [k, e, _, _, c, _] = settings;
+    let mut source = Source::new(stream, settings, 1);
+    let mut reference = Reference::start(settings, log_places(k));
+    let mut proved = Proved::of(&reference);
+    let mut times = Times { proved: 0.0, reference: 0.0 };
+    let mut messages = 0;
+    while source.sent < arrivals {
+        let batch = source.take(BATCH);
+        let lent = lent(&batch);
+        let mut written = 0;
+        for side in 0..2 {
+            if side == source.sent / BATCH as u64 % 2 {
+                times.proved += timed(|| proved.run(black_box(&lent)));
+            } else {
+                times.reference += timed(|| {
+                    written = reference.run(black_box(&batch));
+                    written
+                });
+            }
+        }
+        proved.check(&reference, written);
+        messages += written;
+    }
+    let ratio = times.proved / times.reference;
+    let speed = |time: f64| arrivals as f64 * 1e9 / time;
+    println!(
+        "| {k} | {c} | {e} | {name} | {arrivals} | {messages} | {:.0} | {:.0} | {ratio:.2} |",
+        speed(times.proved),
+        speed(times.reference)
+    );
+}
+
+/// Places of a log that a batch never fills.
+fn log_places(sites: u32) -> usize {
+    30 * BATCH + 2 * (23 * sites as usize + 2)
+}
+
 /// The rows up to a place of the stream.
 pub fn measure(last: u64) {
     println!("| k | c | e | stream | after | messages | proved, ns | reference, ns | ratio |");
@@ -38,9 +89,8 @@ pub fn measure(last: u64) {
 
 fn measure_stream(settings: [u32; 6], name: &str, stream: Stream, last: u64) {
     let [k, e, _, _, c, _] = settings;
-    let places = 30 * BATCH + 2 * (23 * k as usize + 2);
     let mut source = Source::new(stream, settings, 1);
-    let mut network = Reference::start(settings, places);
+    let mut network = Reference::start(settings, log_places(k));
     for after in PLACES.into_iter().filter(|&after| after <= last) {
         while source.sent < after {
             network.run(&source.take(BATCH));

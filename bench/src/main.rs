@@ -1,8 +1,8 @@
 //! Times of the proved calls as a ratio to the separate implementation, on the same input in the
 //! same run. README.md says what is measured and how.
 //!
-//! `bench [calls] [steps] [batches] [long]`: these parts, or the first three; with `long` batches
-//! go on to ten million arrivals.
+//! `bench [calls] [steps] [streams] [batches] [long]`: these parts, or the first four; with `long`
+//! batches go on to ten million arrivals.
 
 mod batches;
 mod coordinators;
@@ -33,6 +33,9 @@ fn main() {
             steps::measure(capacity, &mut table);
         }
         table.print();
+    }
+    if asked("streams") {
+        batches::measure_whole(1_000_000);
     }
     let long = words.iter().any(|word| word == "long");
     if asked("batches") || long {

@@ -36,7 +36,9 @@ impl Reference {
         Reference { numbers, settings, sites, site_memory, coordinator, coordinator_memory, log }
     }
 
-    /// A batch that must be taken whole; answers the messages written.
+    /// A batch that must be taken whole; answers the messages written. One function of its own, as
+    /// the proved side's is, however many places call it.
+    #[inline(never)]
     pub fn run(&mut self, arrivals: &[Arrival]) -> usize {
         let answer = network::run_batch(
             &self.settings,

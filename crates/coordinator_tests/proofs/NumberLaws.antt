@@ -3,10 +3,11 @@
 --   Checked, checked-start, checked-on, checked-off, checked-end   the walk of `allWithin`
 --   Summed, summed-start, summed-on, summed-end                    the walk of `sum`
 --   within-at           all within a limit: the number at any place is
+--   length-halves, halves-at, halves-within    their higher halves, and what these decide
 use mathlib.Core.Path.{_≡_, refl, ap, _∙_}
 use mathlib.Core.Bool.{Bool, true, false, _&&_}
 use mathlib.Core.List.{List, [], _∷_}
-use Prim.Native.Nat.{ℕ, zero, suc, _+_, _*_, _≤_, _<_}
+use Prim.Native.Nat.{ℕ, zero, suc, _+_, _*_, _/_, _≤_, _<_}
 use native.Mathlib.Numerals.{add-one}
 use native.Mathlib.Omega.{arith}
 use lib.Dec.{leb}
@@ -16,6 +17,7 @@ use borrow.Author.Tests.{leb-true, le-leb, lt-leb}
 use Rattle.laws.proofs.Tests.{both-true}
 use Rattle.model.specs.SiteMemory.{sum}
 use Rattle.model.specs.CoordinatorMemory.{allWithin}
+use Rattle.coordinator_tests.specs.Consistency.{halfRange, higherHalves}
 
 -- The list from a place on begins with the number there.
 drop-on : (numbers : List ℕ) (i : ℕ)
@@ -74,6 +76,26 @@ within-at limit (x ∷ xs) all zero =
     leb-true x limit (both-true (leb x limit) (allWithin limit xs) all .first-true)
 within-at limit (x ∷ xs) all (suc i) =
     within-at limit xs (both-true (leb x limit) (allWithin limit xs) all .second-true) i
+
+-- ---- Their higher halves
+
+pub length-halves : (numbers : List ℕ) → length (higherHalves numbers) ≡ length numbers
+length-halves [] = refl
+length-halves (x ∷ xs) = ap suc (length-halves xs)
+
+pub halves-at : (numbers : List ℕ) (i : ℕ)
+    → getD (higherHalves numbers) i 0 ≡ getD numbers i 0 / halfRange
+halves-at [] i = omega arith
+halves-at (x ∷ xs) zero = refl
+halves-at (x ∷ xs) (suc i) = halves-at xs i
+
+-- Their sum is at least each of them: below the limit's, no number is above the limit.
+pub halves-within : (limit : ℕ) (numbers : List ℕ)
+    → sum (higherHalves numbers) < limit / halfRange
+    → allWithin limit numbers ≡ true
+halves-within limit [] below = refl
+halves-within limit (x ∷ xs) below =
+    rw (le-leb x limit (omega (arith, below))) (halves-within limit xs (omega (arith, below)))
 
 -- ---- The sum
 

@@ -3,8 +3,8 @@
 -- show that the parts together are `coordinatorConsistent`.
 use mathlib.Core.Path.{_≡_}
 use mathlib.Core.Bool.{Bool, true, _&&_, _||_, not}
-use mathlib.Core.List.{List}
-use Prim.Native.Nat.{ℕ, _≤_}
+use mathlib.Core.List.{List, [], _∷_}
+use Prim.Native.Nat.{ℕ, _/_, _≤_}
 use lib.Dec.{eqb, leb}
 use lib.ListN.{length}
 use Rattle.model.specs.declared.Settings.{Settings}
@@ -30,6 +30,14 @@ numbersConsistent c =
     allWithin coordinatorLimit (c .estimates)
     && allWithin coordinatorLimit (c .histogram)
     && (not (eqb (c .threshold) 1) || eqb (sum (c .histogram)) (c .total))
+
+-- The higher half of each number: of 64 bits, the upper 32.
+abbrev pub halfRange : ℕ
+halfRange = 4294967296
+
+abbrev pub higherHalves : List ℕ → List ℕ
+higherHalves [] = []
+higherHalves (x ∷ xs) = x / halfRange ∷ higherHalves xs
 
 -- What the sum of value counts asks, so that it fits.
 pub record SumAsks (numbers : List ℕ) : Type 0 where

@@ -2,10 +2,12 @@
 // numbers they hold.
 ghost use mathlib.Core.Path.{_≡_};
 ghost use mathlib.Core.Bool.{_&&_};
+ghost use Prim.Native.Nat.{_<_};
 ghost use lib.Dec.{eqb, ltb};
+ghost use lib.ListN.{length};
 ghost use Rattle.model.specs.SiteMemory.{sum};
 ghost use Rattle.model.specs.CoordinatorMemory.{allWithin, phaseConsistent, coordinatorIn, coordinatorConsistent, coordinatorMemoryRefusal};
-ghost use Rattle.coordinator_tests.specs.Consistency.{recordConsistent, numbersConsistent, SumAsks, MemoryAsks};
+ghost use Rattle.coordinator_tests.specs.Consistency.{recordConsistent, numbersConsistent, halfRange, higherHalves, SumAsks, MemoryAsks};
 use coordinator_steps::threshold_of;
 use model::ACCEPTED;
 use model::COORDINATOR_LIMIT;
@@ -18,8 +20,23 @@ use model::TOP_VALUE;
 use model::VALUE_COUNT;
 use settings::test_settings;
 
-// Whether all numbers are within a limit.
-fn all_within(numbers: &[u64], limit: u64) -> bool
+// The sum of the higher halves of numbers. They are added up with no test among the additions, so
+// that the compiler takes several at once.
+fn sum_of_halves(numbers: &[u64]) -> u64
+    requires { ⌜ length (now numbers) < halfRange ⌝ }
+    ensures { λ r. ⌜ r ≡ sum (higherHalves (now (numbers .entry))) ⌝ }
+{
+    let mut total: u64 = 0;
+    let mut i = 0;
+    while i < numbers.len() {
+        total += numbers[i] / 4294967296;
+        i += 1;
+    }
+    total
+}
+
+// Whether all numbers are within a limit, one by one.
+fn each_within(numbers: &[u64], limit: u64) -> bool
     ensures { λ r. ⌜ r ≡ allWithin limit (now (numbers .entry)) ⌝ }
 {
     let mut i = 0;
@@ -30,6 +47,19 @@ fn all_within(numbers: &[u64], limit: u64) -> bool
         i += 1;
     }
     true
+}
+
+// Whether all numbers are within a limit. Where their higher halves together are below the
+// limit's, as in memory that arose, they need not be looked at one by one.
+fn all_within(numbers: &[u64], limit: u64) -> bool
+    ensures { λ r. ⌜ r ≡ allWithin limit (now (numbers .entry)) ⌝ }
+{
+    if numbers.len() < 4294967296 {
+        if sum_of_halves(numbers) < limit / 4294967296 {
+            return true;
+        }
+    }
+    each_within(numbers, limit)
 }
 
 // The sum of value counts that are within the limit.

@@ -1,56 +1,27 @@
--- The walk stops at the first number above the limit; until then the numbers left decide.
+-- Where the halves' sum is small enough they decide; otherwise each number is looked at.
 use mathlib.Core.Path.{sym}
-use lib.ListN.{length}
-use Prim.Native.Nat.{_-_}
+use native.Mathlib.Omega.{arith}
+use Rattle.coordinator_tests.proofs.NumberLaws.{halves-within}
 use borrow.Author.Needs.{needs}
-use Rattle.coordinator_tests.proofs.NumberLaws.{Checked, checked-start, checked-on, checked-off, checked-end}
 use Rattle.coordinator_tests.proofs.consistency.all_within.Statement.{statement}
 use Rattle.coordinator_tests.proofs.consistency.all_within.Tie as tie
 
-abbrev Inv-loop : tie.InvT-loop
-Inv-loop numbers limit i₀ i = Checked limit numbers i
+sum-of-halves-requires : tie.Need-sum-of-halves-requires
+sum-of-halves-requires c κs = search needs
 
-abbrev μ-loop : tie.MeasureT-loop
-μ-loop numbers limit i₀ i = length numbers - i
-
-loop-holds : tie.Need-loop-holds Inv-loop μ-loop
-loop-holds c = checked-start (c .args .limit) (c .args .numbers .now)
-
-returns : tie.Need-returns Inv-loop μ-loop
+returns : tie.Need-returns
 returns c =
-    let at-loop = c .before .before .before in
-    let start = at-loop .before in
-    sym
-    (checked-off (start .args .limit) (start .args .numbers .now) (at-loop .loop .i)
-    (at-loop .loop .inv)
-    (c .before .before .loop-test .taken) (c .if1 .taken))
+    let summed = c .before in
+    let a = summed .before .before .before .args in
+    sym (halves-within (a .limit) (a .numbers .now)
+    (omega (arith, summed .sum-of-halves .ensures, c .if2 .taken)))
 
-loop-again : tie.Need-loop-again Inv-loop μ-loop
-loop-again c =
-    let at-loop = c .before .before .before in
-    let start = at-loop .before in
-    checked-on (start .args .limit) (start .args .numbers .now) (at-loop .loop .i)
-    (at-loop .loop .inv)
-    (c .before .before .loop-test .taken) (c .if1 .left)
+each-within-requires : tie.Need-each-within-requires
+each-within-requires c κs = search needs
 
-returns-2 : tie.Need-returns-2 Inv-loop μ-loop
-returns-2 c =
-    let at-loop = c .before in
-    let start = at-loop .before in
-    sym
-    (checked-end (start .args .limit) (start .args .numbers .now) (at-loop .loop .i)
-    (at-loop .loop .inv)
-    (c .loop-test .left))
+returns-2 : tie.Need-returns-2
+returns-2 c = search needs
 
 pub all-within-spec : {M : Type 1} → statement M
 all-within-spec =
-    tie.close
-    (tie.spec
-    Inv-loop
-    μ-loop
-    loop-holds
-    (λ c. search needs) (λ c. search needs)
-    returns
-    (λ c. search needs) (λ c. search needs)
-    loop-again
-    returns-2)
+    tie.close (tie.spec sum-of-halves-requires returns each-within-requires returns-2)

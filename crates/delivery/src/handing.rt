@@ -64,6 +64,7 @@ fn coordinator_change(own: SiteRecord, waiting: Queue, answer: Answered) -> Chan
 
 // One step of a delivery: the head of the messages that wait is handed over, or, where none waits,
 // the next announcement is asked for. `own` is the record of the site that the head is for.
+// Internal: `deliver` alone calls it, in a delivery that goes on.
 pub fn hand_over(
     settings: Settings,
     own: SiteRecord,

@@ -36,7 +36,7 @@ fn send(traffic: Traffic, message: Message, log: &mut [u64]) -> Traffic
     }
 }
 
-// The answer of a step goes out, if it has one.
+// The answer of a step goes out, if it has one. Internal: the log has room by the test for 14.
 pub fn send_answer(traffic: Traffic, count: u32, message: Message, log: &mut [u64]) -> Traffic
     requires { ⌜ ((count ≡ 0 → ⊥) → SendAsks traffic (now log)) ⌝ }
     ensures { λ r. ⌜ AnswerSays count traffic message (now (log .entry)) r (now (log .exit)) ⌝ }
@@ -47,7 +47,7 @@ pub fn send_answer(traffic: Traffic, count: u32, message: Message, log: &mut [u6
     send(traffic, message, log)
 }
 
-// The messages of an arrival go out, of which there are `count`.
+// The messages of an arrival go out, of which there are `count`. Internal, as `send_answer`.
 pub fn send_two(
     traffic: Traffic,
     count: u32,

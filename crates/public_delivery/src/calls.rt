@@ -45,7 +45,7 @@ fn stop(progress: Progress, refusal: u32) -> Progress
     }
 }
 
-// The record of one site.
+// The record of one site. Internal: its callers test that there is such a site.
 pub fn record_at(sites: Sites, which: usize) -> SiteRecord
     requires { ⌜ which < 32 ⌝ }
     ensures { λ r. ⌜ r ≡ recordIn sites which ⌝ }
@@ -126,7 +126,7 @@ fn hand_to_site(settings: Settings, progress: Progress, site_memory: &[Word]) ->
     next
 }
 
-// The call that is due.
+// The call that is due. Internal: `deliver` alone calls it, where `call_due` says that one is.
 pub fn take_step(
     settings: Settings,
     progress: Progress,

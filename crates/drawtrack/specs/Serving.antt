@@ -6,7 +6,7 @@ use mathlib.Core.Path.{_≡_}
 use mathlib.Core.List.{List}
 use Prim.Native.Nat.{ℕ, _≤_}
 use lib.ListN.{length}
-use Rattle.session.specs.declared.Session.{Session}
+use Rattle.session_steps.specs.declared.Session.{Session}
 use Rattle.session.specs.Course.{Course}
 
 -- "Its memory serves k up to 4, c up to 100, u up to 1000 and a worklist up to 8192 bytes": 48

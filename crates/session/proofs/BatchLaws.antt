@@ -22,7 +22,7 @@ use Rattle.model.specs.Runs.{refusalIn, Batch, batchRefusal, batchFrom, batchOf
 use Rattle.tracker.specs.declared.BatchAnswer.{BatchAnswer}
 use Rattle.tracker.specs.Batch.{BatchCall, BatchLent, BatchSays, batchIn, unlessRefused, sitesAfter, messageNumbers, messagesIn}
 use Rattle.history.proofs.Answers.{or-accepted}
-use Rattle.session.specs.Advance.{drawRefusal}
+use Rattle.session_steps.specs.Steps.{drawRefusal}
 
 -- ---- A batch of one
 

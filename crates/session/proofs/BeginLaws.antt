@@ -29,9 +29,9 @@ use Rattle.site.specs.declared.StartedSites.{StartedSites}
 use Rattle.site.specs.Calls as SiteCalls
 use Rattle.coordinator.specs.declared.StartedCoordinator.{StartedCoordinator}
 use Rattle.coordinator.specs.Calls as CoordinatorCalls
-use Rattle.session.specs.declared.Session.{Session}
-use Rattle.session.specs.declared.Turn.{Turn}
-use Rattle.session.specs.Outcome.{Lent, lent, withOut, outcome, Refuses, refusedOf}
+use Rattle.session_steps.specs.declared.Session.{Session}
+use Rattle.session_steps.specs.declared.Turn.{Turn}
+use Rattle.session_steps.specs.Outcome.{Lent, lent, withOut, outcome, Refuses, refusedOf}
 use Rattle.session.specs.Begin.{shorterThanLimits, startRefusalOf, beginRefusalOf, freshSession, firstSession, startedOf, beginOf}
 
 -- ---- Settings and memory within the program's limits

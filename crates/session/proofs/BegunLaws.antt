@@ -29,8 +29,8 @@ use Rattle.history.specs.State.{State}
 use Rattle.history.specs.Histories.{startState}
 use Rattle.history.proofs.Invariant.{StateOk, Resting, rest-of-standing}
 use Rattle.history.proofs.StartedState.{start-ok}
-use Rattle.session.specs.declared.Turn.{Turn}
-use Rattle.session.specs.Outcome.{Lent, Outcome, refusedOf}
+use Rattle.session_steps.specs.declared.Turn.{Turn}
+use Rattle.session_steps.specs.Outcome.{Lent, Outcome, refusedOf}
 use Rattle.session.specs.Begin.{beginRefusalOf, freshSession, firstSession, startedOf, beginOf, BeginSays}
 use Rattle.session.specs.Course.{Represents, beginRefusal, BeginRight}
 use Rattle.session.proofs.BeginLaws.{Served, served, sites-start, coordinator-start}

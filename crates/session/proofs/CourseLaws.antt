@@ -22,9 +22,9 @@ use Rattle.transcript.proofs.LineBounds.{message-lines-append}
 use Rattle.reader.specs.declared.Step.{Step}
 use Rattle.reader.specs.Walk.{lastLine, stepOf, stepAt, thenRead}
 use Rattle.reader.proofs.WalkLaws.{walk-claims}
-use Rattle.session.specs.declared.Session.{Session}
-use Rattle.session.specs.declared.Turn.{Turn}
-use Rattle.session.specs.Outcome.{Lent}
+use Rattle.session_steps.specs.declared.Session.{Session}
+use Rattle.session_steps.specs.declared.Turn.{Turn}
+use Rattle.session_steps.specs.Outcome.{Lent}
 use Rattle.session.specs.Course.{Represents, linePiece, accepts, beginRefusal, beginPiece, BeginRight, LineRight, Follows, Course, begun, advanced}
 use Rattle.session.proofs.BegunLaws.{begin-right}
 use Rattle.session.proofs.RefusalLaws.{malformed-refusal, step-small}

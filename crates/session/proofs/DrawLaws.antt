@@ -26,12 +26,12 @@ use Rattle.history.specs.Histories.{afterBatch}
 use Rattle.history.proofs.Accepted.{refused-by-rules}
 use Rattle.history.proofs.Invariant.{StateOk, Resting}
 use Rattle.history.proofs.BatchedState.{batch-ok, batch-resting}
-use Rattle.session.specs.declared.Session.{Session}
-use Rattle.session.specs.Outcome.{Lent, lent, Outcome, outcome}
-use Rattle.session.specs.Advance.{drawCall, drawRefusal, takenOf}
+use Rattle.session_steps.specs.declared.Session.{Session}
+use Rattle.session_steps.specs.Outcome.{Lent, lent, Outcome, outcome}
+use Rattle.session_steps.specs.Steps.{drawCall, drawRefusal, takenOf}
+use Rattle.session_steps.proofs.TakeLaws.{done}
 use Rattle.session.specs.Course.{Represents, Room}
 use Rattle.session.proofs.StateLaws.{runAfter, state, state-ok, state-at-rest}
-use Rattle.session.proofs.TakeLaws.{done}
 use Rattle.session.proofs.BatchLaws.{one-refusal, One, one-taken, length-messagesIn, answerOf, leftOf, says-of}
 
 -- ---- The draw of a line

@@ -14,13 +14,14 @@ use Rattle.model.specs.Transcript.{refusedLine}
 use Rattle.reader.specs.declared.Step.{Step}
 use Rattle.tracker.specs.Batch.{batchIn}
 use Rattle.reading.specs.Contracts.{listRefusal}
-use Rattle.session.specs.declared.Session.{Session}
-use Rattle.session.specs.Output.{atStart, linesAfter, linesOf}
-use Rattle.session.specs.Outcome.{Lent, Outcome, refusedOf}
+use Rattle.session_steps.specs.declared.Session.{Session}
+use Rattle.session_steps.specs.Output.{atStart, linesAfter, linesOf}
+use Rattle.session_steps.specs.Outcome.{Lent, Outcome, refusedOf}
+use Rattle.session_steps.specs.Steps.{drawCall, drawRefusal, takenOf, drawOf, sessionCoordinator, resultLinesOf, listedOf, resultsOf}
+use Rattle.session_steps.proofs.OutputLaws.{lines-kept}
 use Rattle.session.specs.Begin.{beginRefusalOf, firstSession, startedOf, beginOf}
-use Rattle.session.specs.Advance.{drawCall, drawRefusal, takenOf, drawOf, sessionCoordinator, resultLinesOf, listedOf, resultsOf, lineOf}
+use Rattle.session.specs.Advance.{lineOf}
 use Rattle.session.specs.Claims.{LastKept, Keeps}
-use Rattle.session.proofs.OutputLaws.{lines-kept}
 
 module _ (given : Lent) (session : Session) where
   abbrev pub Kept : Outcome → Type 0

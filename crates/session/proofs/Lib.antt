@@ -1,9 +1,5 @@
 -- Laws of a session, and that its calls together write the program's transcript.
-pub mod OutputLaws
-pub mod MessageLaws
 pub mod BeginLaws
-pub mod FinishLaws
-pub mod TakeLaws
 pub mod LineLaws
 pub mod StateLaws
 pub mod RefusalLaws

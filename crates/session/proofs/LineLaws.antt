@@ -8,10 +8,11 @@ use Prim.Native.Nat.{ℕ}
 use borrow.Author.Tests.{eq-eqb, ne-eqb}
 use Rattle.model.specs.Refusals.{accepted}
 use Rattle.reader.specs.declared.Step.{Step}
-use Rattle.session.specs.declared.Session.{Session}
-use Rattle.session.specs.declared.Turn.{Turn}
-use Rattle.session.specs.Outcome.{Lent, lent, withOut, withList, Refuses}
-use Rattle.session.specs.Advance.{DrawSays, Finishes, LineSays}
+use Rattle.session_steps.specs.declared.Session.{Session}
+use Rattle.session_steps.specs.declared.Turn.{Turn}
+use Rattle.session_steps.specs.Outcome.{Lent, lent, withOut, withList, Refuses}
+use Rattle.session_steps.specs.Steps.{DrawSays, Finishes}
+use Rattle.session.specs.Advance.{LineSays}
 
 -- `read` is the step that was read, and `step` the one that the definition gives.
 module _ (session : Session) (read step : Step) (is : read ≡ step) (given : Lent) (turn : Turn)

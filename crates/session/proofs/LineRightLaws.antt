@@ -17,13 +17,14 @@ use Rattle.model.specs.Runs.{Run, refusalIn}
 use Rattle.model.specs.Transcript.{messageLines, refusedLine}
 use Rattle.reader.specs.declared.Step.{Step}
 use Rattle.tracker.specs.Batch.{BatchCall, batchIn}
-use Rattle.session.specs.declared.Session.{Session}
-use Rattle.session.specs.declared.Turn.{Turn}
-use Rattle.session.specs.Output.{atStart, linesOf}
-use Rattle.session.specs.Outcome.{Lent, Outcome, refusedOf}
-use Rattle.session.specs.Advance.{FewBytes, drawCall, drawRefusal, takenOf, drawOf, resultsOf, lineOf, LineSays}
+use Rattle.session_steps.specs.declared.Session.{Session}
+use Rattle.session_steps.specs.declared.Turn.{Turn}
+use Rattle.session_steps.specs.Output.{atStart, linesOf}
+use Rattle.session_steps.specs.Outcome.{Lent, Outcome, refusedOf}
+use Rattle.session_steps.specs.Steps.{FewBytes, drawCall, drawRefusal, takenOf, drawOf, resultsOf}
+use Rattle.session_steps.proofs.OutputLaws.{joined-messages, fits-all}
+use Rattle.session.specs.Advance.{lineOf, LineSays}
 use Rattle.session.specs.Course.{Represents, Room, LineRight}
-use Rattle.session.proofs.OutputLaws.{joined-messages, fits-all}
 use Rattle.session.proofs.RefusalLaws.{draw-small, refused-line}
 use Rattle.session.proofs.StateLaws.{runAfter}
 use Rattle.session.proofs.DrawLaws.{rule-is, sent-are, few-sent, stands-then}

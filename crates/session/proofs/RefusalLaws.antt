@@ -25,9 +25,9 @@ use Rattle.model.specs.Transcript.{refusedLine, beyondProgram}
 use Rattle.transcript.proofs.LineBounds.{line-claims}
 use Rattle.reader.specs.Contracts.{lineRefusal, settingsIn, bytesAfter}
 use Rattle.reader.specs.Walk.{stepOf, stepAt}
-use Rattle.session.specs.Output.{atStart, lineAfter}
+use Rattle.session_steps.specs.Output.{atStart, lineAfter}
+use Rattle.session_steps.proofs.OutputLaws.{line-fits}
 use Rattle.session.specs.Course.{beginRefusal}
-use Rattle.session.proofs.OutputLaws.{line-fits}
 
 when-small : (test : Bool) (refusal : ℕ) → refusal ≤ 99 → when test refusal ≤ 99
 when-small true refusal small = small

@@ -27,12 +27,12 @@ use Rattle.transcript.proofs.LineBounds.{line-claims}
 use Rattle.reading.specs.Contracts.{listRefusal}
 use Rattle.history.proofs.RunSound.{sound-run, messages-within}
 use Rattle.history.proofs.Accepted.{memory-accepted}
-use Rattle.session.specs.declared.Session.{Session}
-use Rattle.session.specs.Output.{atStart, linesAfter}
-use Rattle.session.specs.Outcome.{Lent}
-use Rattle.session.specs.Advance.{sessionCoordinator, resultLinesOf, listedOf, resultsOf}
+use Rattle.session_steps.specs.declared.Session.{Session}
+use Rattle.session_steps.specs.Output.{atStart, linesAfter}
+use Rattle.session_steps.specs.Outcome.{Lent}
+use Rattle.session_steps.specs.Steps.{sessionCoordinator, resultLinesOf, listedOf, resultsOf}
+use Rattle.session_steps.proofs.OutputLaws.{joined, Fitted, fits-all}
 use Rattle.session.specs.Course.{Represents, Room}
-use Rattle.session.proofs.OutputLaws.{joined, Fitted, fits-all}
 use Rattle.session.proofs.StateLaws.{runAfter, state-ok}
 
 -- ---- How long the list is

@@ -13,7 +13,7 @@ use Rattle.model.specs.Runs.{Run, runOf}
 use Rattle.history.specs.State.{State, AtRest}
 use Rattle.history.proofs.RunSound.{sound-run}
 use Rattle.history.proofs.Invariant.{StateOk, Resting, resting}
-use Rattle.session.specs.declared.Session.{Session}
+use Rattle.session_steps.specs.declared.Session.{Session}
 use Rattle.session.specs.Course.{Represents}
 
 abbrev pub runAfter : Session → List Arrival → Run

@@ -1,109 +1,21 @@
 -- The call `advance`, for every input: a line of the worklist, or its end (document 01's section
 -- "Worklist").
 --
---   drawOf session step given        the outcome of a line's draw
---   resultsOf session given          the outcome at the end of the worklist
 --   advanceOf input session given    the outcome of `advance`
---   DrawSays, Finishes               the promises of the calls inside
 --   AdvanceSays                      the promise
 use mathlib.Core.Path.{_≡_}
 use mathlib.Core.Bool.{true}
-use mathlib.Core.List.{List, [], _∷_, _++_}
-use Prim.Native.Nat.{ℕ, _*_, _≤_}
-use lib.ListN.{length}
+use mathlib.Core.List.{List}
+use Prim.Native.Nat.{ℕ}
 use Rattle.model.specs.Choice.{if_then_else_, isZero}
 use Rattle.model.specs.Refusals.{accepted}
-use Rattle.model.specs.SiteMemory.{overwrite}
-use Rattle.model.specs.Coordinator.{Coordinator}
-use Rattle.model.specs.CoordinatorMemory.{coordinatorIn, coordinatorRecord, coordinatorMemory}
-use Rattle.model.specs.NetworkMemory.{sitesMemory}
-use Rattle.model.specs.Reading.{heavyHitters, quantileOf}
-use Rattle.model.specs.Runs.{Batch}
-use Rattle.model.specs.Transcript.{endLine, classWord, messagesWord, quantileWord, messageLines}
 use Rattle.reader.specs.declared.Step.{Step}
 use Rattle.reader.specs.Walk.{stepAt}
-use Rattle.transcript.specs.Contracts.{countedLine, listedLine}
-use Rattle.reading.specs.Contracts.{listRefusal}
-use Rattle.tracker.specs.Batch.{BatchCall, startRefusal, batchIn, unlessRefused, sitesAfter, messageNumbers}
-use Rattle.session.specs.declared.Session.{Session}
-use Rattle.session.specs.declared.Turn.{Turn}
-use Rattle.session.specs.Output.{atStart, linesAfter, linesOf}
-use Rattle.session.specs.Outcome.{Lent, lent, withList, Outcome, outcome, SameLengths, ended, refusedOf}
-
--- ---- A line's draw
-
--- A batch of the one arrival, on the session's records.
-abbrev pub drawCall : Session → Step → Lent → BatchCall
-drawCall session step given = record {
-  settings = session .settings;
-  sites = session .sites;
-  coordinator = session .coordinator;
-  arrivals = step .arrival ∷ [];
-  siteMemory = given .siteMemory;
-  coordinatorMemory = given .coordinatorMemory;
-  log = given .log;
-}
-
--- 1, 2, 3, 4, 11; then 5, 6, 7, 8, 14.
-abbrev pub drawRefusal : BatchCall → ℕ
-drawRefusal call = unlessRefused call (batchIn call .refusal) (startRefusal call)
-
--- Records, both memories and the log as the batch leaves them, the lines of its messages in the
--- output; the session stands behind the line.
-abbrev pub takenOf : Session → Step → Lent → Outcome
-takenOf session step given =
-    let call = drawCall session step given in
-    let batch = batchIn call in
-    let written = linesAfter (atStart (given .out)) (linesOf (batch .messages)) in
-    outcome
-    (record {
-      session = record {
-        going = true;
-        settings = session .settings;
-        sites = sitesAfter call;
-        coordinator = coordinatorRecord (batch .network .coordinator);
-        at = step .at;
-        line = step .line;
-      };
-      written = written .place;
-    })
-    (lent (sitesMemory (session .settings) (batch .network .sites) (given .siteMemory))
-    (coordinatorMemory (batch .network .coordinator) (given .coordinatorMemory))
-    (overwrite (messageNumbers (batch .messages)) (given .log)) (given .list) (written .out))
-
-abbrev pub drawOf : Session → Step → Lent → Outcome
-drawOf session step given =
-    let refusal = drawRefusal (drawCall session step given) in
-    if isZero refusal then takenOf session step given else refusedOf session refusal given
-
--- ---- The end of the worklist
-
-abbrev pub sessionCoordinator : Session → Lent → Coordinator
-sessionCoordinator session given =
-    coordinatorIn (session .settings) (session .coordinator) (given .coordinatorMemory)
-
--- "then the listed codes in order .., the class or `none`, and the count"
-abbrev pub resultLinesOf : Session → Coordinator → List (List ℕ)
-resultLinesOf session coordinator =
-    listedLine (heavyHitters (session .settings) coordinator)
-    ∷ (endLine (classWord ++ quantileWord (quantileOf (session .settings) coordinator))
-    ∷ (countedLine messagesWord (session .sites .messages) ∷ []))
-
--- The list holds the listed items in its first places, and the output their line and the others.
-abbrev pub listedOf : Session → Lent → Outcome
-listedOf session given =
-    let coordinator = sessionCoordinator session given in
-    let written = linesAfter (atStart (given .out)) (resultLinesOf session coordinator) in
-    outcome (ended session (written .place))
-    (lent (given .siteMemory) (given .coordinatorMemory) (given .log)
-    (overwrite (heavyHitters (session .settings) coordinator) (given .list)) (written .out))
-
--- 1, 2, 3, 4, 11, 12 of the list call, or the results.
-abbrev pub resultsOf : Session → Lent → Outcome
-resultsOf session given =
-    let refusal = listRefusal (session .settings) (session .coordinator)
-    (given .coordinatorMemory) (length (given .list)) in
-    if isZero refusal then listedOf session given else refusedOf session refusal given
+use Rattle.tracker.specs.Batch.{batchIn}
+use Rattle.session_steps.specs.declared.Session.{Session}
+use Rattle.session_steps.specs.declared.Turn.{Turn}
+use Rattle.session_steps.specs.Outcome.{Lent, Outcome, outcome, SameLengths, refusedOf}
+use Rattle.session_steps.specs.Steps.{drawCall, drawRefusal, drawOf, resultsOf, FewBytes}
 
 -- ---- A line
 
@@ -117,26 +29,7 @@ lineOf session step given =
 abbrev pub advanceOf : List ℕ → Session → Lent → Outcome
 advanceOf input session given = lineOf session (stepAt input (session .at) (session .line)) given
 
--- ---- The promises
-
--- The lines of a draw's messages take at most 84 bytes each: a log holds numbers of 64 bits.
-abbrev pub FewBytes : Batch → Type 0
-FewBytes batch = length (messageLines (batch .messages)) ≤ 84 * length (batch .messages)
-
--- Whatever list there is.
-pub record DrawSays (session : Session) (step : Step) (given left : Lent) (answer : Turn) : Type 0
-  where
-    pub is : (list : List ℕ)
-        → outcome answer (withList left list) ≡ drawOf session step (withList given list)
-    pub few-bytes : drawRefusal (drawCall session step given) ≡ accepted
-        → FewBytes (batchIn (drawCall session step given))
-
--- Whatever site memory and log there are.
-pub record Finishes (session : Session) (memory listBefore before listAfter after : List ℕ)
-    (answer : Turn) : Type 0 where
-  pub is : (siteMemory log : List ℕ)
-      → outcome answer (lent siteMemory memory log listAfter after)
-      ≡ resultsOf session (lent siteMemory memory log listBefore before)
+-- ---- The promise
 
 pub record LineSays (session : Session) (step : Step) (given left : Lent) (answer : Turn) : Type 0
   where

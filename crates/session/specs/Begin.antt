@@ -22,9 +22,9 @@ use Rattle.model.specs.Lines.{Fields, readFields}
 use Rattle.model.specs.Transcript.{beyondProgram}
 use Rattle.reader.specs.Contracts.{lineRefusal, settingsIn, bytesAfter}
 use Rattle.site.specs.Calls.{cleared}
-use Rattle.session.specs.declared.Session.{Session}
-use Rattle.session.specs.declared.Turn.{Turn}
-use Rattle.session.specs.Outcome.{Lent, lent, Outcome, outcome, SameLengths, refusedOf}
+use Rattle.session_steps.specs.declared.Session.{Session}
+use Rattle.session_steps.specs.declared.Turn.{Turn}
+use Rattle.session_steps.specs.Outcome.{Lent, lent, Outcome, outcome, SameLengths, refusedOf}
 
 -- ---- Why a session does not start
 

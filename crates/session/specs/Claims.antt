@@ -9,9 +9,9 @@ use Rattle.model.specs.declared.Arrival.{Arrival}
 use Rattle.model.specs.Lines.{readFields}
 use Rattle.model.specs.Transcript.{transcript}
 use Rattle.reader.specs.Walk.{lastLine, stepAt}
-use Rattle.session.specs.declared.Session.{Session}
-use Rattle.session.specs.declared.Turn.{Turn}
-use Rattle.session.specs.Outcome.{Lent, stopped}
+use Rattle.session_steps.specs.declared.Session.{Session}
+use Rattle.session_steps.specs.declared.Turn.{Turn}
+use Rattle.session_steps.specs.Outcome.{Lent, stopped}
 use Rattle.session.specs.Begin.{firstSession, BeginSays}
 use Rattle.session.specs.Advance.{AdvanceSays}
 use Rattle.session.specs.Course.{Represents, Room, BeginRight, LineRight, Course}

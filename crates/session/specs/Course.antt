@@ -27,9 +27,9 @@ use Rattle.model.specs.Runs.{Run, runOf, refusalIn}
 use Rattle.model.specs.Transcript.{messageLines, refusedLine, resultLines, programRefusal}
 use Rattle.reader.specs.declared.Step.{Step}
 use Rattle.reader.specs.Contracts.{lineRefusal, settingsIn, bytesAfter}
-use Rattle.session.specs.declared.Session.{Session}
-use Rattle.session.specs.declared.Turn.{Turn}
-use Rattle.session.specs.Outcome.{Lent}
+use Rattle.session_steps.specs.declared.Session.{Session}
+use Rattle.session_steps.specs.declared.Turn.{Turn}
+use Rattle.session_steps.specs.Outcome.{Lent}
 use Rattle.session.specs.Begin.{BeginSays}
 use Rattle.session.specs.Advance.{AdvanceSays}
 

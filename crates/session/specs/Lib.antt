@@ -1,6 +1,4 @@
 -- What the calls of a session promise, and that together they write the program's transcript.
-pub mod Output
-pub mod Outcome
 pub mod Begin
 pub mod Advance
 pub mod Course

@@ -1,6 +1,6 @@
 -- The three answers of a line.
 use mathlib.Core.Path.{refl}
-use Rattle.session.specs.Outcome.{lent}
+use Rattle.session_steps.specs.Outcome.{lent}
 use Rattle.session.proofs.LineLaws.{line-draw, line-malformed, line-end}
 use borrow.Author.Needs.{needs}
 use Rattle.session.proofs.advance.Statement.{statement}

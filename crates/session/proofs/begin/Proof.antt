@@ -1,7 +1,7 @@
 -- The two answers of a beginning.
 use mathlib.Core.Path.{refl}
 use mathlib.Core.List.{[]}
-use Rattle.session.specs.Outcome.{lent}
+use Rattle.session_steps.specs.Outcome.{lent}
 use Rattle.session.proofs.BeginLaws.{begin-refused, begin-started}
 use borrow.Author.Needs.{needs}
 use Rattle.session.proofs.begin.Statement.{statement}

@@ -1,10 +1,10 @@
 -- A draw that is refused, and one that is taken.
 use mathlib.Core.List.{[]}
-use Rattle.session.specs.Outcome.{lent}
-use Rattle.session.proofs.TakeLaws.{draw-refused, log-holds, draw-taken}
+use Rattle.session_steps.specs.Outcome.{lent}
+use Rattle.session_steps.proofs.TakeLaws.{draw-refused, log-holds, draw-taken}
 use borrow.Author.Needs.{needs}
-use Rattle.session.proofs.take_draw.Statement.{statement}
-use Rattle.session.proofs.take_draw.Tie as tie
+use Rattle.session_steps.proofs.take_draw.Statement.{statement}
+use Rattle.session_steps.proofs.take_draw.Tie as tie
 
 returns : tie.Need-returns
 returns c =

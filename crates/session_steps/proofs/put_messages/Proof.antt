@@ -1,9 +1,9 @@
 -- Each turn writes the line of one message.
 use Prim.Native.Nat.{_-_}
 use borrow.Author.Needs.{needs}
-use Rattle.session.proofs.MessageLaws.{Writing, writing-begins, writing-on, writing-ends}
-use Rattle.session.proofs.put_messages.Statement.{statement}
-use Rattle.session.proofs.put_messages.Tie as tie
+use Rattle.session_steps.proofs.MessageLaws.{Writing, writing-begins, writing-on, writing-ends}
+use Rattle.session_steps.proofs.put_messages.Statement.{statement}
+use Rattle.session_steps.proofs.put_messages.Tie as tie
 
 abbrev Inv-loop : tie.InvT-loop
 Inv-loop log count out₀ place₀ done₀ out place done = Writing log count out₀ out place done

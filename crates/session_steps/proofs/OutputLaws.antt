@@ -18,10 +18,10 @@ use Rattle.model.specs.Transcript.{messageLine, messageLines, refusedLine}
 use Rattle.worklist.specs.Contracts.{writtenAt}
 use Rattle.worklist.proofs.WritingLaws.{length-written}
 use Rattle.transcript.specs.Contracts.{fit, LineWritten}
-use Rattle.session.specs.declared.Session.{Session}
-use Rattle.session.specs.declared.Turn.{Turn}
-use Rattle.session.specs.Output.{Written, writtenTo, atStart, lineAfter, linesAfter, linesOf}
-use Rattle.session.specs.Outcome.{Lent, withOut, outcome, ended, refusedOf}
+use Rattle.session_steps.specs.declared.Session.{Session}
+use Rattle.session_steps.specs.declared.Turn.{Turn}
+use Rattle.session_steps.specs.Output.{Written, writtenTo, atStart, lineAfter, linesAfter, linesOf}
+use Rattle.session_steps.specs.Outcome.{Lent, withOut, outcome, ended, refusedOf}
 
 -- ---- A line
 

@@ -1,8 +1,8 @@
 -- The list is refused, or its line and the others are written one after the other.
-use Rattle.session.proofs.FinishLaws.{finish-refused, finish-listed}
+use Rattle.session_steps.proofs.FinishLaws.{finish-refused, finish-listed}
 use borrow.Author.Needs.{needs}
-use Rattle.session.proofs.finish.Statement.{statement}
-use Rattle.session.proofs.finish.Tie as tie
+use Rattle.session_steps.proofs.finish.Statement.{statement}
+use Rattle.session_steps.proofs.finish.Tie as tie
 
 returns : tie.Need-returns
 returns c =

@@ -19,12 +19,12 @@ use Rattle.transcript.specs.Contracts.{countedLine, listedLine, LineWritten}
 use Rattle.reading.specs.declared.Listed.{Listed}
 use Rattle.reading.specs.declared.QuantileRead.{QuantileRead}
 use Rattle.reading.specs.Contracts.{listRefusal, Lists, ReadsQuantile}
-use Rattle.session.specs.declared.Session.{Session}
-use Rattle.session.specs.declared.Turn.{Turn}
-use Rattle.session.specs.Output.{Written, writtenTo, atStart, lineAfter, linesAfter}
-use Rattle.session.specs.Outcome.{lent, outcome, ended, Refuses, refusedOf}
-use Rattle.session.specs.Advance.{resultLinesOf, Finishes}
-use Rattle.session.proofs.OutputLaws.{line-written}
+use Rattle.session_steps.specs.declared.Session.{Session}
+use Rattle.session_steps.specs.declared.Turn.{Turn}
+use Rattle.session_steps.specs.Output.{Written, writtenTo, atStart, lineAfter, linesAfter}
+use Rattle.session_steps.specs.Outcome.{lent, outcome, ended, Refuses, refusedOf}
+use Rattle.session_steps.specs.Steps.{resultLinesOf, Finishes}
+use Rattle.session_steps.proofs.OutputLaws.{line-written}
 
 module _ (session : Session) (memory listBefore listAfter : List ℕ) (listed : Listed)
     (lists : Lists (session .settings) (session .coordinator) memory listBefore listAfter listed)

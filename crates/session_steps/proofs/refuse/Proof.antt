@@ -1,9 +1,9 @@
 -- The line of the refusal, and then the session has ended.
 use Rattle.model.specs.Transcript.{refusedLine}
-use Rattle.session.proofs.OutputLaws.{line-written, refused-of}
+use Rattle.session_steps.proofs.OutputLaws.{line-written, refused-of}
 use borrow.Author.Needs.{needs}
-use Rattle.session.proofs.refuse.Statement.{statement}
-use Rattle.session.proofs.refuse.Tie as tie
+use Rattle.session_steps.proofs.refuse.Statement.{statement}
+use Rattle.session_steps.proofs.refuse.Tie as tie
 
 write-refused-requires : tie.Need-write-refused-requires
 write-refused-requires c κs = search needs

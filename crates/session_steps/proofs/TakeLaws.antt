@@ -27,11 +27,11 @@ use Rattle.history.specs.State.{State}
 use Rattle.history.specs.Histories.{startState, afterBatch}
 use Rattle.history.proofs.EmptyBatch.{nothing-done, batch-same}
 use Rattle.history.proofs.HandedOut.{messagesIn-written}
-use Rattle.session.specs.declared.Session.{Session}
-use Rattle.session.specs.declared.Turn.{Turn}
-use Rattle.session.specs.Output.{atStart, linesAfter, linesOf, MessagesWritten}
-use Rattle.session.specs.Outcome.{Lent, lent, outcome, Refuses, refusedOf}
-use Rattle.session.specs.Advance.{drawCall, drawRefusal, DrawSays}
+use Rattle.session_steps.specs.declared.Session.{Session}
+use Rattle.session_steps.specs.declared.Turn.{Turn}
+use Rattle.session_steps.specs.Output.{atStart, linesAfter, linesOf, MessagesWritten}
+use Rattle.session_steps.specs.Outcome.{Lent, lent, outcome, Refuses, refusedOf}
+use Rattle.session_steps.specs.Steps.{drawCall, drawRefusal, DrawSays}
 
 pub length-numbers : (messages : List Message)
     → length (messageNumbers messages) ≡ 4 * length messages

@@ -14,8 +14,8 @@ use Rattle.model.specs.Messages.{message}
 use Rattle.model.specs.Transcript.{messageLine, messageLines}
 use Rattle.transcript.specs.Contracts.{RecordWritten}
 use Rattle.tracker.specs.Batch.{messagesIn}
-use Rattle.session.specs.Output.{Written, writtenTo, atStart, linesAfter, linesOf, MessagesWritten}
-use Rattle.session.proofs.OutputLaws.{line-written}
+use Rattle.session_steps.specs.Output.{Written, writtenTo, atStart, linesAfter, linesOf, MessagesWritten}
+use Rattle.session_steps.proofs.OutputLaws.{line-written}
 
 -- The messages of the log that are left.
 abbrev left : List ℕ → ℕ → ℕ → List Message

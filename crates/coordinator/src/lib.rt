@@ -12,7 +12,7 @@ ghost use Rattle.model.specs.CoordinatorMemory.{coordinatorRecord};
 ghost use Rattle.model.specs.declared.Settings.{Settings};
 ghost use Rattle.coordinator.specs.Calls.{startRefusal, receiveRefusal, announceRefusal, Starts, Receives, Announces};
 use coordinator_steps::announce_step;
-use coordinator_steps::no_message;
+use coordinator_kinds::no_message;
 use coordinator_steps::receive_step;
 use coordinator_tests::consistency::coordinator_memory_refusal;
 use coordinator_tests::refusals::message_refusal;

@@ -24,9 +24,9 @@ use Rattle.model.specs.SiteMemory.{overwrite}
 use Rattle.model.specs.Coordinator.{CoordinatorStep, freshCoordinator}
 use Rattle.model.specs.CoordinatorMemory.{coordinatorMemory, coordinatorWords, coordinatorMemoryRefusal}
 use Rattle.model.proofs.RefusalLaws.{both-accepted, passed}
-use Rattle.coordinator_steps.specs.declared.Answered.{Answered}
+use Rattle.coordinator_kinds.specs.declared.Answered.{Answered}
 use Rattle.coordinator.specs.declared.Received.{Received}
-use Rattle.coordinator_steps.specs.Steps.{answerOf}
+use Rattle.coordinator_kinds.specs.Steps.{answerOf}
 use Rattle.coordinator_steps.specs.Ready.{StepAsks, AnnounceAsks}
 use Rattle.coordinator.specs.Calls.{Hands, startRefusal, receiveRefusal, announceRefusal}
 use Rattle.coordinator_tests.proofs.Chains.{accepts, refuses}

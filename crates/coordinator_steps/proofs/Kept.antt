@@ -22,11 +22,11 @@ use Rattle.model.specs.Coordinator.{Coordinator, withPhase, atRest, takesItemRe
 use Rattle.model.specs.CoordinatorMemory.{coordinatorIn, coordinatorRecord}
 use Rattle.model.specs.SoundNetwork.{SoundPhase, SoundCoordinator}
 use Rattle.model.proofs.CoordinatorSound.{numbers-rest}
-use Rattle.coordinator_steps.specs.declared.Answered.{Answered}
-use Rattle.coordinator_steps.specs.Steps.{Does}
+use Rattle.coordinator_kinds.specs.declared.Answered.{Answered}
+use Rattle.coordinator_kinds.specs.Steps.{Does}
 use Rattle.coordinator_steps.specs.Ready.{StepAsks}
 use Rattle.coordinator_steps.proofs.Accepted.{MessageAccepted, message-accepted, count-report-of-idle, count-amount-of-report, value-known-of-report, kind-of-collecting, amount-of-poll-answer}
-use Rattle.coordinator_steps.proofs.MemoryLaws.{written-coordinator}
+use Rattle.coordinator_kinds.proofs.MemoryLaws.{written-coordinator}
 use Rattle.coordinator_steps.proofs.StepLaws.{settings-fit}
 use Rattle.coordinator_steps.proofs.SoundSteps.{sound-item, sound-count, sound-poll, sound-probe, sound-in}
 

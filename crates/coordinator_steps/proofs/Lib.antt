@@ -1,6 +1,5 @@
--- The laws behind the steps: accepted messages, lent memory, and why sums fit.
+-- The laws behind the steps: accepted messages, and why sums fit.
 pub mod Accepted
-pub mod MemoryLaws
 pub mod StepLaws
 pub mod SoundSteps
 pub mod Kept

@@ -13,9 +13,9 @@ use Rattle.model.specs.declared.Phase.the-variants.{Idle, Collecting, Probing, 
 use Rattle.model.specs.declared.CoordinatorRecord.{CoordinatorRecord}
 use Rattle.model.specs.Coordinator.{Coordinator, CoordinatorStep, step, coordinatorReceives, takesItemReport, takesCountReport, takesPollAnswer, takesProbeAnswer}
 use Rattle.model.specs.CoordinatorMemory.{coordinatorIn, coordinatorWords}
-use Rattle.coordinator_steps.specs.declared.Answered.{Answered}
-use Rattle.coordinator_steps.specs.Steps.{answerOf, Does}
-use Rattle.coordinator_steps.proofs.MemoryLaws.{memory-kept}
+use Rattle.coordinator_kinds.specs.declared.Answered.{Answered}
+use Rattle.coordinator_kinds.specs.Steps.{answerOf, Does}
+use Rattle.coordinator_kinds.proofs.MemoryLaws.{memory-kept}
 use Rattle.coordinator_steps.proofs.StepLaws.{poll-kept, probe-kept, memory-of-kept}
 
 module _ (settings : Settings) (numbers : CoordinatorRecord) (m : Message) (before : List ℕ) where

@@ -20,7 +20,7 @@ use Rattle.model.specs.Settings.{thresholdOf}
 use Rattle.model.specs.Coordinator.{Coordinator, withPhase, withTotal, withBase, withQuantile, takesItemReport, takesCountReport, takesPollAnswer, takesProbeAnswer, closed, narrowed, halved, middle, enough, closesRound}
 use Rattle.model.specs.SoundNetwork.{ClosingAt, SoundPhase, SoundCoordinator}
 use Rattle.model.proofs.CoordinatorSound.{numbers-phase, numbers-total, numbers-base, numbers-quantile, numbers-item, numbers-count}
-use Rattle.coordinator_steps.specs.Steps.{SettingsFit}
+use Rattle.coordinator_kinds.specs.Steps.{SettingsFit}
 
 module _ (settings : Settings) (fit : SettingsFit settings) where
   sound-as : {c c′ : Coordinator}

@@ -25,10 +25,10 @@ use Rattle.model.specs.Coordinator.{Coordinator, enough, closed, narrowed, halv
 use Rattle.model.specs.CoordinatorMemory.{coordinatorIn, coordinatorMemory, coordinatorWords}
 use Rattle.model.specs.SoundNetwork.{SoundPhase}
 use Rattle.model.proofs.SettingsLaws.{settled}
-use Rattle.coordinator_steps.specs.Steps.{SettingsFit, ItemAsks, ValueRoom, CountAsks, PollAsks, ProbeAsks}
+use Rattle.coordinator_kinds.specs.Steps.{SettingsFit, ItemAsks, ValueRoom, CountAsks, PollAsks, ProbeAsks}
 use Rattle.coordinator_steps.specs.Ready.{StepAsks, readyLimit}
 use Rattle.coordinator_steps.proofs.Accepted.{MessageAccepted, message-accepted, count-report-of-idle, kind-of-collecting, kind-of-probing, item-known-of-report, item-amount-of-report, count-amount-of-report, value-of-report, amount-of-poll-answer, amount-of-probe-answer}
-use Rattle.coordinator_steps.proofs.MemoryLaws.{memory-kept}
+use Rattle.coordinator_kinds.proofs.MemoryLaws.{memory-kept}
 
 -- ---- Settings and threshold
 

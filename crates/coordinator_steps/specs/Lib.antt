@@ -1,3 +1,2 @@
--- What the steps of the coordinator ask and promise, over the model's definitions.
-pub mod Steps
+-- What the steps of the coordinator ask.
 pub mod Ready

@@ -4,62 +4,22 @@
 ghost use mathlib.Core.Path.{_≡_};
 ghost use mathlib.Core.List.{List};
 ghost use Prim.Native.Nat.{ℕ};
-ghost use Rattle.model.specs.Settings.{thresholdOf};
-ghost use Rattle.model.specs.Messages.{noMessage};
 ghost use Rattle.model.specs.Coordinator.{coordinatorReceives, announced};
 ghost use Rattle.model.specs.CoordinatorMemory.{coordinatorIn};
-ghost use Rattle.coordinator_steps.specs.Steps.{Does, ThresholdAsks, answerOf};
+ghost use Rattle.coordinator_kinds.specs.Steps.{Does, answerOf};
 ghost use Rattle.coordinator_steps.specs.Ready.{StepAsks, AnnounceAsks};
-use crate::answers::announcement_of;
-use crate::answers::keep_silent;
-use crate::answers::speak;
-use crate::reports::take_count_report;
-use crate::reports::take_item_report;
-use crate::rounds::take_poll_answer;
-use crate::rounds::take_probe_answer;
+use coordinator_kinds::Answered;
+use coordinator_kinds::answers::announcement_of;
+use coordinator_kinds::answers::keep_silent;
+use coordinator_kinds::answers::speak;
+use coordinator_kinds::reports::take_count_report;
+use coordinator_kinds::reports::take_item_report;
+use coordinator_kinds::rounds::take_poll_answer;
+use coordinator_kinds::rounds::take_probe_answer;
 use model::CoordinatorRecord;
 use model::Message;
 use model::Phase;
 use model::Settings;
-
-mod answers;
-mod reports;
-mod rounds;
-
-// What a step hands back: the record after it, the number of messages that go out (0 or 1) and the
-// message, all zeros where there is none.
-pub struct Answered {
-    pub coordinator: CoordinatorRecord,
-    pub count: u32,
-    pub out: Message,
-}
-
-// No message: zeros.
-pub fn no_message() -> Message
-    ensures { λ r. ⌜ r ≡ noMessage ⌝ }
-{
-    Message {
-        kind: 0,
-        site: 0,
-        a: 0,
-        b: 0,
-    }
-}
-
-// The threshold that a base gives. Internal: `coordinator_memory_refusal`, with which every call
-// begins, decides what it requires: accepted settings, and a base within the limit.
-pub fn threshold_of(settings: Settings, base: u64) -> u64
-    requires { ⌜ ThresholdAsks settings base ⌝ }
-    ensures { λ r. ⌜ r ≡ thresholdOf settings base ⌝ }
-{
-    let share = (settings.epsilon as u64) * base;
-    let parts = 3000 * (settings.sites as u64);
-    let threshold = share / parts;
-    if threshold < 1 {
-        return 1;
-    }
-    threshold
-}
 
 // The next kind 7 of a coordinator that announces; after the last it is at rest. In another phase
 // it stays as it is. Internal: `next_announcement` of crate `coordinator` decides by its tests what

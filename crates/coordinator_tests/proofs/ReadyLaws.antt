@@ -23,7 +23,7 @@ use Rattle.model.specs.CoordinatorMemory.{coordinatorIn, coordinatorWords, coor
 use Rattle.model.proofs.RefusalLaws.{both-accepted, passed}
 use Rattle.model.proofs.ConsistentCoordinator.{coordinator-sound-of, coordinator-within-of}
 use Rattle.coordinator_steps.specs.Ready.{NumbersWithin, CoordinatorReady, readyLimit}
-use Rattle.coordinator_steps.proofs.MemoryLaws.{estimates-long, histogram-long}
+use Rattle.coordinator_kinds.proofs.MemoryLaws.{estimates-long, histogram-long}
 
 -- ---- The consistency test
 

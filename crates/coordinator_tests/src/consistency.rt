@@ -8,7 +8,7 @@ ghost use lib.ListN.{length};
 ghost use Rattle.model.specs.SiteMemory.{sum};
 ghost use Rattle.model.specs.CoordinatorMemory.{allWithin, phaseConsistent, coordinatorIn, coordinatorConsistent, coordinatorMemoryRefusal};
 ghost use Rattle.coordinator_tests.specs.Consistency.{recordConsistent, numbersConsistent, halfRange, higherHalves, SumAsks, MemoryAsks};
-use coordinator_steps::threshold_of;
+use coordinator_kinds::threshold_of;
 use model::ACCEPTED;
 use model::COORDINATOR_LIMIT;
 use model::CoordinatorRecord;

@@ -20,8 +20,8 @@ use Rattle.model.specs.SiteMemory.{siteWords}
 use Rattle.model.specs.DeliveryClaims.{deliveryStep}
 use Rattle.site_steps.specs.declared.Answered as SiteAnswer
 use Rattle.site_steps.specs.Steps.{ReceiveStepSays}
-use Rattle.coordinator_steps.specs.declared.Answered.{Answered}
-use Rattle.coordinator_steps.specs.Steps.{answerOf, Does}
+use Rattle.coordinator_kinds.specs.declared.Answered.{Answered}
+use Rattle.coordinator_kinds.specs.Steps.{answerOf, Does}
 use Rattle.network_memory.specs.Records.{noRecord}
 use Rattle.network_memory.proofs.SitePart.{part}
 use Rattle.delivery.specs.declared.Queue.{Queue}

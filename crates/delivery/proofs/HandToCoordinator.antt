@@ -16,8 +16,8 @@ use Rattle.model.specs.Coordinator.{Coordinator, CoordinatorStep, coordinatorRe
 use Rattle.model.specs.CoordinatorMemory.{coordinatorIn}
 use Rattle.model.specs.Network.{Network, withCoordinator}
 use Rattle.model.specs.DeliveryClaims.{delivery, deliveryStep}
-use Rattle.coordinator_steps.specs.declared.Answered as CoordinatorAnswer
-use Rattle.coordinator_steps.specs.Steps.{Does}
+use Rattle.coordinator_kinds.specs.declared.Answered as CoordinatorAnswer
+use Rattle.coordinator_kinds.specs.Steps.{Does}
 use Rattle.coordinator_steps.specs.Ready.{CoordinatorReady, StepAsks}
 use Rattle.delivery.specs.declared.Queue.{Queue}
 use Rattle.delivery.specs.declared.Underway.{Underway}

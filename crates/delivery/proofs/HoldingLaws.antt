@@ -28,7 +28,7 @@ use Rattle.model.specs.CoordinatorMemory.{coordinatorIn, coordinatorRecord, coo
 use Rattle.model.specs.Network.{Network, siteAt, withSite, withCoordinator}
 use Rattle.model.specs.NetworkMemory.{sitesMemory}
 use Rattle.model.specs.DeliveryClaims.{Delivery, delivery}
-use Rattle.coordinator_steps.proofs.MemoryLaws.{written-coordinator}
+use Rattle.coordinator_kinds.proofs.MemoryLaws.{written-coordinator}
 use Rattle.network_memory.proofs.OneSite.{overwritten-again}
 use Rattle.network_memory.proofs.SitesMemoryLaws.{AllStorable, getD-siteRecords, siteRecords-set, length-sitesMemory}
 use Rattle.network_memory.proofs.SitesReading.{siteIn-sitesMemory}

@@ -16,8 +16,8 @@ use Rattle.model.specs.CoordinatorMemory.{coordinatorIn, coordinatorMemory}
 use Rattle.model.specs.Network.{Network, withCoordinator, handOver, askAnnouncement}
 use Rattle.model.specs.DeliveryClaims.{Delivery, delivery, joining, deliveryStep}
 use Rattle.model.proofs.StageFacts.{stage-coordinator}
-use Rattle.coordinator_steps.specs.declared.Answered as CoordinatorAnswer
-use Rattle.coordinator_steps.specs.Steps.{answerOf}
+use Rattle.coordinator_kinds.specs.declared.Answered as CoordinatorAnswer
+use Rattle.coordinator_kinds.specs.Steps.{answerOf}
 use Rattle.coordinator_steps.specs.Ready.{AnnounceAsks}
 use Rattle.delivery.specs.declared.Queue.{Queue}
 use Rattle.delivery.specs.declared.Underway.{Underway}

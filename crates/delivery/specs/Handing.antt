@@ -18,7 +18,7 @@ use Rattle.model.specs.declared.CoordinatorRecord.{CoordinatorRecord}
 use Rattle.model.specs.Choice.{if_then_else_, isZero}
 use Rattle.model.specs.Messages.{toCoordinator}
 use Rattle.model.specs.DeliveryClaims.{deliveryStep}
-use Rattle.coordinator_steps.specs.declared.Answered.{Answered}
+use Rattle.coordinator_kinds.specs.declared.Answered.{Answered}
 use Rattle.network_memory.specs.Records.{noRecord}
 use Rattle.delivery.specs.declared.Queue.{Queue}
 use Rattle.delivery.specs.declared.Traffic.{Traffic}

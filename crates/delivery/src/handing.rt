@@ -9,7 +9,7 @@ use crate::Change;
 use crate::Queue;
 use crate::take_head;
 use crate::to_coordinator;
-use coordinator_steps::Answered;
+use coordinator_kinds::Answered;
 use counters::Word;
 use model::CoordinatorRecord;
 use model::Phase;

@@ -73,7 +73,7 @@ pub fn join(queue: Queue, message: Message) -> Queue
         return Queue {
             count: 1,
             first: message,
-            second: coordinator_steps::no_message(),
+            second: coordinator_kinds::no_message(),
         };
     }
     let first = queue.first;
@@ -93,7 +93,7 @@ pub fn take_head(queue: Queue) -> Queue
         return Queue {
             count: 1,
             first: second,
-            second: coordinator_steps::no_message(),
+            second: coordinator_kinds::no_message(),
         };
     }
     empty_queue()
@@ -122,7 +122,7 @@ pub fn with_record(sites: Sites, which: usize, numbers: SiteRecord) -> Sites
 pub fn empty_queue() -> Queue
     ensures { λ r. ⌜ r ≡ nothingWaits ⌝ }
 {
-    let none = coordinator_steps::no_message();
+    let none = coordinator_kinds::no_message();
     Queue {
         count: 0,
         first: none,

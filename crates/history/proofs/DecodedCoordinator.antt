@@ -19,7 +19,7 @@ use Rattle.model.specs.Limits.{valueCount}
 use Rattle.model.specs.Coordinator.{Coordinator, withPhase, atRest, announcedIn, announced}
 use Rattle.model.specs.CoordinatorMemory.{coordinatorWords, coordinatorIn, coordinatorRecord, coordinatorMemory}
 use Rattle.model.specs.Network.{withCoordinator}
-use Rattle.coordinator_steps.proofs.MemoryLaws.{written-coordinator}
+use Rattle.coordinator_kinds.proofs.MemoryLaws.{written-coordinator}
 use Rattle.history.specs.State.{Held, networkOf, afterCoordinatorCall}
 use Rattle.laws.proofs.FlatMemory.{length-overwritten}
 

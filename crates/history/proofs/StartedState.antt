@@ -21,7 +21,7 @@ use Rattle.model.specs.Network.{freshNetwork}
 use Rattle.model.specs.NetworkMemory.{sitesWords, sitesIn, freshSites}
 use Rattle.model.proofs.RefusalLaws.{both-accepted, passed}
 use Rattle.model.proofs.SettingsLaws.{Settled, settled}
-use Rattle.coordinator_steps.proofs.MemoryLaws.{written-coordinator}
+use Rattle.coordinator_kinds.proofs.MemoryLaws.{written-coordinator}
 use Rattle.site.specs.declared.StartedSites.{StartedSites}
 use Rattle.site.specs.Calls as SiteCalls
 use Rattle.coordinator.specs.declared.StartedCoordinator.{StartedCoordinator}

@@ -32,7 +32,7 @@ use Rattle.model.proofs.SettingsLaws.{settled}
 use Rattle.model.proofs.ConsistentCoordinator.{CoordinatorWithin, coordinator-sound-of, coordinator-within-of}
 use Rattle.counters.proofs.CounterMemory.{length-countersIn}
 use Rattle.site_memory.specs.Ready.{SiteReady}
-use Rattle.coordinator_steps.proofs.MemoryLaws.{estimates-long, histogram-long}
+use Rattle.coordinator_kinds.proofs.MemoryLaws.{estimates-long, histogram-long}
 use Rattle.network_memory.specs.Records.{noRecord}
 use Rattle.network_memory.proofs.SitesReading.{length-sitesIn, getD-sitesIn}
 use Rattle.delivery.specs.Bounded.{Bounded}

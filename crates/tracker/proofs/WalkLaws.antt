@@ -22,7 +22,7 @@ use Rattle.model.specs.Refusals.{accepted}
 use Rattle.model.specs.Network.{Network}
 use Rattle.model.specs.NetworkMemory.{networkIn}
 use Rattle.model.specs.Runs.{Batch, batchFrom, freshBatch}
-use Rattle.coordinator_steps.proofs.MemoryLaws.{memory-kept}
+use Rattle.coordinator_kinds.proofs.MemoryLaws.{memory-kept}
 use Rattle.network_memory.specs.Records.{noRecord}
 use Rattle.network_memory.proofs.SitesReading.{siteRecords-sitesIn, sitesMemory-sitesIn}
 use Rattle.delivery.specs.Log.{logRoom}

@@ -1,0 +1,2 @@
+-- The laws of the coordinator in lent memory.
+pub mod MemoryLaws

@@ -27,7 +27,7 @@ use Rattle.model.specs.SoundNetwork.{Sound}
 use Rattle.model.proofs.ConsistentCoordinator.{coordinator-consistent-of}
 use Rattle.model.proofs.ConsistentNetwork.{network-consistent-of}
 use Rattle.site.specs.Calls as SiteCalls
-use Rattle.tracker.specs.declared.BatchAnswer.{BatchAnswer}
+use Rattle.tracker_steps.specs.declared.BatchAnswer.{BatchAnswer}
 use Rattle.tracker.specs.Batch.{BatchLent, BatchSays, logRoom}
 use Rattle.history.specs.State.{State, AtRest, networkOf, recordAt, sitePart}
 use Rattle.history.specs.Histories.{batchCall}

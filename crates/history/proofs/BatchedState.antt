@@ -25,7 +25,7 @@ use Rattle.model.proofs.RunLaws.{runFrom-append}
 use Rattle.network_memory.proofs.SitesMemoryLaws.{AllStorable, length-siteRecords, length-sitesMemory}
 use Rattle.network_memory.proofs.SitesReading.{sitesIn-sitesMemory}
 use Rattle.coordinator_kinds.proofs.MemoryLaws.{written-coordinator}
-use Rattle.tracker.specs.declared.BatchAnswer.{BatchAnswer}
+use Rattle.tracker_steps.specs.declared.BatchAnswer.{BatchAnswer}
 use Rattle.tracker.specs.Batch.{BatchCall, BatchLent, BatchSays, startRefusal, batchIn, unlessRefused, logRoom, messagesIn}
 use Rattle.history.specs.State.{Held, State, AtRest, networkOf}
 use Rattle.history.specs.Histories.{batchCall, afterBatch}

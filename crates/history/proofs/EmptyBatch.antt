@@ -30,7 +30,7 @@ use Rattle.model.proofs.ConsistentSites.{length-countersIn}
 use Rattle.model.proofs.ConsistentNetwork.{network-sound-of}
 use Rattle.network_memory.proofs.SitesReading.{getD-sitesIn, siteRecords-sitesIn, sitesMemory-sitesIn}
 use Rattle.coordinator_kinds.proofs.MemoryLaws.{memory-kept}
-use Rattle.tracker.specs.declared.BatchAnswer.{BatchAnswer}
+use Rattle.tracker_steps.specs.declared.BatchAnswer.{BatchAnswer}
 use Rattle.tracker.specs.Batch.{BatchCall, BatchLent, BatchSays, startRefusal, batchIn, unlessRefused}
 use Rattle.history.specs.State.{Held, State, networkOf, recordAt, siteStart}
 use Rattle.history.specs.Histories.{batchCall, afterBatch}

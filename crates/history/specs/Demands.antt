@@ -36,7 +36,7 @@ use Rattle.site.specs.Calls.{ObserveSays}
 use Rattle.site.specs.Calls as SiteCalls
 use Rattle.coordinator.specs.Calls as CoordinatorCalls
 use Rattle.reading.specs.Contracts.{listRefusal, marginRefusal}
-use Rattle.tracker.specs.declared.BatchAnswer.{BatchAnswer}
+use Rattle.tracker_steps.specs.declared.BatchAnswer.{BatchAnswer}
 use Rattle.tracker.specs.Batch.{BatchLent, BatchSays, logRoom}
 use Rattle.history.specs.State.{State, AtRest, networkOf, recordAt, sitePart}
 use Rattle.history.specs.Reading.{ReadsRight}

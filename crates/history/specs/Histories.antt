@@ -28,7 +28,7 @@ use Rattle.site.specs.Calls.{StartSays, ObserveSays, ReceiveSays}
 use Rattle.coordinator.specs.declared.StartedCoordinator.{StartedCoordinator}
 use Rattle.coordinator.specs.declared.Received.{Received}
 use Rattle.coordinator.specs.Calls.{Starts, Receives, Announces}
-use Rattle.tracker.specs.declared.BatchAnswer.{BatchAnswer}
+use Rattle.tracker_steps.specs.declared.BatchAnswer.{BatchAnswer}
 use Rattle.tracker.specs.Batch.{BatchCall, BatchLent, BatchSays, messagesIn}
 use Rattle.history.specs.State.{Held, State, AtRest, recordAt, partOf, siteStart, sitePart, withPart, afterSiteCall, afterCoordinatorCall, holding, sending}
 

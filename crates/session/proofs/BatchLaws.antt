@@ -19,7 +19,7 @@ use Rattle.model.specs.CoordinatorMemory.{coordinatorRecord, coordinatorMemory}
 use Rattle.model.specs.NetworkMemory.{sitesMemory}
 use Rattle.model.specs.Network.{Network, afterArrival}
 use Rattle.model.specs.Runs.{refusalIn, Batch, batchRefusal, batchFrom, batchOf}
-use Rattle.tracker.specs.declared.BatchAnswer.{BatchAnswer}
+use Rattle.tracker_steps.specs.declared.BatchAnswer.{BatchAnswer}
 use Rattle.tracker.specs.Batch.{BatchCall, BatchLent, BatchSays, batchIn, unlessRefused, sitesAfter, messageNumbers, messagesIn}
 use Rattle.history.proofs.Answers.{or-accepted}
 use Rattle.session_steps.specs.Steps.{drawRefusal}

@@ -19,7 +19,7 @@ use Rattle.model.specs.Network.{Network, afterArrival}
 use Rattle.model.specs.Runs.{Run, runOf, refusalIn}
 use Rattle.model.proofs.DeliveryTheorem.{delivery-claims}
 use Rattle.reader.specs.declared.Step.{Step}
-use Rattle.tracker.specs.declared.BatchAnswer.{BatchAnswer}
+use Rattle.tracker_steps.specs.declared.BatchAnswer.{BatchAnswer}
 use Rattle.tracker.specs.Batch.{BatchCall, BatchLent, BatchSays, batchIn, unlessRefused, logRoom, messagesIn}
 use Rattle.history.specs.State.{State, networkOf}
 use Rattle.history.specs.Histories.{afterBatch}

@@ -21,7 +21,7 @@ use Rattle.model.specs.Network.{Network}
 use Rattle.model.specs.Runs.{Batch, batchRefusal, batchFrom, batchOf}
 use Rattle.model.specs.Transcript.{messageLines}
 use Rattle.reader.specs.declared.Step.{Step}
-use Rattle.tracker.specs.declared.BatchAnswer.{BatchAnswer}
+use Rattle.tracker_steps.specs.declared.BatchAnswer.{BatchAnswer}
 use Rattle.tracker.specs.Batch.{BatchCall, BatchLent, BatchSays, startRefusal, batchIn, unlessRefused, logRoom, messageNumbers, messagesIn}
 use Rattle.history.specs.State.{State}
 use Rattle.history.specs.Histories.{startState, afterBatch}

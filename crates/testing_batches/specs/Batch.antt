@@ -15,7 +15,7 @@ use denote.Ref.{RefT, now}
 use denote.Triple.Both.{Both}
 use Rattle.model.specs.declared.Arrival.{Arrival}
 use Rattle.model.specs.Choice.{if_then_else_}
-use Rattle.tracker.specs.declared.BatchAnswer.{BatchAnswer}
+use Rattle.tracker_steps.specs.declared.BatchAnswer.{BatchAnswer}
 use Rattle.tracker.specs.Batch.{BatchCall, BatchLent, BatchSays}
 use Rattle.testing_batches.specs.declared.Opening.{Opening}
 use Rattle.testing.specs.Numbers.{settingsFrom, zeroSettings, sitesFrom, zeroSites, sitesNumbers, coordinatorFrom, zeroCoordinator, coordinatorNumbers}

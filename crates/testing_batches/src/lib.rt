@@ -17,7 +17,7 @@ use testing::numbers::zero_settings;
 use testing::numbers::zero_sites;
 use testing::openings::UNFIT;
 use testing::openings::network_lent;
-use tracker::BatchAnswer;
+use tracker_steps::BatchAnswer;
 
 // What the batch call is given, and whether what is lent fits.
 pub struct Opening {

@@ -1,9 +1,6 @@
 -- The laws of the batch call.
 pub mod InArray
 pub mod Records
-pub mod RefusalLaws
-pub mod BatchLaws
-pub mod TurnLaws
 pub mod WalkLaws
 pub mod Lending
 pub mod Frame

@@ -24,17 +24,17 @@ use denote.Struct.Struct.{AreAll}
 use denote.Struct.Laws as LL
 use Rattle.model.specs.declared.SiteRecord.{SiteRecord}
 use Rattle.network_memory.specs.Records.{noRecord}
-use Rattle.tracker.specs.declared.BatchAnswer.{BatchAnswer}
-use Rattle.tracker.specs.declared.Turn.{Turn}
-use Rattle.tracker.specs.Turns.{counted}
+use Rattle.tracker_steps.specs.declared.BatchAnswer.{BatchAnswer}
+use Rattle.tracker_steps.specs.declared.Turn.{Turn}
+use Rattle.tracker_steps.specs.Turns.{counted}
 use Rattle.model.proofs.SiteRecord as R
 use Rattle.model.proofs.SiteRecord.Laws as R′
 use Rattle.model.proofs.Sites as P
 use Rattle.model.proofs.Sites.Laws as P′
-use Rattle.tracker.proofs.BatchAnswer as K
-use Rattle.tracker.proofs.BatchAnswer.Laws as K′
-use Rattle.tracker.proofs.Turn as N
-use Rattle.tracker.proofs.Turn.Laws as N′
+use Rattle.tracker_steps.proofs.BatchAnswer as K
+use Rattle.tracker_steps.proofs.BatchAnswer.Laws as K′
+use Rattle.tracker_steps.proofs.Turn as N
+use Rattle.tracker_steps.proofs.Turn.Laws as N′
 
 -- ---- The machine's values
 

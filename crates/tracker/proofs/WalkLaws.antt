@@ -28,10 +28,10 @@ use Rattle.network_memory.proofs.SitesReading.{siteRecords-sitesIn, sitesMemory
 use Rattle.delivery.specs.Log.{logRoom}
 use Rattle.delivery.specs.Holding.{Given}
 use Rattle.network_tests.proofs.SoundLaws.{Passing, passing}
-use Rattle.tracker.specs.declared.BatchAnswer.{BatchAnswer}
+use Rattle.tracker_steps.specs.declared.BatchAnswer.{BatchAnswer}
 use Rattle.tracker.specs.Batch.{BatchCall, BatchLent, startRefusal, batchIn, BatchSays}
-use Rattle.tracker.specs.Steps.{opened, OpenSays, oneRefusal, batchOne, BatchHolds, BatchReady, OneAsks, OneSays, lentOf}
-use Rattle.tracker.proofs.BatchLaws.{ready-next}
+use Rattle.tracker_steps.specs.Steps.{opened, OpenSays, oneRefusal, batchOne, BatchHolds, BatchReady, OneAsks, OneSays, lentOf}
+use Rattle.tracker_steps.proofs.BatchLaws.{ready-next}
 
 -- ---- The batch with the arrivals still to come
 

@@ -2,7 +2,8 @@
 -- what number, records and every place of lent memory and log equal, refused or not.
 --
 --   BatchSays ..                  the promise
--- Passed on: logRoom, messageNumbers and messagesIn, the log as crate `delivery` has it.
+-- Passed on: logRoom, messageNumbers and messagesIn, the log as crate `delivery` has it, and
+-- BatchLent of crate `tracker_steps`.
 use mathlib.Core.Path.{_≡_}
 use mathlib.Core.List.{List}
 use Prim.Native.Nat.{ℕ, _+_}
@@ -17,7 +18,8 @@ use Rattle.model.specs.CoordinatorMemory.{coordinatorRecord, coordinatorMemory}
 use Rattle.model.specs.NetworkMemory.{siteRecords, sitesMemory, networkIn, networkRefusal}
 use Rattle.model.specs.Runs.{Batch, batchOf}
 pub use Rattle.delivery.specs.Log.{logRoom, messageNumbers, messagesIn}
-use Rattle.tracker.specs.declared.BatchAnswer.{BatchAnswer}
+use Rattle.tracker_steps.specs.declared.BatchAnswer.{BatchAnswer}
+pub use Rattle.tracker_steps.specs.Steps.{BatchLent}
 
 -- ---- The call
 
@@ -27,12 +29,6 @@ pub record BatchCall : Type 0 where
   pub sites : Sites
   pub coordinator : CoordinatorRecord
   pub arrivals : List Arrival
-  pub siteMemory : List ℕ
-  pub coordinatorMemory : List ℕ
-  pub log : List ℕ
-
--- What it leaves in lent memory.
-pub record BatchLent : Type 0 where
   pub siteMemory : List ℕ
   pub coordinatorMemory : List ℕ
   pub log : List ℕ

@@ -1,4 +1,2 @@
--- What the batch call requires and promises.
+-- What the batch call promises.
 pub mod Batch
-pub mod Steps
-pub mod Turns

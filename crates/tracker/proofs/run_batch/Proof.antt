@@ -58,18 +58,18 @@ use Rattle.model.proofs.CoordinatorRecord.Laws as D′
 use Rattle.model.proofs.Arrival as T
 use Rattle.tracker.proofs.Frame.{placed}
 use Rattle.tracker.proofs.Lending.{lending, value}
-use Rattle.tracker.proofs.open_batch.Symbol as open-def
-use Rattle.tracker.proofs.open_batch.Symbol.{name as #tracker·open-batch}
-use Rattle.tracker.proofs.open_batch.Met as open-thm
-use Rattle.tracker.proofs.place_of.Symbol as find-def
-use Rattle.tracker.proofs.place_of.Symbol.{name as #tracker·place-of}
-use Rattle.tracker.proofs.place_of.Met as find-thm
-use Rattle.tracker.proofs.take_turn.Symbol as take-def
-use Rattle.tracker.proofs.take_turn.Symbol.{name as #tracker·take-turn}
-use Rattle.tracker.proofs.take_turn.Met as take-thm
-use Rattle.tracker.proofs.deliver_turn.Symbol as deliver-def
-use Rattle.tracker.proofs.deliver_turn.Symbol.{name as #tracker·deliver-turn}
-use Rattle.tracker.proofs.deliver_turn.Met as deliver-thm
+use Rattle.tracker_steps.proofs.open_batch.Symbol as open-def
+use Rattle.tracker_steps.proofs.open_batch.Symbol.{name as #steps·open-batch}
+use Rattle.tracker_steps.proofs.open_batch.Met as open-thm
+use Rattle.tracker_steps.proofs.place_of.Symbol as find-def
+use Rattle.tracker_steps.proofs.place_of.Symbol.{name as #steps·place-of}
+use Rattle.tracker_steps.proofs.place_of.Met as find-thm
+use Rattle.tracker_steps.proofs.take_turn.Symbol as take-def
+use Rattle.tracker_steps.proofs.take_turn.Symbol.{name as #steps·take-turn}
+use Rattle.tracker_steps.proofs.take_turn.Met as take-thm
+use Rattle.tracker_steps.proofs.deliver_turn.Symbol as deliver-def
+use Rattle.tracker_steps.proofs.deliver_turn.Symbol.{name as #steps·deliver-turn}
+use Rattle.tracker_steps.proofs.deliver_turn.Met as deliver-thm
 use Rattle.tracker.proofs.run_batch.Key.{name as #tracker·run-batch}
 use Rattle.tracker.proofs.run_batch as fun
 use Rattle.tracker.proofs.run_batch.Statement as stated
@@ -240,15 +240,15 @@ run-batch-spec 𝓤 H 𝓜 𝓖 𝓡 =
       run = 𝓡 .run;
       𝓣 = tablesOf 𝓤 H 𝓜 calls;
       opens-known =
-          cited 𝓤 H (Opens 𝓤 H (𝓖 .A) (𝓜 .mem) (𝓡 .run)) 𝓜 𝓡 code.env #tracker·open-batch
-          open-def.routine code.calls-tracker·open-batch (open-thm.met 𝓤 H 𝓜 𝓖 𝓡);
+          cited 𝓤 H (Opens 𝓤 H (𝓖 .A) (𝓜 .mem) (𝓡 .run)) 𝓜 𝓡 code.env #steps·open-batch
+          open-def.routine code.calls-tracker-steps·open-batch (open-thm.met 𝓤 H 𝓜 𝓖 𝓡);
       finds-known =
-          cited 𝓤 H (Finds 𝓤 H (𝓖 .A) (𝓜 .mem) (𝓡 .run)) 𝓜 𝓡 code.env #tracker·place-of
-          find-def.routine code.calls-tracker·place-of (find-thm.met 𝓤 H 𝓜 𝓖 𝓡);
+          cited 𝓤 H (Finds 𝓤 H (𝓖 .A) (𝓜 .mem) (𝓡 .run)) 𝓜 𝓡 code.env #steps·place-of
+          find-def.routine code.calls-tracker-steps·place-of (find-thm.met 𝓤 H 𝓜 𝓖 𝓡);
       takes-known =
-          cited 𝓤 H (Takes 𝓤 H (𝓖 .A) (𝓜 .mem) (𝓡 .run)) 𝓜 𝓡 code.env #tracker·take-turn
-          take-def.routine code.calls-tracker·take-turn (take-thm.met 𝓤 H 𝓜 𝓖 𝓡);
+          cited 𝓤 H (Takes 𝓤 H (𝓖 .A) (𝓜 .mem) (𝓡 .run)) 𝓜 𝓡 code.env #steps·take-turn
+          take-def.routine code.calls-tracker-steps·take-turn (take-thm.met 𝓤 H 𝓜 𝓖 𝓡);
       delivers-known =
-          cited 𝓤 H (Delivers 𝓤 H (𝓖 .A) (𝓜 .mem) (𝓡 .run)) 𝓜 𝓡 code.env #tracker·deliver-turn
-          deliver-def.routine code.calls-tracker·deliver-turn (deliver-thm.met 𝓤 H 𝓜 𝓖 𝓡);
+          cited 𝓤 H (Delivers 𝓤 H (𝓖 .A) (𝓜 .mem) (𝓡 .run)) 𝓜 𝓡 code.env #steps·deliver-turn
+          deliver-def.routine code.calls-tracker-steps·deliver-turn (deliver-thm.met 𝓤 H 𝓜 𝓖 𝓡);
     }))

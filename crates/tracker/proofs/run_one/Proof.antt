@@ -5,8 +5,8 @@ use Rattle.model.specs.declared.Settings.{Settings}
 use Rattle.model.specs.declared.Arrival.{Arrival}
 use Rattle.model.specs.declared.Sites.{Sites}
 use Rattle.model.specs.declared.CoordinatorRecord.{CoordinatorRecord}
-use Rattle.tracker.specs.declared.BatchAnswer.{BatchAnswer}
-use Rattle.tracker.specs.Steps.{OpenSays, lentOf}
+use Rattle.tracker_steps.specs.declared.BatchAnswer.{BatchAnswer}
+use Rattle.tracker_steps.specs.Steps.{OpenSays, lentOf}
 use Rattle.tracker.proofs.WalkLaws.{Walked, walked-open, walked-asks, walked-step, walked-done, walked-stopped}
 use borrow.Author.Needs.{needs}
 use Rattle.tracker.proofs.run_one.Statement.{statement}

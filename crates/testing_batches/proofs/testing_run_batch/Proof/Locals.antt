@@ -16,7 +16,7 @@ use denote.Memory.{pointee}
 use denote.Builtin.{u32, u64}
 use denote.Slice.{sliceTy, finally}
 use Rattle.model.proofs.Arrival as T
-use Rattle.tracker.proofs.BatchAnswer.Laws as K′
+use Rattle.tracker_steps.proofs.BatchAnswer.Laws as K′
 use Rattle.testing_batches.proofs.Opening.Laws as O′
 use Rattle.tracker.proofs.Lending.{Lending, value}
 use Rattle.tracker.proofs.Again.{Held-at}

@@ -22,11 +22,11 @@ use denote.Steps.{only}
 use denote.Struct.Laws as LL
 use denote.Triple.Call.{calls-at}
 use denote.Triple.Clauses.{lasts}
-use Rattle.tracker.specs.declared.BatchAnswer.{BatchAnswer}
+use Rattle.tracker_steps.specs.declared.BatchAnswer.{BatchAnswer}
 use Rattle.tracker.specs.Batch.{BatchLent, BatchSays}
 use Rattle.model.proofs.Arrival as T
-use Rattle.tracker.proofs.BatchAnswer as K
-use Rattle.tracker.proofs.BatchAnswer.Laws as K′
+use Rattle.tracker_steps.proofs.BatchAnswer as K
+use Rattle.tracker_steps.proofs.BatchAnswer.Laws as K′
 use Rattle.tracker.proofs.Lending.{value}
 use Rattle.tracker.proofs.Frame.{Places}
 use Rattle.tracker.proofs.Promised.{promised}

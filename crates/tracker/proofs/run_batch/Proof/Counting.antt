@@ -24,14 +24,14 @@ use denote.Struct.Laws as LL
 use Rattle.model.specs.declared.Arrival.{Arrival}
 use Rattle.model.specs.Limits.{mostSites}
 use Rattle.network_memory.specs.Records.{noRecord}
-use Rattle.tracker.specs.declared.BatchAnswer.{BatchAnswer}
-use Rattle.tracker.specs.declared.Turn.{Turn}
-use Rattle.tracker.specs.Turns.{placeOf, counted, CountAsks}
+use Rattle.tracker_steps.specs.declared.BatchAnswer.{BatchAnswer}
+use Rattle.tracker_steps.specs.declared.Turn.{Turn}
+use Rattle.tracker_steps.specs.Turns.{placeOf, counted, CountAsks}
 use Rattle.model.proofs.SiteRecord as R
 use Rattle.model.proofs.SiteRecord.Laws as R′
-use Rattle.tracker.proofs.BatchAnswer as K
-use Rattle.tracker.proofs.BatchAnswer.Laws as K′
-use Rattle.tracker.proofs.Turn as N
+use Rattle.tracker_steps.proofs.BatchAnswer as K
+use Rattle.tracker_steps.proofs.BatchAnswer.Laws as K′
+use Rattle.tracker_steps.proofs.Turn as N
 use Rattle.tracker.proofs.Frame.{Places}
 use Rattle.tracker.proofs.InArray.{elem}
 use Rattle.tracker.proofs.Records.{VR, VK, VN, values, length-values, values-set, many-records, turn-refusal-fits, turn-record-good, counted-good}

@@ -25,23 +25,23 @@ use denote.Triple.Walked.{says}
 use Rattle.model.specs.declared.Settings.{Settings}
 use Rattle.model.specs.declared.Arrival.{Arrival}
 use Rattle.model.specs.declared.SiteRecord.{SiteRecord}
-use Rattle.tracker.specs.declared.BatchAnswer.{BatchAnswer}
-use Rattle.tracker.specs.declared.Turn.{Turn}
-use Rattle.tracker.specs.Turns.{placeOf, ownOf, TurnAsks, DeliverAsks}
+use Rattle.tracker_steps.specs.declared.BatchAnswer.{BatchAnswer}
+use Rattle.tracker_steps.specs.declared.Turn.{Turn}
+use Rattle.tracker_steps.specs.Turns.{placeOf, ownOf, TurnAsks, DeliverAsks}
 use Rattle.model.proofs.Settings as S
 use Rattle.model.proofs.Settings.Laws as S′
 use Rattle.model.proofs.SiteRecord as R
 use Rattle.model.proofs.SiteRecord.Laws as R′
 use Rattle.model.proofs.Arrival as T
 use Rattle.model.proofs.Arrival.Laws as T′
-use Rattle.tracker.proofs.BatchAnswer as K
-use Rattle.tracker.proofs.BatchAnswer.Laws as K′
-use Rattle.tracker.proofs.Turn as N
-use Rattle.tracker.proofs.Turn.Laws as N′
+use Rattle.tracker_steps.proofs.BatchAnswer as K
+use Rattle.tracker_steps.proofs.BatchAnswer.Laws as K′
+use Rattle.tracker_steps.proofs.Turn as N
+use Rattle.tracker_steps.proofs.Turn.Laws as N′
 use Rattle.tracker.proofs.Lending.{listed, value}
 use Rattle.tracker.proofs.Again.{Again}
 use Rattle.tracker.proofs.Records.{VR, VK, VN, written-fits, record-good}
-use Rattle.tracker.proofs.RefusalLaws.{place-within}
+use Rattle.tracker_steps.proofs.RefusalLaws.{place-within}
 use Rattle.tracker.proofs.run_batch.Proof.Parameters.{VS, VT, Called, Typed, Point, Finds, Takes, Delivers, Logic}
 
 -- ---- The place of the arrival's site

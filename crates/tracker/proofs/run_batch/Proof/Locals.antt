@@ -22,17 +22,17 @@ use types.Kit.{Item}
 use denote.Memory.{pointee}
 use denote.Slice.{sliceTy}
 use Rattle.model.specs.declared.Arrival.{Arrival}
-use Rattle.tracker.specs.declared.Turn.{Turn}
-use Rattle.tracker.specs.Steps.{lentOf}
-use Rattle.tracker.specs.Turns.{placeOf, ownOf}
+use Rattle.tracker_steps.specs.declared.Turn.{Turn}
+use Rattle.tracker_steps.specs.Steps.{lentOf}
+use Rattle.tracker_steps.specs.Turns.{placeOf, ownOf}
 use Rattle.model.proofs.Settings.Laws as S′
 use Rattle.model.proofs.SiteRecord.Laws as R′
 use Rattle.model.proofs.Sites.Laws as P′
 use Rattle.model.proofs.CoordinatorRecord.Laws as D′
 use Rattle.model.proofs.Arrival as T
 use Rattle.model.proofs.Arrival.Laws as T′
-use Rattle.tracker.proofs.BatchAnswer.Laws as K′
-use Rattle.tracker.proofs.Turn.Laws as N′
+use Rattle.tracker_steps.proofs.BatchAnswer.Laws as K′
+use Rattle.tracker_steps.proofs.Turn.Laws as N′
 use Rattle.tracker.proofs.Frame.{Places, rm, rn, empty, full}
 use Rattle.tracker.proofs.Lending.{value}
 use Rattle.tracker.proofs.Records.{VR, VK, VN}

@@ -16,7 +16,7 @@ use types.Kit.{⋆, atRet, Sq, runs, _$_, !, by}
 use types.Run.{first, blocks}
 use sound.Loop.{unroll}
 use Rattle.model.specs.declared.Arrival.{Arrival}
-use Rattle.tracker.specs.Steps.{OneSays}
+use Rattle.tracker_steps.specs.Steps.{OneSays}
 use Rattle.tracker.proofs.WalkLaws.{Walked, walked-asks, walked-step, walked-done, walked-stopped}
 use Rattle.tracker.proofs.Tail.{Tail, all-left, within, is-head, after, past-end}
 use Rattle.tracker.proofs.Frame.{Places}

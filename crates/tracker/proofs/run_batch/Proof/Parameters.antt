@@ -42,7 +42,7 @@ use Rattle.model.specs.declared.Settings.{Settings}
 use Rattle.model.specs.declared.Arrival.{Arrival}
 use Rattle.model.specs.declared.Sites.{Sites}
 use Rattle.model.specs.declared.CoordinatorRecord.{CoordinatorRecord}
-use Rattle.tracker.specs.declared.BatchAnswer.{BatchAnswer}
+use Rattle.tracker_steps.specs.declared.BatchAnswer.{BatchAnswer}
 use Rattle.tracker.specs.Batch.{BatchCall, BatchLent}
 use Rattle.model.proofs.Settings as S
 use Rattle.model.proofs.Settings.Laws as S′
@@ -52,19 +52,19 @@ use Rattle.model.proofs.CoordinatorRecord as D
 use Rattle.model.proofs.CoordinatorRecord.Laws as D′
 use Rattle.model.proofs.Arrival as T
 use Rattle.model.proofs.Arrival.Laws as T′
-use Rattle.tracker.proofs.BatchAnswer as K
+use Rattle.tracker_steps.proofs.BatchAnswer as K
 use Rattle.tracker.proofs.Lending.{Lending, listed, value}
 use Rattle.tracker.proofs.Again.{Held-at}
 use Rattle.tracker.proofs.Elem.{Looked}
 use Rattle.tracker.proofs.Records.{VK}
-use Rattle.tracker.proofs.open_batch as opening
-use Rattle.tracker.proofs.open_batch.Symbol.{name as #tracker·open-batch}
-use Rattle.tracker.proofs.place_of as finding
-use Rattle.tracker.proofs.place_of.Symbol.{name as #tracker·place-of}
-use Rattle.tracker.proofs.take_turn as taking
-use Rattle.tracker.proofs.take_turn.Symbol.{name as #tracker·take-turn}
-use Rattle.tracker.proofs.deliver_turn as delivering
-use Rattle.tracker.proofs.deliver_turn.Symbol.{name as #tracker·deliver-turn}
+use Rattle.tracker_steps.proofs.open_batch as opening
+use Rattle.tracker_steps.proofs.open_batch.Symbol.{name as #steps·open-batch}
+use Rattle.tracker_steps.proofs.place_of as finding
+use Rattle.tracker_steps.proofs.place_of.Symbol.{name as #steps·place-of}
+use Rattle.tracker_steps.proofs.take_turn as taking
+use Rattle.tracker_steps.proofs.take_turn.Symbol.{name as #steps·take-turn}
+use Rattle.tracker_steps.proofs.deliver_turn as delivering
+use Rattle.tracker_steps.proofs.deliver_turn.Symbol.{name as #steps·deliver-turn}
 use Rattle.tracker.proofs.run_batch as fun
 
 -- ---- The parameters
@@ -238,7 +238,7 @@ pub record Logic (M : Type 1) : Type 2 where
   pub mem : Memory → SProp 𝓤
   pub run : Routine → Fun 𝓤
   pub 𝓣 : Tables 𝓤 H
-  pub opens-known : Triple 𝓤 (𝓣 .C #tracker·open-batch) (Opens 𝓤 H A mem run)
-  pub finds-known : Triple 𝓤 (𝓣 .C #tracker·place-of) (Finds 𝓤 H A mem run)
-  pub takes-known : Triple 𝓤 (𝓣 .C #tracker·take-turn) (Takes 𝓤 H A mem run)
-  pub delivers-known : Triple 𝓤 (𝓣 .C #tracker·deliver-turn) (Delivers 𝓤 H A mem run)
+  pub opens-known : Triple 𝓤 (𝓣 .C #steps·open-batch) (Opens 𝓤 H A mem run)
+  pub finds-known : Triple 𝓤 (𝓣 .C #steps·place-of) (Finds 𝓤 H A mem run)
+  pub takes-known : Triple 𝓤 (𝓣 .C #steps·take-turn) (Takes 𝓤 H A mem run)
+  pub delivers-known : Triple 𝓤 (𝓣 .C #steps·deliver-turn) (Delivers 𝓤 H A mem run)

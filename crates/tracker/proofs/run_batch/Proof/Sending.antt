@@ -29,19 +29,19 @@ use denote.Steps.{only}
 use denote.Struct.Laws as LL
 use denote.Triple.Call.{calls-at}
 use denote.Triple.Clauses.{lasts}
-use Rattle.tracker.specs.declared.BatchAnswer.{BatchAnswer}
-use Rattle.tracker.specs.declared.Turn.{Turn}
-use Rattle.tracker.specs.Steps.{lentOf}
-use Rattle.tracker.specs.Turns.{DeliverAsks, DeliverSays}
-use Rattle.tracker.proofs.BatchAnswer as K
-use Rattle.tracker.proofs.BatchAnswer.Laws as K′
-use Rattle.tracker.proofs.Turn as N
+use Rattle.tracker_steps.specs.declared.BatchAnswer.{BatchAnswer}
+use Rattle.tracker_steps.specs.declared.Turn.{Turn}
+use Rattle.tracker_steps.specs.Steps.{lentOf}
+use Rattle.tracker_steps.specs.Turns.{DeliverAsks, DeliverSays}
+use Rattle.tracker_steps.proofs.BatchAnswer as K
+use Rattle.tracker_steps.proofs.BatchAnswer.Laws as K′
+use Rattle.tracker_steps.proofs.Turn as N
 use Rattle.tracker.proofs.Again.{lends, returned}
 use Rattle.tracker.proofs.Frame.{Places}
 use Rattle.tracker.proofs.Promised.{promised}
 use Rattle.tracker.proofs.Reborrow.{reborrows}
 use Rattle.tracker.proofs.Records.{VN}
-use Rattle.tracker.proofs.deliver_turn as delivering
+use Rattle.tracker_steps.proofs.deliver_turn as delivering
 use Rattle.tracker.proofs.run_batch.Code.Mir as m
 use Rattle.tracker.proofs.run_batch.Proof.Parameters.{Called, Typed, Point, Delivers, Logic}
 use Rattle.tracker.proofs.run_batch.Proof.LendsTurn.{DeliversWith, delivers-passed, delivers-to, delivers-goes}

@@ -21,16 +21,16 @@ use denote.Steps.{only}
 use denote.Struct.Laws as LL
 use denote.Triple.Call.{calls-at}
 use denote.Triple.Clauses.{lasts}
-use Rattle.tracker.specs.declared.BatchAnswer.{BatchAnswer}
-use Rattle.tracker.specs.Steps.{OpenSays, lentOf}
+use Rattle.tracker_steps.specs.declared.BatchAnswer.{BatchAnswer}
+use Rattle.tracker_steps.specs.Steps.{OpenSays, lentOf}
 use Rattle.tracker.proofs.WalkLaws.{walked-open}
-use Rattle.tracker.proofs.BatchAnswer as K
-use Rattle.tracker.proofs.BatchAnswer.Laws as K′
+use Rattle.tracker_steps.proofs.BatchAnswer as K
+use Rattle.tracker_steps.proofs.BatchAnswer.Laws as K′
 use Rattle.tracker.proofs.Again.{lends, returned}
 use Rattle.tracker.proofs.Frame.{Places}
 use Rattle.tracker.proofs.Promised.{promised}
 use Rattle.tracker.proofs.Reborrow.{reborrows}
-use Rattle.tracker.proofs.open_batch as opening
+use Rattle.tracker_steps.proofs.open_batch as opening
 use Rattle.tracker.proofs.run_batch.Code.Mir as m
 use Rattle.tracker.proofs.run_batch.Proof.Parameters.{Called, Typed, asked, Post, Opens, Logic}
 use Rattle.tracker.proofs.run_batch.Proof.Lends.{OpensWith, opens-passed, opens-to, opens-goes}

@@ -25,18 +25,18 @@ use denote.Struct.Laws as LL
 use denote.Triple.Call.{calls-at}
 use denote.Triple.Clauses.{lasts}
 use Rattle.model.specs.declared.Arrival.{Arrival}
-use Rattle.tracker.specs.declared.Turn.{Turn}
-use Rattle.tracker.specs.Steps.{lentOf}
-use Rattle.tracker.specs.Turns.{ownOf, TurnAsks, TurnSays}
+use Rattle.tracker_steps.specs.declared.Turn.{Turn}
+use Rattle.tracker_steps.specs.Steps.{lentOf}
+use Rattle.tracker_steps.specs.Turns.{ownOf, TurnAsks, TurnSays}
 use Rattle.model.proofs.Arrival as T
-use Rattle.tracker.proofs.Turn as N
-use Rattle.tracker.proofs.Turn.Laws as N′
+use Rattle.tracker_steps.proofs.Turn as N
+use Rattle.tracker_steps.proofs.Turn.Laws as N′
 use Rattle.tracker.proofs.Again.{lends, returned}
 use Rattle.tracker.proofs.Frame.{Places}
 use Rattle.tracker.proofs.Promised.{promised}
 use Rattle.tracker.proofs.Reborrow.{reborrows}
 use Rattle.tracker.proofs.Records.{VN, written-fits}
-use Rattle.tracker.proofs.take_turn as taking
+use Rattle.tracker_steps.proofs.take_turn as taking
 use Rattle.tracker.proofs.run_batch.Proof.Parameters.{VT, Called, Typed, Point, Takes, Logic}
 use Rattle.tracker.proofs.run_batch.Proof.LendsTurn.{numbers, takes-passed, takes-to, takes-goes}
 use Rattle.tracker.proofs.run_batch.Proof.Locals.{behind, cell, locals, Seen, Told, Left}

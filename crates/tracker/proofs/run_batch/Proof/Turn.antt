@@ -32,20 +32,20 @@ use denote.Triple.Call.{calls-at}
 use denote.Triple.Clauses.{lasts}
 use Rattle.model.specs.declared.Arrival.{Arrival}
 use Rattle.network_memory.specs.Records.{noRecord}
-use Rattle.tracker.specs.Steps.{OneAsks, OneSays}
-use Rattle.tracker.specs.Turns.{placeOf, ownOf, TurnAsks, TurnSays}
+use Rattle.tracker_steps.specs.Steps.{OneAsks, OneSays}
+use Rattle.tracker_steps.specs.Turns.{placeOf, ownOf, TurnAsks, TurnSays}
 use Rattle.model.proofs.Arrival as T
 use Rattle.model.proofs.Arrival.Laws as T′
 use Rattle.model.proofs.SiteRecord as R
 use Rattle.model.proofs.SiteRecord.Laws as R′
-use Rattle.tracker.proofs.TurnLaws.{turn-asks, count-asks, deliver-asks, quiet-says, loud-says}
-use Rattle.tracker.proofs.RefusalLaws.{place-within}
+use Rattle.tracker_steps.proofs.TurnLaws.{turn-asks, count-asks, deliver-asks, quiet-says, loud-says}
+use Rattle.tracker_steps.proofs.RefusalLaws.{place-within}
 use Rattle.tracker.proofs.Frame.{Places}
 use Rattle.tracker.proofs.Elem.{elem-opens, elem-shuts}
 use Rattle.tracker.proofs.InArray.{elem}
 use Rattle.tracker.proofs.Promised.{promised}
 use Rattle.tracker.proofs.Records.{VR, values, length-values, values-at, many-records, refusal-fits, record-good}
-use Rattle.tracker.proofs.place_of as finding
+use Rattle.tracker_steps.proofs.place_of as finding
 use Rattle.tracker.proofs.run_batch.Code.Mir as m
 use Rattle.tracker.proofs.run_batch.Proof.Parameters.{VT, Called, Typed, none, Point, answered, Finds, Logic}
 use Rattle.tracker.proofs.run_batch.Proof.LendsTurn.{finds-passed, finds-to, finds-goes}

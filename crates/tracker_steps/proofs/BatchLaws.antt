@@ -35,11 +35,10 @@ use Rattle.delivery.specs.Arriving.{ArrivalAsks}
 use Rattle.delivery.proofs.HoldingLaws.{Stored, record-read, log-length}
 use Rattle.delivery.proofs.GoingLaws.{stored-of-sound}
 use Rattle.delivery.proofs.RestLaws.{sound-then, bounded-then, arrivals-then, holds-rested}
-use Rattle.tracker.specs.declared.BatchAnswer.{BatchAnswer}
-use Rattle.tracker.specs.Batch.{BatchLent}
-use Rattle.tracker.specs.Steps.{placesRefusal, PlacesAsk, withOne, stoppedBy, oneRefusal, batchOne, underwayOf, BatchHolds, BatchReady, OneAsks, lentOf}
-use Rattle.tracker.specs.Turns.{ownOf}
-use Rattle.tracker.proofs.RefusalLaws.{place-known, placesRefusal-is}
+use Rattle.tracker_steps.specs.declared.BatchAnswer.{BatchAnswer}
+use Rattle.tracker_steps.specs.Steps.{BatchLent, placesRefusal, PlacesAsk, withOne, stoppedBy, oneRefusal, batchOne, underwayOf, BatchHolds, BatchReady, OneAsks, lentOf}
+use Rattle.tracker_steps.specs.Turns.{ownOf}
+use Rattle.tracker_steps.proofs.RefusalLaws.{place-known, placesRefusal-is}
 
 -- ---- An arrival with full delivery
 

@@ -9,6 +9,7 @@ use Prim.Native.Nat.{ℕ, _+_, _≤_}
 use native.Mathlib.Omega.{arith}
 use native.Mathlib.Nat.{add-zero}
 use lib.ListN.{length, getD}
+use lib.Seq.{set-getD}
 use Rattle.model.specs.declared.Settings.{Settings}
 use Rattle.model.specs.declared.Arrival.{Arrival}
 use Rattle.model.specs.declared.SiteRecord.{SiteRecord}
@@ -21,14 +22,12 @@ use Rattle.delivery.specs.Holding.{state}
 use Rattle.delivery.specs.Arriving.{ArrivalAsks, SiteAsks, SiteSays, MessagesAsk, outOf, putBack}
 use Rattle.delivery.proofs.SiteLaws.{site-few}
 use Rattle.delivery.proofs.TakenLaws.{quiet-rests}
-use Rattle.tracker.specs.declared.BatchAnswer.{BatchAnswer}
-use Rattle.tracker.specs.declared.Turn.{Turn}
-use Rattle.tracker.specs.Batch.{BatchLent}
-use Rattle.tracker.specs.Steps.{placesRefusal, PlacesAsk, oneRefusal, batchOne, underwayOf, BatchHolds, OneAsks, OneSays, lentOf}
-use Rattle.tracker.specs.Turns.{placeOf, ownOf, refusedTurn, TurnAsks, RefusedTurn, TakenTurn, TurnTold, refused, taken, TurnSays, counted, CountAsks, DeliverAsks, DeliverSays}
-use Rattle.tracker.proofs.InArray.{set-same}
-use Rattle.tracker.proofs.RefusalLaws.{place-known, place-within}
-use Rattle.tracker.proofs.BatchLaws.{one-places, refusal-is, accepted-small, one-asks, taken-is, holds-delivered, holds-stopped}
+use Rattle.tracker_steps.specs.declared.BatchAnswer.{BatchAnswer}
+use Rattle.tracker_steps.specs.declared.Turn.{Turn}
+use Rattle.tracker_steps.specs.Steps.{BatchLent, placesRefusal, PlacesAsk, oneRefusal, batchOne, underwayOf, BatchHolds, OneAsks, OneSays, lentOf}
+use Rattle.tracker_steps.specs.Turns.{placeOf, ownOf, refusedTurn, TurnAsks, RefusedTurn, TakenTurn, TurnTold, refused, taken, TurnSays, counted, CountAsks, DeliverAsks, DeliverSays}
+use Rattle.tracker_steps.proofs.RefusalLaws.{place-known, place-within}
+use Rattle.tracker_steps.proofs.BatchLaws.{one-places, refusal-is, accepted-small, one-asks, taken-is, holds-delivered, holds-stopped}
 
 -- ---- The turn
 
@@ -219,7 +218,7 @@ module _ (lent : BatchLent) {settings : Settings} (arrival : Arrival) (answer : 
       stored-same : underwayOf next ≡ underwayOf answer
       stored-same =
           ap underwayOf next-is
-          ∙ rw (r .turn-is, set-same (answer .sites .records) (placeOf arrival) noRecord)
+          ∙ rw (r .turn-is, set-getD (answer .sites .records) (placeOf arrival) noRecord)
 
     pub deliver-asks : OneAsks settings answer lent
         → (turn .out .count ≡ 0 → ⊥)

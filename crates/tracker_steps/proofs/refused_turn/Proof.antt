@@ -1,7 +1,7 @@
 -- `tracker::refused_turn` meets its contract: a record and messages of zeros.
 use borrow.Author.Needs.{needs}
-use Rattle.tracker.proofs.refused_turn.Statement.{statement}
-use Rattle.tracker.proofs.refused_turn.Tie as tie
+use Rattle.tracker_steps.proofs.refused_turn.Statement.{statement}
+use Rattle.tracker_steps.proofs.refused_turn.Tie as tie
 
 empty-queue-requires : tie.Need-empty-queue-requires
 empty-queue-requires c κs = search needs

@@ -19,8 +19,8 @@ use Rattle.model.specs.Network.{Network, siteAt}
 use Rattle.model.specs.Runs.{batchRefusal}
 use Rattle.model.proofs.RefusalLaws.{refused-same}
 use Rattle.site.specs.Calls.{bareSite}
-use Rattle.tracker.specs.Steps.{placesRefusal}
-use Rattle.tracker.specs.Turns.{placeOf}
+use Rattle.tracker_steps.specs.Steps.{placesRefusal}
+use Rattle.tracker_steps.specs.Turns.{placeOf}
 
 -- An arrival at a site that has a record is looked at there.
 pub place-known : (arrival : Arrival) → arrival .site < mostSites → placeOf arrival ≡ arrival .site

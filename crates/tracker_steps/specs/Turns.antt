@@ -25,10 +25,9 @@ use Rattle.delivery.specs.Log.{logRoom}
 use Rattle.delivery.specs.Sending.{nothingWaits}
 use Rattle.delivery.specs.Holding.{Given, state}
 use Rattle.delivery.specs.Arriving.{Taken, putBack}
-use Rattle.tracker.specs.declared.BatchAnswer.{BatchAnswer}
-use Rattle.tracker.specs.declared.Turn.{Turn}
-use Rattle.tracker.specs.Batch.{BatchLent}
-use Rattle.tracker.specs.Steps.{oneRefusal, withOne, underwayOf, BatchHolds, OneAsks, lentOf}
+use Rattle.tracker_steps.specs.declared.BatchAnswer.{BatchAnswer}
+use Rattle.tracker_steps.specs.declared.Turn.{Turn}
+use Rattle.tracker_steps.specs.Steps.{BatchLent, oneRefusal, withOne, underwayOf, BatchHolds, OneAsks, lentOf}
 
 -- ---- The turn
 

@@ -1,10 +1,10 @@
 -- `tracker::take_arrival` meets its contract: the turn, its count and its messages.
-use Rattle.tracker.specs.Steps.{lentOf}
-use Rattle.tracker.proofs.TurnLaws.{turn-asks, count-asks, deliver-asks, quiet-says, loud-says}
-use Rattle.tracker.proofs.RefusalLaws.{place-within}
+use Rattle.tracker_steps.specs.Steps.{lentOf}
+use Rattle.tracker_steps.proofs.TurnLaws.{turn-asks, count-asks, deliver-asks, quiet-says, loud-says}
+use Rattle.tracker_steps.proofs.RefusalLaws.{place-within}
 use borrow.Author.Needs.{needs}
-use Rattle.tracker.proofs.take_arrival.Statement.{statement}
-use Rattle.tracker.proofs.take_arrival.Tie as tie
+use Rattle.tracker_steps.proofs.take_arrival.Statement.{statement}
+use Rattle.tracker_steps.proofs.take_arrival.Tie as tie
 
 record-of-requires : tie.Need-record-of-requires
 record-of-requires c κs =

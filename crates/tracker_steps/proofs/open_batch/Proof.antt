@@ -1,10 +1,10 @@
 -- `tracker::open_batch` meets its contract: the tests of the whole network, and nothing written.
 use mathlib.Core.Path.{refl, ap}
 use Prim.Native.Nat.{ℕ}
-use Rattle.tracker.specs.Steps.{opened}
+use Rattle.tracker_steps.specs.Steps.{opened}
 use borrow.Author.Needs.{needs}
-use Rattle.tracker.proofs.open_batch.Statement.{statement}
-use Rattle.tracker.proofs.open_batch.Tie as tie
+use Rattle.tracker_steps.proofs.open_batch.Statement.{statement}
+use Rattle.tracker_steps.proofs.open_batch.Tie as tie
 
 network-refusal-requires : tie.Need-network-refusal-requires
 network-refusal-requires c κs = search needs

@@ -1,8 +1,8 @@
 -- `tracker::take_turn` meets its contract: the arrival is refused, or its site takes it.
-use Rattle.tracker.proofs.TurnLaws.{turn-places, turn-refused, turn-observes, turn-taken}
+use Rattle.tracker_steps.proofs.TurnLaws.{turn-places, turn-refused, turn-observes, turn-taken}
 use borrow.Author.Needs.{needs}
-use Rattle.tracker.proofs.take_turn.Statement.{statement}
-use Rattle.tracker.proofs.take_turn.Tie as tie
+use Rattle.tracker_steps.proofs.take_turn.Statement.{statement}
+use Rattle.tracker_steps.proofs.take_turn.Tie as tie
 
 one-refusal-requires : tie.Need-one-refusal-requires
 one-refusal-requires c κs = turn-places (c .before .args .arrival) (c .before .pre)

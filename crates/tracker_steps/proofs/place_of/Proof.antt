@@ -1,8 +1,8 @@
 -- `tracker::place_of` meets its contract: by whether there is such a place.
 use borrow.Author.Needs.{needs}
 use borrow.Author.Tests.{lt-ltb, le-ltb}
-use Rattle.tracker.proofs.place_of.Statement.{statement}
-use Rattle.tracker.proofs.place_of.Tie as tie
+use Rattle.tracker_steps.proofs.place_of.Statement.{statement}
+use Rattle.tracker_steps.proofs.place_of.Tie as tie
 
 cast-result : tie.Need-cast-result
 cast-result c = search needs

@@ -1,9 +1,9 @@
 -- `tracker::one_refusal` meets its contract: row by row.
 use mathlib.Core.Path.{sym, _∙_}
-use Rattle.tracker.proofs.RefusalLaws.{arrival-refused, log-refused, not-refused}
+use Rattle.tracker_steps.proofs.RefusalLaws.{arrival-refused, log-refused, not-refused}
 use borrow.Author.Needs.{needs}
-use Rattle.tracker.proofs.one_refusal.Statement.{statement}
-use Rattle.tracker.proofs.one_refusal.Tie as tie
+use Rattle.tracker_steps.proofs.one_refusal.Statement.{statement}
+use Rattle.tracker_steps.proofs.one_refusal.Tie as tie
 
 returns : tie.Need-returns
 returns c =

@@ -1,5 +1,6 @@
 -- The parts of the batch call: its start, and one arrival of it.
 --
+--   BatchLent                          what the call leaves in lent memory
 --   opened refusal sites coordinator   the answer before the first arrival
 --   OpenSays                           the start's promise
 --   placesRefusal ..                   5, 6, 7, 8, 14 from a record and the log's length
@@ -32,10 +33,15 @@ use Rattle.delivery.specs.Log.{logRoom}
 use Rattle.delivery.specs.Sending.{nothingWaits}
 use Rattle.delivery.specs.Bounded.{Bounded}
 use Rattle.delivery.specs.Holding.{Given, state, Holds, Fits}
-use Rattle.tracker.specs.declared.BatchAnswer.{BatchAnswer}
-use Rattle.tracker.specs.Batch.{BatchLent}
+use Rattle.tracker_steps.specs.declared.BatchAnswer.{BatchAnswer}
 
 -- ---- The start
+
+-- What the call leaves in lent memory.
+pub record BatchLent : Type 0 where
+  pub siteMemory : List ℕ
+  pub coordinatorMemory : List ℕ
+  pub log : List ℕ
 
 -- Nothing is accepted and nothing written yet.
 abbrev pub opened : ℕ → Sites → CoordinatorRecord → BatchAnswer

@@ -1,10 +1,10 @@
 -- `tracker::deliver_turn` meets its contract: its messages, sent from a network at rest.
 use mathlib.Core.Path.{refl}
-use Rattle.tracker.proofs.TurnLaws.{messages-ask}
-use Rattle.tracker.proofs.BatchLaws.{holds-delivered}
+use Rattle.tracker_steps.proofs.TurnLaws.{messages-ask}
+use Rattle.tracker_steps.proofs.BatchLaws.{holds-delivered}
 use borrow.Author.Needs.{needs}
-use Rattle.tracker.proofs.deliver_turn.Statement.{statement}
-use Rattle.tracker.proofs.deliver_turn.Tie as tie
+use Rattle.tracker_steps.proofs.deliver_turn.Statement.{statement}
+use Rattle.tracker_steps.proofs.deliver_turn.Tie as tie
 
 deliver-messages-requires : tie.Need-deliver-messages-requires
 deliver-messages-requires c κs =

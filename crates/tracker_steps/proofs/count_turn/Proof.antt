@@ -1,7 +1,7 @@
 -- `tracker::count_turn` meets its contract: three fields are changed.
 use native.Mathlib.Omega.{arith}
-use Rattle.tracker.proofs.count_turn.Statement.{statement}
-use Rattle.tracker.proofs.count_turn.Tie as tie
+use Rattle.tracker_steps.proofs.count_turn.Statement.{statement}
+use Rattle.tracker_steps.proofs.count_turn.Tie as tie
 
 add-next : tie.Need-add-next
 add-next c =

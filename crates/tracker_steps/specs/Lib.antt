@@ -1,0 +1,3 @@
+-- What the parts of the batch call ask and promise.
+pub mod Steps
+pub mod Turns

@@ -1,0 +1,236 @@
+// The parts of the batch call: its start, and one arrival of it. The functions that require
+// something are internal: what they require is decided by `open_batch`, with which the calls of crate
+// `tracker` begin, and holds after each accepted arrival.
+
+ghost use mathlib.Core.Path.{_≡_};
+ghost use Rattle.tracker_steps.specs.Steps.{OpenSays, OneAsks, OneSays, placesRefusal, PlacesAsk, lentOf};
+ghost use Rattle.tracker_steps.specs.Turns.{placeOf, refusedTurn, counted, TurnAsks, TurnSays, CountAsks, DeliverAsks, DeliverSays};
+use counters::Word;
+use delivery::Queue;
+use model::ACCEPTED;
+use model::Arrival;
+use model::CoordinatorRecord;
+use model::LOG_TOO_SHORT;
+use model::Settings;
+use model::SiteRecord;
+use model::Sites;
+
+// What the batch call answers: the refusal that stopped it or 0, the arrivals accepted, the
+// messages written to the log, and both records as they are then.
+pub struct BatchAnswer {
+    pub refusal: u32,
+    pub accepted: u64,
+    pub written: u64,
+    pub sites: Sites,
+    pub coordinator: CoordinatorRecord,
+}
+
+// The turn of an arrival: why it is refused, or the record of the site that took it, and the
+// messages that are to go out. `taken` is 1 if it is accepted. A refused one has the record as it
+// was, and no messages.
+pub struct Turn {
+    pub refusal: u32,
+    pub taken: u64,
+    pub site: SiteRecord,
+    pub out: Queue,
+}
+
+// The answer before the first arrival: why the call is refused when it starts, if it is. The memory
+// is only read.
+pub fn open_batch(
+    settings: Settings,
+    sites: Sites,
+    coordinator: CoordinatorRecord,
+    site_memory: &mut [Word],
+    coordinator_memory: &mut [u64],
+) -> BatchAnswer
+    ensures { λ r. ⌜ OpenSays settings sites coordinator
+        (now («site_memory» .entry)) (now («coordinator_memory» .entry)) r
+        (now («site_memory» .exit)) (now («coordinator_memory» .exit)) ⌝ }
+{
+    let refusal = network_tests::network_refusal(
+        settings,
+        sites,
+        coordinator,
+        site_memory,
+        coordinator_memory,
+    );
+    BatchAnswer {
+        refusal: refusal,
+        accepted: 0,
+        written: 0,
+        sites: sites,
+        coordinator: coordinator,
+    }
+}
+
+// The place of an arrival's site among the records. An arrival that names no such place is refused
+// whatever record is looked at: 0 stands for it.
+pub fn place_of(arrival: Arrival) -> usize
+    ensures { λ r. ⌜ r ≡ placeOf arrival ⌝ }
+{
+    if arrival.site < 32 {
+        return arrival.site as usize;
+    }
+    0
+}
+
+// Why an arrival of a batch is refused: 5, 6, 7, 8, 14. `own` is its site's record.
+fn one_refusal(
+    settings: Settings,
+    own: SiteRecord,
+    arrival: Arrival,
+    numbers: usize,
+    written: u64,
+) -> u32
+    requires { ⌜ PlacesAsk settings written numbers ⌝ }
+    ensures { λ r. ⌜ r ≡ placesRefusal settings own arrival numbers written ⌝ }
+{
+    let of_site = site::arrival_refusal(settings, own, arrival);
+    if of_site != ACCEPTED {
+        return of_site;
+    }
+    let free = ((numbers / 4) as u64) - written;
+    if free < 23 * (settings.sites as u64) + 2 {
+        return LOG_TOO_SHORT;
+    }
+    ACCEPTED
+}
+
+// The turn of an arrival that is refused with this number.
+fn refused_turn(number: u32, own: SiteRecord) -> Turn
+    ensures { λ r. ⌜ r ≡ refusedTurn number own ⌝ }
+{
+    let out = delivery::empty_queue();
+    Turn {
+        refusal: number,
+        taken: 0,
+        site: own,
+        out: out,
+    }
+}
+
+// An arrival is refused, or its site takes it. It is handed the one record that changes and hands
+// it back: the records of 32 sites are not copied for an arrival. `own` is that record, `written`
+// the messages written so far, and `numbers` the log's length.
+pub fn take_turn(
+    settings: Settings,
+    own: SiteRecord,
+    written: u64,
+    arrival: Arrival,
+    numbers: usize,
+    site_memory: &mut [Word],
+) -> Turn
+    requires { ⌜ TurnAsks settings own written arrival numbers (now «site_memory») ⌝ }
+    ensures { λ r. ⌜ TurnSays settings own written arrival numbers
+        (now («site_memory» .entry)) r (now («site_memory» .exit)) ⌝ }
+{
+    let refusal = one_refusal(settings, own, arrival, numbers, written);
+    if refusal != ACCEPTED {
+        return refused_turn(refusal, own);
+    }
+    let observed = delivery::observe(settings, own, arrival, site_memory);
+    let site = observed.site;
+    let first = observed.first;
+    let second = observed.second;
+    let out = Queue {
+        count: observed.count,
+        first: first,
+        second: second,
+    };
+    Turn {
+        refusal: ACCEPTED,
+        taken: 1,
+        site: site,
+        out: out,
+    }
+}
+
+// The answer with a turn in it, of the site at this place.
+fn count_turn(answer: BatchAnswer, which: usize, turn: Turn) -> BatchAnswer
+    requires { ⌜ CountAsks answer which turn ⌝ }
+    ensures { λ r. ⌜ r ≡ counted answer which turn ⌝ }
+{
+    let sites = answer.sites;
+    let site = turn.site;
+    let mut next = answer;
+    next.refusal = turn.refusal;
+    next.accepted = answer.accepted + turn.taken;
+    next.sites = delivery::with_record(sites, which, site);
+    next
+}
+
+// The messages of a turn, with full delivery.
+pub fn deliver_turn(
+    settings: Settings,
+    answer: BatchAnswer,
+    turn: Turn,
+    site_memory: &mut [Word],
+    coordinator_memory: &mut [u64],
+    log: &mut [u64],
+) -> BatchAnswer
+    requires { ⌜ DeliverAsks settings turn answer
+        (lentOf (now «site_memory») (now «coordinator_memory») (now log)) ⌝ }
+    ensures { λ r. ⌜ DeliverSays settings turn answer
+        (lentOf (now («site_memory» .entry)) (now («coordinator_memory» .entry)) (now (log .entry)))
+        r
+        (lentOf (now («site_memory» .exit)) (now («coordinator_memory» .exit)) (now (log .exit)))
+        ⌝ }
+{
+    let sites = answer.sites;
+    let coordinator = answer.coordinator;
+    let out = turn.out;
+    let underway = delivery::at_rest(sites, coordinator, answer.written);
+    let after = delivery::deliver_messages(
+        settings,
+        underway,
+        out,
+        site_memory,
+        coordinator_memory,
+        log,
+    );
+    let sites_then = after.sites;
+    let coordinator_then = after.coordinator;
+    BatchAnswer {
+        refusal: ACCEPTED,
+        accepted: answer.accepted,
+        written: after.written,
+        sites: sites_then,
+        coordinator: coordinator_then,
+    }
+}
+
+// One arrival of a batch, from its turn to its last message: what `run_batch` does in place.
+pub fn take_arrival(
+    settings: Settings,
+    answer: BatchAnswer,
+    arrival: Arrival,
+    site_memory: &mut [Word],
+    coordinator_memory: &mut [u64],
+    log: &mut [u64],
+) -> BatchAnswer
+    requires { ⌜ OneAsks settings answer
+        (lentOf (now «site_memory») (now «coordinator_memory») (now log)) ⌝ }
+    ensures { λ r. ⌜ OneSays settings arrival answer
+        (lentOf (now («site_memory» .entry)) (now («coordinator_memory» .entry)) (now (log .entry)))
+        r
+        (lentOf (now («site_memory» .exit)) (now («coordinator_memory» .exit)) (now (log .exit)))
+        ⌝ }
+{
+    let which = place_of(arrival);
+    let sites = answer.sites;
+    let own = delivery::record_of(sites, which);
+    let turn = take_turn(
+        settings,
+        own,
+        answer.written,
+        arrival,
+        log.len(),
+        site_memory,
+    );
+    let next = count_turn(answer, which, turn);
+    if turn.out.count == 0 {
+        return next;
+    }
+    deliver_turn(settings, next, turn, site_memory, coordinator_memory, log)
+}

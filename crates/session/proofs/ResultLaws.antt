@@ -22,7 +22,7 @@ use Rattle.model.specs.Reading.{isListed, listedFrom, heavyHitters, leastValueF
 use Rattle.model.specs.Runs.{Run}
 use Rattle.model.specs.Transcript.{endLine, classWord, messagesWord, quantileWord, resultLines}
 use Rattle.coordinator_steps.proofs.StepLaws.{valueCount-is}
-use Rattle.transcript.specs.Contracts.{countedLine, listedLine}
+use Rattle.lines.specs.Contracts.{countedLine, listedLine}
 use Rattle.transcript.proofs.LineBounds.{line-claims}
 use Rattle.reading.specs.Contracts.{listRefusal}
 use Rattle.history.proofs.RunSound.{sound-run, messages-within}

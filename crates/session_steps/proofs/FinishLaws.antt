@@ -15,7 +15,7 @@ use Rattle.model.specs.CoordinatorMemory.{coordinatorIn, coordinatorMemoryRefus
 use Rattle.model.specs.Reading.{heavyHitters, quantileOf}
 use Rattle.model.specs.Transcript.{endLine, classWord, messagesWord, quantileWord}
 use Rattle.model.proofs.RefusalLaws.{both-accepted}
-use Rattle.transcript.specs.Contracts.{countedLine, listedLine, LineWritten}
+use Rattle.lines.specs.Contracts.{countedLine, listedLine, LineWritten}
 use Rattle.reading.specs.declared.Listed.{Listed}
 use Rattle.reading.specs.declared.QuantileRead.{QuantileRead}
 use Rattle.reading.specs.Contracts.{listRefusal, Lists, ReadsQuantile}

@@ -12,7 +12,7 @@ use lib.Seq.{getD-drop, drop-drop}
 use Rattle.model.specs.declared.Message.{Message}
 use Rattle.model.specs.Messages.{message}
 use Rattle.model.specs.Transcript.{messageLine, messageLines}
-use Rattle.transcript.specs.Contracts.{RecordWritten}
+use Rattle.lines.specs.Contracts.{RecordWritten}
 use Rattle.tracker.specs.Batch.{messagesIn}
 use Rattle.session_steps.specs.Output.{Written, writtenTo, atStart, linesAfter, linesOf, MessagesWritten}
 use Rattle.session_steps.proofs.OutputLaws.{line-written}

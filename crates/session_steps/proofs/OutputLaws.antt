@@ -17,7 +17,7 @@ use Rattle.model.specs.declared.Message.{Message}
 use Rattle.model.specs.Transcript.{messageLine, messageLines, refusedLine}
 use Rattle.worklist.specs.Contracts.{writtenAt}
 use Rattle.worklist.proofs.WritingLaws.{length-written}
-use Rattle.transcript.specs.Contracts.{fit, LineWritten}
+use Rattle.lines.specs.Contracts.{fit, LineWritten}
 use Rattle.session_steps.specs.declared.Session.{Session}
 use Rattle.session_steps.specs.declared.Turn.{Turn}
 use Rattle.session_steps.specs.Output.{Written, writtenTo, atStart, lineAfter, linesAfter, linesOf}

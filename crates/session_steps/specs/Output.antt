@@ -13,7 +13,7 @@ use Rattle.model.specs.declared.Message.{Message}
 use Rattle.model.specs.Choice.{if_then_else_}
 use Rattle.model.specs.Transcript.{messageLine, messageLines}
 use Rattle.worklist.specs.Contracts.{writtenAt}
-use Rattle.transcript.specs.Contracts.{fit}
+use Rattle.lines.specs.Contracts.{fit}
 use Rattle.tracker.specs.Batch.{messagesIn}
 
 -- The bytes of the output, and how many of them are written.

@@ -19,7 +19,7 @@ use Rattle.model.specs.Reading.{heavyHitters, quantileOf}
 use Rattle.model.specs.Runs.{Batch}
 use Rattle.model.specs.Transcript.{endLine, classWord, messagesWord, quantileWord, messageLines}
 use Rattle.reader.specs.declared.Step.{Step}
-use Rattle.transcript.specs.Contracts.{countedLine, listedLine}
+use Rattle.lines.specs.Contracts.{countedLine, listedLine}
 use Rattle.reading.specs.Contracts.{listRefusal}
 use Rattle.tracker.specs.Batch.{BatchCall, startRefusal, batchIn, unlessRefused, sitesAfter, messageNumbers}
 use Rattle.session_steps.specs.declared.Session.{Session}

@@ -41,7 +41,7 @@ fn put_messages(log: &[u64], count: usize, out: &mut [u8]) -> usize
     let mut done: usize = 0;
     while done < count {
         let i = 4 * done;
-        place = transcript::write_record(log[i], log[i + 1], log[i + 2], log[i + 3], out, place);
+        place = lines::write_record(log[i], log[i + 1], log[i + 2], log[i + 3], out, place);
         done += 1;
     }
     place

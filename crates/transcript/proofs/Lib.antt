@@ -1,6 +1,2 @@
--- Laws of writing that the functions' proofs share.
-pub mod PutLaws
-pub mod RoomLaws
-pub mod LinesLaws
-pub mod SpacedLaws
+-- How long the lines are.
 pub mod LineBounds

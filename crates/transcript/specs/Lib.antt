@@ -1,3 +1,2 @@
--- What the calls of this crate promise, and what holds of the lines they write.
-pub mod Contracts
+-- What holds of the lines that this crate writes.
 pub mod LineClaims

@@ -12,7 +12,7 @@ use Rattle.model.specs.declared.Quantile.the-variants.{Nothing, Value}
 use Rattle.model.specs.Messages.{noMessage}
 use Rattle.model.specs.Decimal.{decimal}
 use Rattle.model.specs.Transcript.{endLine, messageLine, messageLines, refusedLine, classWord, quantileWord, messagesWord}
-use Rattle.transcript.specs.Contracts.{countedLine, listedLine}
+use Rattle.lines.specs.Contracts.{countedLine, listedLine}
 
 pub record MachineMessage (m : Message) : Type 0 where
   pub kind : m .kind < 2 ^ 32

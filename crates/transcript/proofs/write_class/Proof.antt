@@ -3,7 +3,7 @@ use mathlib.Core.Path.{_≡_, sym, ap, subst}
 use mathlib.Core.List.{List, _++_}
 use Rattle.model.specs.declared.Quantile.{Quantile}
 use Rattle.model.specs.Transcript.{endLine, classWord, quantileWord}
-use Rattle.transcript.specs.Contracts.{LineWritten}
+use Rattle.lines.specs.Contracts.{LineWritten}
 use borrow.Author.Needs.{needs}
 use Rattle.transcript.proofs.write_class.Statement.{statement}
 use Rattle.transcript.proofs.write_class.Tie as tie

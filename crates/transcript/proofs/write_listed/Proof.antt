@@ -4,8 +4,8 @@ use mathlib.Core.List.{List}
 use Prim.Native.Nat.{ℕ}
 use native.Mathlib.Omega.{arith}
 use lib.ListN.{length-take}
-use Rattle.transcript.specs.Contracts.{listedLine, LineWritten}
-use Rattle.transcript.proofs.SpacedLaws.{take-lesser}
+use Rattle.lines.specs.Contracts.{listedLine, LineWritten}
+use Rattle.lines.proofs.SpacedLaws.{take-lesser}
 use borrow.Author.Needs.{needs}
 use Rattle.transcript.proofs.write_listed.Statement.{statement}
 use Rattle.transcript.proofs.write_listed.Tie as tie

@@ -1,6 +1,6 @@
-// The parts of the batch call: its start, and one arrival of it. The functions that require
-// something are internal: what they require is decided by `open_batch`, with which the calls of crate
-// `tracker` begin, and holds after each accepted arrival.
+// The parts of the batch call: its start, and one arrival of it. The functions are internal: the
+// calls of crate `tracker` call them. What some of them require is decided by `open_batch`, with
+// which these calls begin, and holds after each accepted arrival.
 
 ghost use mathlib.Core.Path.{_≡_};
 ghost use Rattle.tracker_steps.specs.Steps.{OpenSays, OneAsks, OneSays, placesRefusal, PlacesAsk, lentOf};

@@ -1,5 +1,3 @@
--- Laws that the proofs of the boundary share.
-pub mod Reading
-pub mod Writing
-pub mod Lending
+-- Laws that the proofs of the boundary's calls share.
+pub mod Handing
 pub mod Delivering

@@ -2,12 +2,10 @@
 -- nothing is changed; else the answer is the refusal of the call behind it, whose own promise holds
 -- of the records that the numbers stand for, and the lent numbers are those of what it hands back.
 --
---   Exported fits Handed Kept     Handed where what is lent fits, else Kept
 --   Hands ..                      what a call hands back
 --   HandsObserved ..              the same of each call
 use mathlib.Core.Path.{_≡_}
-use mathlib.Core.Bool.{Bool, true, false}
-use mathlib.Core.List.{List, [], _∷_, map}
+use mathlib.Core.List.{List, [], _∷_}
 use Prim.Native.Nat.{ℕ}
 use lib.IntN.{ℤ, pos}
 use lib.ListN.{length}
@@ -29,24 +27,10 @@ use Rattle.reading.specs.declared.Listed.{Listed}
 use Rattle.reading.specs.declared.Margin.{Margin}
 use Rattle.reading.specs.declared.QuantileRead.{QuantileRead}
 use Rattle.reading.specs.Contracts.{listRefusal, marginRefusal, Lists, ReadsQuantile}
-use Rattle.testing.specs.Numbers.{settingsFrom, siteFrom, siteNumbers, sitesNumbers, oneMessage, twoMessages, coordinatorFrom, coordinatorNumbers, quantileNumbers}
-use Rattle.testing.specs.Openings.{Slice, given, Lent, lent, placesLent, siteLent, coordinatorLent, Writes}
+use Rattle.testing_numbers.specs.Numbers.{settingsFrom, siteFrom, siteNumbers, sitesNumbers, oneMessage, twoMessages, coordinatorFrom, coordinatorNumbers, quantileNumbers}
+use Rattle.testing_numbers.specs.Openings.{Slice, given, Lent, lent, placesLent, siteLent, coordinatorLent, Writes, unfit, Kept, Exported}
 
--- ---- Both cases
-
--- The answer where what is lent does not fit the boundary.
-abbrev pub unfit : ℕ
-unfit = 255
-
--- That answer, and all as it was.
-pub record Kept (lents : List Lent) (answer : ℕ) : Type 0 where
-  pub refused : answer ≡ unfit
-  pub unchanged : map (λ (l : Lent). l .after) lents ≡ map (λ (l : Lent). l .before) lents
-
--- One promise where what is lent fits, another where it does not.
-pub record Exported (fits : Bool) (Handed Unchanged : Type 0) : Type 0 where
-  pub handed : fits ≡ true → Handed
-  pub kept : fits ≡ false → Unchanged
+-- ---- What is handed back
 
 -- What a call hands back: the refusal of the call behind it, and in the lent numbers a result of
 -- which that call's own promise holds.

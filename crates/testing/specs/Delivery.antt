@@ -15,9 +15,8 @@ use Rattle.history.specs.State.{Held}
 use Rattle.public_delivery.specs.declared.DeliveryAnswer.{DeliveryAnswer}
 use Rattle.public_delivery.specs.Progress.{heldBy}
 use Rattle.public_delivery.specs.Delivery.{deliveryRefusal, DeliverySays}
-use Rattle.testing.specs.Numbers.{greatestNarrow, greatestHeld, settingsFrom, sitesFrom, sitesNumbers, coordinatorFrom, coordinatorNumbers}
-use Rattle.testing.specs.Openings.{Slice, Lent, lent, networkLent, Writes}
-use Rattle.testing.specs.Calls.{Kept, Exported}
+use Rattle.testing_numbers.specs.Numbers.{greatestNarrow, greatestHeld, settingsFrom, sitesFrom, sitesNumbers, coordinatorFrom, coordinatorNumbers}
+use Rattle.testing_numbers.specs.Openings.{Slice, Lent, lent, networkLent, Writes, Kept, Exported}
 
 -- A truth value as a number.
 abbrev pub oneIf : Bool → ℕ

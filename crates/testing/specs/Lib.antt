@@ -1,5 +1,3 @@
--- The boundary's numbers, and what its calls promise.
-pub mod Numbers
-pub mod Openings
+-- What the calls of the boundary promise.
 pub mod Calls
 pub mod Delivery

@@ -1,21 +1,20 @@
 // The calls on the coordinator, those that read it included.
-ghost use mathlib.Core.Path.{_≡_};
 ghost use lib.ListN.{length};
 ghost use Rattle.model.specs.Messages.{message};
 ghost use Prim.Native.Nat.{_≤_};
-ghost use Rattle.testing.specs.Openings.{lent};
+ghost use Rattle.testing_numbers.specs.Openings.{lent};
 ghost use Rattle.testing.specs.Calls.{HandsReceived, StartCoordinatorExported, ReceiptExported, AnnouncementExported, ListExported, MarginExports, MarginRefusalExported, MarginExported, QuantileExported};
-use crate::coordinator_numbers::COORDINATOR_NUMBERS;
-use crate::coordinator_numbers::write_coordinator;
-use crate::coordinator_numbers::write_quantile;
-use crate::numbers::ONE_MESSAGE;
-use crate::numbers::write_message;
-use crate::openings::UNFIT;
-use crate::openings::open_coordinator;
-use crate::openings::open_places;
 use coordinator::Received;
 use model::Message;
 use reading::Margin;
+use testing_numbers::coordinator_numbers::COORDINATOR_NUMBERS;
+use testing_numbers::coordinator_numbers::write_coordinator;
+use testing_numbers::coordinator_numbers::write_quantile;
+use testing_numbers::numbers::ONE_MESSAGE;
+use testing_numbers::numbers::write_message;
+use testing_numbers::openings::UNFIT;
+use testing_numbers::openings::open_coordinator;
+use testing_numbers::openings::open_places;
 
 // `coordinator::start_coordinator`: the record goes to `numbers`.
 #[no_mangle]

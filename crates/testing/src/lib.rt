@@ -1,8 +1,5 @@
 // The test boundary: every call but the batch call (crate `testing_batches`) on numbers and slices
 // of numbers, for tests in other languages. No product crate names it.
-pub mod coordinator_numbers;
 pub mod coordinators;
-pub mod numbers;
-pub mod openings;
 pub mod public_deliveries;
 pub mod sites;

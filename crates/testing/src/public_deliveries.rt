@@ -1,16 +1,16 @@
 // An arrival with full delivery by the public calls.
 ghost use mathlib.Core.Path.{_≡_};
 ghost use Rattle.model.specs.Instances.{arrivalWith};
-ghost use Rattle.testing.specs.Openings.{given};
+ghost use Rattle.testing_numbers.specs.Openings.{given};
 ghost use Rattle.testing.specs.Delivery.{oneIf, deliveryLends, DeliveryAsks, HandsDelivery, DeliveryExported};
-use crate::coordinator_numbers::coordinator_from;
-use crate::coordinator_numbers::write_coordinator;
-use crate::numbers::settings_from;
-use crate::numbers::sites_from;
-use crate::numbers::write_sites;
-use crate::openings::UNFIT;
-use crate::openings::network_lent;
 use model::Arrival;
+use testing_numbers::coordinator_numbers::coordinator_from;
+use testing_numbers::coordinator_numbers::write_coordinator;
+use testing_numbers::numbers::settings_from;
+use testing_numbers::numbers::sites_from;
+use testing_numbers::numbers::write_sites;
+use testing_numbers::openings::UNFIT;
+use testing_numbers::openings::network_lent;
 
 // A truth value as a number.
 fn one_if(truth: bool) -> u64

@@ -1,20 +1,19 @@
 // The calls on sites.
-ghost use mathlib.Core.Path.{_≡_};
 ghost use Rattle.model.specs.Instances.{arrivalWith};
 ghost use Rattle.model.specs.Messages.{message};
 ghost use Rattle.testing.specs.Calls.{StartSitesExported, ObserveExported, ReplyExported};
-use crate::numbers::ONE_MESSAGE;
-use crate::numbers::SITES_NUMBERS;
-use crate::numbers::TWO_MESSAGES;
-use crate::numbers::write_message;
-use crate::numbers::write_messages;
-use crate::numbers::write_site;
-use crate::numbers::write_sites;
-use crate::openings::UNFIT;
-use crate::openings::open_places;
-use crate::openings::open_site;
 use model::Arrival;
 use model::Message;
+use testing_numbers::numbers::ONE_MESSAGE;
+use testing_numbers::numbers::SITES_NUMBERS;
+use testing_numbers::numbers::TWO_MESSAGES;
+use testing_numbers::numbers::write_message;
+use testing_numbers::numbers::write_messages;
+use testing_numbers::numbers::write_site;
+use testing_numbers::numbers::write_sites;
+use testing_numbers::openings::UNFIT;
+use testing_numbers::openings::open_places;
+use testing_numbers::openings::open_site;
 
 // `site::start_sites`: the records go to `sites`.
 #[no_mangle]

@@ -16,11 +16,10 @@ use Rattle.model.specs.declared.CoordinatorRecord.{CoordinatorRecord}
 use Rattle.tracker_steps.specs.declared.BatchAnswer.{BatchAnswer}
 use Rattle.tracker.specs.Batch.{BatchSays}
 use Rattle.testing_batches.specs.declared.Opening.{Opening}
-use Rattle.testing.specs.Numbers.{settingsFrom, sitesFrom, coordinatorFrom}
-use Rattle.testing.specs.Openings.{Lent, change}
-use Rattle.testing.specs.Calls.{Kept}
+use Rattle.testing_numbers.specs.Numbers.{settingsFrom, sitesFrom, coordinatorFrom}
+use Rattle.testing_numbers.specs.Openings.{Lent, change, Kept}
 use Rattle.testing_batches.specs.Batch.{batchFits, openingOf, noOpening, openingFrom, Opens, ClosesAsk, Closes, BatchLends, allLent, callOf, leftBy, BatchExports}
-use Rattle.testing.proofs.Lending.{NetworkLent, network-is}
+use Rattle.testing_numbers.proofs.Lending.{NetworkLent, network-is}
 
 pub batch-fits : (settings sites coordinator : List ℕ) (places : ℕ)
     → batchFits settings sites coordinator places ≡ true

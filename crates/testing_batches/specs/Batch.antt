@@ -6,10 +6,9 @@
 --   Opens, ClosesAsk, Closes      the two parts
 --   BatchExported ..              the promise
 use mathlib.Core.Path.{_≡_}
-use mathlib.Core.Bool.{Bool, true, false, _&&_}
+use mathlib.Core.Bool.{Bool, true, false}
 use mathlib.Core.List.{List, [], _∷_}
 use Prim.Native.Nat.{ℕ, _≤_}
-use lib.Dec.{leb}
 use lib.ListN.{length}
 use denote.Ref.{RefT, now}
 use denote.Triple.Both.{Both}
@@ -18,9 +17,8 @@ use Rattle.model.specs.Choice.{if_then_else_}
 use Rattle.tracker_steps.specs.declared.BatchAnswer.{BatchAnswer}
 use Rattle.tracker.specs.Batch.{BatchCall, BatchLent, BatchSays}
 use Rattle.testing_batches.specs.declared.Opening.{Opening}
-use Rattle.testing.specs.Numbers.{settingsFrom, zeroSettings, sitesFrom, zeroSites, sitesNumbers, coordinatorFrom, zeroCoordinator, coordinatorNumbers}
-use Rattle.testing.specs.Openings.{Slice, given, Lent, lent, networkLent, Writes}
-use Rattle.testing.specs.Calls.{Kept, Exported}
+use Rattle.testing_numbers.specs.Numbers.{settingsFrom, zeroSettings, sitesFrom, zeroSites, sitesNumbers, coordinatorFrom, zeroCoordinator, coordinatorNumbers}
+use Rattle.testing_numbers.specs.Openings.{Slice, given, Lent, lent, networkLent, Writes, Kept, Exported}
 
 -- ---- What is lent
 

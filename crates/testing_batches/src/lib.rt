@@ -1,22 +1,22 @@
 // The batch call, over a lent run of arrivals. Before it the records are made from the numbers, and
 // after it they are written back; what does not fit becomes settings that the tracker refuses.
 ghost use mathlib.Core.Path.{_≡_};
-ghost use Rattle.testing.specs.Openings.{given, lent};
+ghost use Rattle.testing_numbers.specs.Openings.{given, lent};
 ghost use Rattle.testing_batches.specs.Batch.{batchFits, noOpening, Opens, ClosesAsk, Closes, BatchExported};
 use model::Arrival;
 use model::CoordinatorRecord;
 use model::Settings;
 use model::Sites;
-use testing::coordinator_numbers::coordinator_from;
-use testing::coordinator_numbers::write_coordinator;
-use testing::coordinator_numbers::zero_coordinator;
-use testing::numbers::settings_from;
-use testing::numbers::sites_from;
-use testing::numbers::write_sites;
-use testing::numbers::zero_settings;
-use testing::numbers::zero_sites;
-use testing::openings::UNFIT;
-use testing::openings::network_lent;
+use testing_numbers::coordinator_numbers::coordinator_from;
+use testing_numbers::coordinator_numbers::write_coordinator;
+use testing_numbers::coordinator_numbers::zero_coordinator;
+use testing_numbers::numbers::settings_from;
+use testing_numbers::numbers::sites_from;
+use testing_numbers::numbers::write_sites;
+use testing_numbers::numbers::zero_settings;
+use testing_numbers::numbers::zero_sites;
+use testing_numbers::openings::UNFIT;
+use testing_numbers::openings::network_lent;
 use tracker_steps::BatchAnswer;
 
 // What the batch call is given, and whether what is lent fits.

@@ -3,8 +3,8 @@ use mathlib.Core.Path.{refl}
 use lib.ListN.{length-set}
 use native.Mathlib.Omega.{arith}
 use Rattle.testing_batches.specs.Batch.{countsNumbers}
-use Rattle.testing.proofs.Lending.{exported-handed, exported-kept}
-use Rattle.testing.proofs.Writing.{written}
+use Rattle.testing_numbers.proofs.Lending.{exported-handed, exported-kept}
+use Rattle.testing_numbers.proofs.Writing.{written}
 use borrow.Author.Needs.{needs}
 use Rattle.testing_batches.proofs.close_lent.Statement.{statement}
 use Rattle.testing_batches.proofs.close_lent.Tie as tie

@@ -1,6 +1,6 @@
 -- What is lent fits, and the margin is read or refused; or 255 and 0.
 use mathlib.Core.Path.{refl, sym, _∙_}
-use Rattle.testing.proofs.Lending.{coordinator-room, exported-handed, exported-kept}
+use Rattle.testing_numbers.proofs.Lending.{exported-handed, exported-kept}
 use borrow.Author.Needs.{needs}
 use Rattle.testing.proofs.coordinators.margin_lent.Statement.{statement}
 use Rattle.testing.proofs.coordinators.margin_lent.Tie as tie

@@ -1,8 +1,9 @@
 -- What is lent fits, and the items are listed or refused; or nothing is changed.
 use mathlib.Core.Path.{refl}
 use mathlib.Core.List.{[], _∷_}
-use Rattle.testing.proofs.Lending.{room, coordinator-enough, hands, keeps}
-use Rattle.testing.proofs.Writing.{written}
+use Rattle.testing_numbers.proofs.Lending.{room, coordinator-enough}
+use Rattle.testing_numbers.proofs.Writing.{written}
+use Rattle.testing.proofs.Handing.{hands, keeps}
 use borrow.Author.Needs.{needs}
 use Rattle.testing.proofs.coordinators.testing_list_heavy_hitters.Statement.{statement}
 use Rattle.testing.proofs.coordinators.testing_list_heavy_hitters.Tie as tie

@@ -1,6 +1,7 @@
 -- What is lent fits, and the next kind 7 goes out or is refused; or nothing is changed.
 use mathlib.Core.Path.{refl}
-use Rattle.testing.proofs.Lending.{room, hands, keeps}
+use Rattle.testing_numbers.proofs.Lending.{room}
+use Rattle.testing.proofs.Handing.{hands, keeps}
 use borrow.Author.Needs.{needs}
 use Rattle.testing.proofs.coordinators.testing_next_announcement.Statement.{statement}
 use Rattle.testing.proofs.coordinators.testing_next_announcement.Tie as tie

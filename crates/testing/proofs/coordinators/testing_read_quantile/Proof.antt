@@ -1,6 +1,7 @@
 -- What is lent fits, and the quantile is read or refused; or nothing is changed.
 use mathlib.Core.Path.{refl}
-use Rattle.testing.proofs.Lending.{room, hands, keeps}
+use Rattle.testing_numbers.proofs.Lending.{room}
+use Rattle.testing.proofs.Handing.{hands, keeps}
 use borrow.Author.Needs.{needs}
 use Rattle.testing.proofs.coordinators.testing_read_quantile.Statement.{statement}
 use Rattle.testing.proofs.coordinators.testing_read_quantile.Tie as tie

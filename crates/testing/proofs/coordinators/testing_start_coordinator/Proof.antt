@@ -1,6 +1,7 @@
 -- The settings and the places fit, and the coordinator is started; or nothing is changed.
 use mathlib.Core.Path.{refl}
-use Rattle.testing.proofs.Lending.{room, hands, keeps}
+use Rattle.testing_numbers.proofs.Lending.{room}
+use Rattle.testing.proofs.Handing.{hands, keeps}
 use borrow.Author.Needs.{needs}
 use Rattle.testing.proofs.coordinators.testing_start_coordinator.Statement.{statement}
 use Rattle.testing.proofs.coordinators.testing_start_coordinator.Tie as tie

@@ -3,7 +3,7 @@ use Prim.Native.Nat.{ℕ}
 use mathlib.Core.Path.{ap, _∙_}
 use mathlib.Core.List.{[], _∷_}
 use Rattle.model.specs.SiteMemory.{overwrite}
-use Rattle.testing.proofs.Writing.{written}
+use Rattle.testing_numbers.proofs.Writing.{written}
 use Rattle.testing.proofs.Delivering.{says-of-numbers}
 use borrow.Author.Needs.{needs}
 use Rattle.testing.proofs.public_deliveries.deliver_lent.Statement.{statement}

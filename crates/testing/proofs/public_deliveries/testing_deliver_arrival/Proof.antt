@@ -1,7 +1,7 @@
 -- What is lent fits, and the arrival is delivered or refused; or nothing is changed.
 use mathlib.Core.Path.{refl, sym, _∙_}
 use lib.ListN.{length}
-use Rattle.testing.proofs.Lending.{network-is, exported-handed, exported-kept}
+use Rattle.testing_numbers.proofs.Lending.{network-is, exported-handed, exported-kept}
 use borrow.Author.Needs.{needs}
 use Rattle.testing.proofs.public_deliveries.testing_deliver_arrival.Statement.{statement}
 use Rattle.testing.proofs.public_deliveries.testing_deliver_arrival.Tie as tie

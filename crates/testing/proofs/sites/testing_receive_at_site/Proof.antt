@@ -1,6 +1,7 @@
 -- What is lent fits, and the message is taken or refused; or nothing is changed.
 use mathlib.Core.Path.{refl}
-use Rattle.testing.proofs.Lending.{room, hands, keeps}
+use Rattle.testing_numbers.proofs.Lending.{room}
+use Rattle.testing.proofs.Handing.{hands, keeps}
 use borrow.Author.Needs.{needs}
 use Rattle.testing.proofs.sites.testing_receive_at_site.Statement.{statement}
 use Rattle.testing.proofs.sites.testing_receive_at_site.Tie as tie

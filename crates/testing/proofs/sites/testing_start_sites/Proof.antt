@@ -1,6 +1,7 @@
 -- The settings and the places fit, and all sites are started; or nothing is changed.
 use mathlib.Core.Path.{refl}
-use Rattle.testing.proofs.Lending.{room, hands, keeps}
+use Rattle.testing_numbers.proofs.Lending.{room}
+use Rattle.testing.proofs.Handing.{hands, keeps}
 use borrow.Author.Needs.{needs}
 use Rattle.testing.proofs.sites.testing_start_sites.Statement.{statement}
 use Rattle.testing.proofs.sites.testing_start_sites.Tie as tie

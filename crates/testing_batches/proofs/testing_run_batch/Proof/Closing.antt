@@ -24,7 +24,7 @@ use denote.Steps.{nothing, owned}
 use denote.Triple.Call.{calls-at}
 use denote.Triple.Clauses.{lasts}
 use denote.Triple.Walked.{says, ends-at}
-use Rattle.testing.specs.Openings.{change}
+use Rattle.testing_numbers.specs.Openings.{change}
 use Rattle.testing_batches.specs.Batch.{Closes, BatchLends}
 use Rattle.testing_batches.proofs.Batching.{batch-exported}
 use Rattle.model.proofs.Arrival as T

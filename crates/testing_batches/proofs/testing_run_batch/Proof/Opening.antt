@@ -25,7 +25,7 @@ use denote.Struct.Laws as LL
 use denote.Triple.Call.{calls-at}
 use denote.Triple.Clauses.{lasts}
 use Rattle.testing_batches.specs.declared.Opening.{Opening}
-use Rattle.testing.specs.Openings.{change}
+use Rattle.testing_numbers.specs.Openings.{change}
 use Rattle.testing_batches.specs.Batch.{Opens}
 use Rattle.testing_batches.proofs.Opening as O
 use Rattle.testing_batches.proofs.Opening.Laws as O′

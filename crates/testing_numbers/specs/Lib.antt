@@ -1,0 +1,3 @@
+-- Records as plain numbers, and what is lent to the boundary.
+pub mod Numbers
+pub mod Openings

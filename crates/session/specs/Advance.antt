@@ -23,7 +23,7 @@ use Rattle.model.specs.Transcript.{endLine, classWord, messagesWord, quantileWo
 use Rattle.reader.specs.declared.Step.{Step}
 use Rattle.reader.specs.Walk.{stepAt}
 use Rattle.transcript.specs.Contracts.{countedLine, listedLine}
-use Rattle.reading.specs.Contracts.{listRefusal}
+use Rattle.listing.specs.Contracts.{listRefusal}
 use Rattle.tracker.specs.Batch.{BatchCall, startRefusal, batchIn, unlessRefused, sitesAfter, messageNumbers}
 use Rattle.session.specs.declared.Session.{Session}
 use Rattle.session.specs.declared.Turn.{Turn}

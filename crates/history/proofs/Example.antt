@@ -15,7 +15,8 @@ use Rattle.model.specs.Messages.{noMessage, itemReport, countReport, poll, poll
 use Rattle.model.specs.NetworkMemory.{freshSites}
 use Rattle.model.specs.Instances.{settingsA, arrivalWith, draw}
 use Rattle.tracker.specs.Batch.{messageNumbers}
-use Rattle.reading.specs.Contracts.{Lists, ReadsQuantile}
+use Rattle.reading.specs.Contracts.{ReadsQuantile}
+use Rattle.listing.specs.Contracts.{Lists}
 use Rattle.history.specs.State.{State}
 use Rattle.history.specs.Histories.{Arrives, batch, single, Delivers, to-coordinator, to-site, next-announcement, Refuses, arrival-refused, coordinator-message-refused, Step, arrives, delivers, refuses, Reachable, started, stepped}
 use Rattle.history.specs.Example.{siteAfter, siteNumbers, coordinatorWith, coordinatorNumbers, allMessages, startedState, afterDraw, afterItemReport, afterCountReport, afterPoll, afterPollAnswer, afterAnnouncement, atRestAgain, afterBatchOfTwo}

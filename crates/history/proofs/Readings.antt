@@ -22,10 +22,11 @@ use Rattle.model.specs.Network.{Network}
 use Rattle.model.specs.Runs.{Run, runOf}
 use Rattle.model.specs.Claims.{counted, countOf, below, above, contains, Tracks, ListLaw, QuantilePromise}
 use Rattle.model.proofs.Theorem.{demands-over-runs}
-use Rattle.reading.specs.declared.Listed.{Listed}
 use Rattle.reading.specs.declared.Margin.{Margin}
 use Rattle.reading.specs.declared.QuantileRead.{QuantileRead}
-use Rattle.reading.specs.Contracts.{Lists, listRefusal, ReadsMargin, ReadsQuantile}
+use Rattle.reading.specs.Contracts.{ReadsMargin, ReadsQuantile}
+use Rattle.listing.specs.declared.Listed.{Listed}
+use Rattle.listing.specs.Contracts.{Lists, listRefusal}
 use Rattle.history.specs.State.{State, networkOf}
 use Rattle.history.specs.Reading.{rulesCoordinator, listedIn, ListRight, MarginRight, QuantileRight, ReadsRight}
 use Rattle.history.proofs.Invariant.{StateOk, Resting}

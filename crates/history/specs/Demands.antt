@@ -35,7 +35,8 @@ use Rattle.site_steps.specs.declared.Observed.{Observed}
 use Rattle.site.specs.Calls.{ObserveSays}
 use Rattle.site.specs.Calls as SiteCalls
 use Rattle.coordinator.specs.Calls as CoordinatorCalls
-use Rattle.reading.specs.Contracts.{listRefusal, marginRefusal}
+use Rattle.reading.specs.Contracts.{marginRefusal}
+use Rattle.listing.specs.Contracts.{listRefusal}
 use Rattle.tracker_steps.specs.declared.BatchAnswer.{BatchAnswer}
 use Rattle.tracker.specs.Batch.{BatchLent, BatchSays, logRoom}
 use Rattle.history.specs.State.{State, AtRest, networkOf, recordAt, sitePart}

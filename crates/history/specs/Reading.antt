@@ -18,10 +18,11 @@ use Rattle.model.specs.Coordinator.{Coordinator}
 use Rattle.model.specs.Reading.{heavyHitters, margin, quantileOf}
 use Rattle.model.specs.Runs.{runOf}
 use Rattle.model.specs.Claims.{counted, countOf, below, above, contains}
-use Rattle.reading.specs.declared.Listed.{Listed}
 use Rattle.reading.specs.declared.Margin.{Margin}
 use Rattle.reading.specs.declared.QuantileRead.{QuantileRead}
-use Rattle.reading.specs.Contracts.{Lists, ReadsMargin, ReadsQuantile}
+use Rattle.reading.specs.Contracts.{ReadsMargin, ReadsQuantile}
+use Rattle.listing.specs.declared.Listed.{Listed}
+use Rattle.listing.specs.Contracts.{Lists}
 use Rattle.history.specs.State.{State}
 
 -- The coordinator that document 01's rules give for the arrivals accepted so far.

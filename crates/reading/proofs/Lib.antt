@@ -1,5 +1,3 @@
--- The laws behind the calls that read the coordinator.
+-- The laws behind the margin call and the quantile call.
 pub mod Signed
-pub mod ListLaws
-pub mod WriteLaws
 pub mod ReadLaws

@@ -2,12 +2,11 @@
 -- for the least value.
 --
 --   read-asks, margin-tested        accepted tests give what reading asks
---   list-accepted, list-too-short   the list's refusal, by the test of its places
---   sides-ask, listed-is            the list rule of an item, by the number in memory
+--   sides-ask                       the sides of the list rule, by the number in memory
 --   values-ask                      the value counts, as the code cuts them out of the memory
 --   Searching, searching-start, searching-fits, searching-found, searching-on, searching-end
 --   quantile-none, quantile-counted, quantile-kept     the cases of `quantileOf`
-use mathlib.Core.Path.{_≡_, refl, ap, sym, _∙_}
+use mathlib.Core.Path.{_≡_, refl, ap, _∙_}
 use mathlib.Core.Bool.{Bool, true, false}
 use mathlib.Core.List.{List, _∷_}
 use Prim.Native.Nat.{ℕ, _+_, _-_, _*_, _≤_, _<_}
@@ -15,23 +14,22 @@ use native.Mathlib.Numerals.{add-one}
 use native.Mathlib.Omega.{arith}
 use lib.ListN.{length, getD, take, drop, length-take, drop-of-length-le}
 use lib.Seq.{getD-take, drop-cons}
-use lib.Dec.{leb, ltb}
-use borrow.Author.Tests.{le-leb, lt-leb, leb-true, leb-false, le-ltb, lt-ltb, eq-eqb, ne-eqb}
+use lib.Dec.{leb}
+use borrow.Author.Tests.{le-leb, lt-leb, leb-false, eq-eqb, ne-eqb}
 use Rattle.model.specs.declared.Settings.{Settings}
 use Rattle.model.specs.declared.CoordinatorRecord.{CoordinatorRecord}
 use Rattle.model.specs.declared.Quantile.the-variants.{Nothing, Value}
-use Rattle.model.specs.Refusals.{accepted, listTooShort}
+use Rattle.model.specs.Refusals.{accepted}
 use Rattle.model.specs.Limits.{coordinatorLimit}
 use Rattle.model.specs.Coordinator.{Coordinator, enough}
 use Rattle.model.specs.CoordinatorMemory.{coordinatorIn, coordinatorMemoryRefusal}
-use Rattle.model.specs.Reading.{isListed, leastValue, leastValueFrom, quantileOf}
+use Rattle.model.specs.Reading.{leastValue, leastValueFrom, quantileOf}
 use Rattle.model.proofs.RefusalLaws.{both-accepted, passed}
 use Rattle.model.proofs.SettingsLaws.{settled}
 use Rattle.coordinator_steps.proofs.StepLaws.{valueCount-is}
-use Rattle.coordinator_tests.proofs.Chains.{last-row}
 use Rattle.coordinator_tests.proofs.ConsistencyLaws.{histogram-part}
 use Rattle.coordinator_tests.proofs.ReadyLaws.{tested, within-of-consistent}
-use Rattle.reading.specs.Contracts.{ReadAsks, SidesAsk, ValuesAsk, hittersIn, ruleHolds, listRefusal, marginRefusal}
+use Rattle.reading.specs.Contracts.{ReadAsks, SidesAsk, ValuesAsk, marginRefusal}
 
 pub read-asks : (settings : Settings) (numbers : CoordinatorRecord) (memory : List ℕ)
     → coordinatorMemoryRefusal settings numbers memory ≡ accepted
@@ -63,25 +61,7 @@ margin-tested settings numbers item memory none =
       item-known = leb-false _ _ (item-row .test-failed);
     }
 
--- ---- Row 12 of the list, by the test of its places
-
-module _ (settings : Settings) (numbers : CoordinatorRecord) (memory : List ℕ) (places : ℕ)
-    (none : coordinatorMemoryRefusal settings numbers memory ≡ accepted) where
-  pub list-accepted : leb (length (hittersIn settings numbers memory)) places ≡ true
-      → listRefusal settings numbers memory places ≡ accepted
-  list-accepted fits =
-      let hitters = length (hittersIn settings numbers memory) in
-      last-row _ listTooShort (ltb places hitters) false none
-      (le-ltb places hitters (leb-true hitters places fits))
-
-  pub list-too-short : leb (length (hittersIn settings numbers memory)) places ≡ false
-      → listRefusal settings numbers memory places ≡ listTooShort
-  list-too-short fits-not =
-      let hitters = length (hittersIn settings numbers memory) in
-      last-row _ listTooShort (ltb places hitters) true none
-      (lt-ltb places hitters (leb-false hitters places fits-not))
-
--- ---- The list rule
+-- ---- The numbers of the list rule, and the value counts
 
 module _ (settings : Settings) (numbers : CoordinatorRecord) (memory : List ℕ)
     (asks : ReadAsks settings numbers memory) where
@@ -101,13 +81,6 @@ module _ (settings : Settings) (numbers : CoordinatorRecord) (memory : List ℕ)
         number-within = rw (getD-take (settings .universe) memory item 0 inside) at
             (within .estimates-within item);
       }
-
-  pub listed-is : (item : ℕ)
-      → item < settings .universe
-      → ruleHolds settings (numbers .total) (getD memory item 0) ≡ isListed settings here item
-  listed-is item inside =
-      ap (ruleHolds settings (numbers .total))
-      (sym (getD-take (settings .universe) memory item 0 inside))
 
   pub values-ask : ValuesAsk (settings .rank) (numbers .total)
       (take (settings .universe + 1024 - settings .universe) (drop (settings .universe) memory))

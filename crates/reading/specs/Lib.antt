@@ -1,2 +1,2 @@
--- What the calls that read the coordinator ask and promise, over the model's definitions.
+-- What the margin call and the quantile call ask and promise, over the model's definitions.
 pub mod Contracts

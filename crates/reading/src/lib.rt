@@ -1,27 +1,18 @@
-// Reading the coordinator: the list of heavy hitters, the margin of an item and the tracked
-// quantile. The record and the memory are not changed; the calls have no `requires` and test all
-// they are given.
+// Reading the coordinator: the margin of an item and the tracked quantile. The record and the
+// memory are not changed; the calls have no `requires` and test all they are given. The third call
+// that reads it, the list of heavy hitters, is crate `listing`'s.
 ghost use mathlib.Core.Path.{_≡_};
 ghost use Prim.Native.Nat.{_*_, _<_};
-ghost use lib.ListN.{length};
-ghost use lib.Dec.{leb};
 ghost use Rattle.model.specs.CoordinatorMemory.{coordinatorIn};
 ghost use Rattle.model.specs.Reading.{difference, leastValue, quantileOf};
-ghost use Rattle.reading.specs.Contracts.{Lists, ReadsMargin, ReadsQuantile, ReadAsks, WriteAsks, Writes, SidesAsk, ValuesAsk, hittersIn, marginRefusal, sideNeeded, ruleHolds};
+ghost use Rattle.reading.specs.Contracts.{ReadsMargin, ReadsQuantile, ReadAsks, SidesAsk, ValuesAsk, marginRefusal, sideNeeded};
 use coordinator_tests::consistency::coordinator_memory_refusal;
 use model::ACCEPTED;
 use model::CoordinatorRecord;
-use model::LIST_TOO_SHORT;
 use model::Quantile;
 use model::Settings;
 use model::UNKNOWN_ITEM;
 use model::VALUE_COUNT;
-
-// What the list call hands back: how many items it wrote.
-pub struct Listed {
-    pub refusal: u32,
-    pub count: u32,
-}
 
 // What the margin call hands back: 0 where it is refused.
 pub struct Margin {
@@ -35,109 +26,14 @@ pub struct QuantileRead {
     pub quantile: Quantile,
 }
 
-// (2p - e) × total, the side of the list rule that an item's number has to reach.
-fn side_needed(settings: Settings, total: u64, number: u64) -> u64
+// (2p - e) × total, the side of the list rule that an item's number has to reach. Internal: the
+// margin call, and crate `listing`'s list call, make the test `coordinator_memory_refusal` first.
+pub fn side_needed(settings: Settings, total: u64, number: u64) -> u64
     requires { ⌜ SidesAsk settings total number ⌝ }
     ensures { λ r. ⌜ r ≡ sideNeeded settings total ⌝ }
 {
     let share = 2 * (settings.phi as u64) - (settings.epsilon as u64);
     share * total
-}
-
-// Whether an item with this number is listed.
-fn is_listed(settings: Settings, total: u64, number: u64) -> bool
-    requires { ⌜ SidesAsk settings total number ⌝ }
-    ensures { λ r. ⌜ r ≡ ruleHolds settings total number ⌝ }
-{
-    if total < 1 {
-        return false;
-    }
-    side_needed(settings, total, number) <= 2000 * number
-}
-
-// Whether the listed items have places. All of them have where there is a place for every item;
-// only fewer places need a pass, which ends at the first listed item without one.
-fn list_fits(
-    settings: Settings,
-    coordinator: CoordinatorRecord,
-    memory: &[u64],
-    places: usize,
-) -> bool
-    requires { ⌜ ReadAsks settings coordinator (now memory) ⌝ }
-    ensures { λ r. ⌜ r ≡ leb (length (hittersIn settings coordinator (now (memory .entry))))
-        places ⌝ }
-{
-    let items = settings.universe as usize;
-    if items <= places {
-        return true;
-    }
-    let mut count = 0;
-    let mut item = 0;
-    while item < items {
-        if is_listed(settings, coordinator.total, memory[item]) {
-            count += 1;
-            if places < count {
-                return false;
-            }
-        }
-        item += 1;
-    }
-    true
-}
-
-// Writes the listed items to the front of a list that has the places, and says how many they are.
-fn write_listed(
-    settings: Settings,
-    coordinator: CoordinatorRecord,
-    memory: &[u64],
-    list: &mut [u32],
-) -> u32
-    requires { ⌜ WriteAsks settings coordinator (now memory) (now list) ⌝ }
-    ensures { λ r. ⌜ Writes settings coordinator (now (memory .entry)) (now (list .entry))
-        (now (list .exit)) r ⌝ }
-{
-    let items = settings.universe as usize;
-    let mut count = 0;
-    let mut next = 0;
-    while next < items {
-        if is_listed(settings, coordinator.total, memory[next]) {
-            list[count] = next as u32;
-            count += 1;
-        }
-        next += 1;
-    }
-    count as u32
-}
-
-// The items with a share of the arrivals, in rising order: one pass, where the list has a place for
-// every item. With fewer places another goes before, so that a list with too few stays as it was.
-pub fn list_heavy_hitters(
-    settings: Settings,
-    coordinator: CoordinatorRecord,
-    memory: &[u64],
-    list: &mut [u32],
-) -> Listed
-    ensures { λ r. ⌜ Lists settings coordinator (now (memory .entry)) (now (list .entry))
-        (now (list .exit)) r ⌝ }
-{
-    let refusal = coordinator_memory_refusal(settings, coordinator, memory);
-    if refusal != ACCEPTED {
-        return Listed {
-            refusal: refusal,
-            count: 0,
-        };
-    }
-    if list_fits(settings, coordinator, memory, list.len()) {
-        let count = write_listed(settings, coordinator, memory, list);
-        return Listed {
-            refusal: ACCEPTED,
-            count: count,
-        };
-    }
-    Listed {
-        refusal: LIST_TOO_SHORT,
-        count: 0,
-    }
 }
 
 // x - y, below zero too.

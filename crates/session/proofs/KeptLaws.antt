@@ -13,7 +13,7 @@ use Rattle.model.specs.Lines.{readFields}
 use Rattle.model.specs.Transcript.{refusedLine}
 use Rattle.reader.specs.declared.Step.{Step}
 use Rattle.tracker.specs.Batch.{batchIn}
-use Rattle.reading.specs.Contracts.{listRefusal}
+use Rattle.listing.specs.Contracts.{listRefusal}
 use Rattle.session_steps.specs.declared.Session.{Session}
 use Rattle.session_steps.specs.Output.{atStart, linesAfter, linesOf}
 use Rattle.session_steps.specs.Outcome.{Lent, Outcome, refusedOf}

@@ -24,7 +24,7 @@ use Rattle.model.specs.Transcript.{endLine, classWord, messagesWord, quantileWo
 use Rattle.coordinator_steps.proofs.StepLaws.{valueCount-is}
 use Rattle.lines.specs.Contracts.{countedLine, listedLine}
 use Rattle.transcript.proofs.LineBounds.{line-claims}
-use Rattle.reading.specs.Contracts.{listRefusal}
+use Rattle.listing.specs.Contracts.{listRefusal}
 use Rattle.history.proofs.RunSound.{sound-run, messages-within}
 use Rattle.history.proofs.Accepted.{memory-accepted}
 use Rattle.session_steps.specs.declared.Session.{Session}

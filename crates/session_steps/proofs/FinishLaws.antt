@@ -16,9 +16,10 @@ use Rattle.model.specs.Reading.{heavyHitters, quantileOf}
 use Rattle.model.specs.Transcript.{endLine, classWord, messagesWord, quantileWord}
 use Rattle.model.proofs.RefusalLaws.{both-accepted}
 use Rattle.lines.specs.Contracts.{countedLine, listedLine, LineWritten}
-use Rattle.reading.specs.declared.Listed.{Listed}
+use Rattle.listing.specs.declared.Listed.{Listed}
 use Rattle.reading.specs.declared.QuantileRead.{QuantileRead}
-use Rattle.reading.specs.Contracts.{listRefusal, Lists, ReadsQuantile}
+use Rattle.reading.specs.Contracts.{ReadsQuantile}
+use Rattle.listing.specs.Contracts.{listRefusal, Lists}
 use Rattle.session_steps.specs.declared.Session.{Session}
 use Rattle.session_steps.specs.declared.Turn.{Turn}
 use Rattle.session_steps.specs.Output.{Written, writtenTo, atStart, lineAfter, linesAfter}

@@ -20,7 +20,7 @@ use Rattle.model.specs.Runs.{Batch}
 use Rattle.model.specs.Transcript.{endLine, classWord, messagesWord, quantileWord, messageLines}
 use Rattle.reader.specs.declared.Step.{Step}
 use Rattle.lines.specs.Contracts.{countedLine, listedLine}
-use Rattle.reading.specs.Contracts.{listRefusal}
+use Rattle.listing.specs.Contracts.{listRefusal}
 use Rattle.tracker.specs.Batch.{BatchCall, startRefusal, batchIn, unlessRefused, sitesAfter, messageNumbers}
 use Rattle.session_steps.specs.declared.Session.{Session}
 use Rattle.session_steps.specs.declared.Turn.{Turn}

@@ -123,7 +123,7 @@ pub fn finish(session: Session, memory: &[u64], list: &mut [u32], out: &mut [u8]
 {
     let settings = session.settings;
     let coordinator = session.coordinator;
-    let listed = reading::list_heavy_hitters(settings, coordinator, memory, list);
+    let listed = listing::list_heavy_hitters(settings, coordinator, memory, list);
     if listed.refusal != ACCEPTED {
         return refuse(session, listed.refusal, out);
     }

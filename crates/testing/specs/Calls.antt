@@ -23,10 +23,11 @@ use Rattle.site.specs.Calls.{startRefusal, observeRefusal, receiveRefusal, Star
 use Rattle.coordinator.specs.declared.StartedCoordinator.{StartedCoordinator}
 use Rattle.coordinator.specs.declared.Received.{Received}
 use Rattle.coordinator.specs.Calls as coordinator
-use Rattle.reading.specs.declared.Listed.{Listed}
+use Rattle.listing.specs.declared.Listed.{Listed}
 use Rattle.reading.specs.declared.Margin.{Margin}
 use Rattle.reading.specs.declared.QuantileRead.{QuantileRead}
-use Rattle.reading.specs.Contracts.{listRefusal, marginRefusal, Lists, ReadsQuantile}
+use Rattle.reading.specs.Contracts.{marginRefusal, ReadsQuantile}
+use Rattle.listing.specs.Contracts.{listRefusal, Lists}
 use Rattle.testing_numbers.specs.Numbers.{settingsFrom, siteFrom, siteNumbers, sitesNumbers, oneMessage, twoMessages, coordinatorFrom, coordinatorNumbers, quantileNumbers}
 use Rattle.testing_numbers.specs.Openings.{Slice, given, Lent, lent, placesLent, siteLent, coordinatorLent, Writes, unfit, Kept, Exported}
 

@@ -93,7 +93,7 @@ pub extern "C" fn testing_next_announcement(
     UNFIT
 }
 
-// `reading::list_heavy_hitters`: the items go to `list`, their number to `out`.
+// `listing::list_heavy_hitters`: the items go to `list`, their number to `out`.
 #[no_mangle]
 pub extern "C" fn testing_list_heavy_hitters(
     settings: &[u32],
@@ -106,7 +106,7 @@ pub extern "C" fn testing_list_heavy_hitters(
 {
     let opened = open_coordinator(settings, numbers, out.len(), 1);
     if opened.fits {
-        let listed = reading::list_heavy_hitters(opened.settings, opened.coordinator, memory, list);
+        let listed = listing::list_heavy_hitters(opened.settings, opened.coordinator, memory, list);
         out[0] = listed.count as u64;
         return listed.refusal;
     }

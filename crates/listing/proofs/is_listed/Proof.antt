@@ -4,8 +4,8 @@ use lib.Dec.{leb}
 use mathlib.Core.Path.{ap}
 use Prim.Native.Nat.{ℕ, _*_}
 use borrow.Author.Needs.{needs}
-use Rattle.reading.proofs.is_listed.Statement.{statement}
-use Rattle.reading.proofs.is_listed.Tie as tie
+use Rattle.listing.proofs.is_listed.Statement.{statement}
+use Rattle.listing.proofs.is_listed.Tie as tie
 
 returns : tie.Need-returns
 returns c = rw (lt-leb _ _ (c .if1 .taken))

@@ -4,11 +4,12 @@ use mathlib.Core.Logic.{⊎-elim}
 use mathlib.Core.Path.{refl, sym, _∙_}
 use Prim.Native.Nat.{_-_}
 use borrow.Author.Needs.{needs}
-use Rattle.reading.proofs.ReadLaws.{sides-ask, listed-is}
-use Rattle.reading.proofs.ListLaws.{Fitting, fitting-yes, fitting-no, fits-all, fits-not, fits-end}
+use Rattle.reading.proofs.ReadLaws.{sides-ask}
+use Rattle.listing.proofs.CallLaws.{listed-is}
+use Rattle.listing.proofs.ListLaws.{Fitting, fitting-yes, fitting-no, fits-all, fits-not, fits-end}
 use Rattle.model.specs.CoordinatorMemory.{coordinatorIn}
-use Rattle.reading.proofs.list_fits.Statement.{statement}
-use Rattle.reading.proofs.list_fits.Tie as tie
+use Rattle.listing.proofs.list_fits.Statement.{statement}
+use Rattle.listing.proofs.list_fits.Tie as tie
 
 abbrev Inv-loop : tie.InvT-loop
 Inv-loop settings coordinator memory places items count₀ item₀ count item = Fitting settings
@@ -65,7 +66,7 @@ returns-2 c =
     (start .args .places) (at-loop .loop .count) (at-loop .loop .item) (at-loop .loop .inv)
     (c .before .before .before .before .loop-test .taken)
     (sym (c .before .before .is-listed .ensures ∙ listed-is (start .args .settings)
-    (start .args .coordinator) (start .args .memory .now) (start .pre) (at-loop .loop .item)
+    (start .args .coordinator) (start .args .memory .now) (at-loop .loop .item)
     (c .before .before .before .before .loop-test .taken))
     ∙ c .before .if2 .taken)
     (c .if3 .taken))
@@ -89,8 +90,8 @@ loop-again c =
     let item = at-loop .loop .item in
     let so-far = at-loop .loop .inv in
     let inside = c .before .before .before .loop-test .taken in
-    let rule = sym (c .before .is-listed .ensures ∙ listed-is settings numbers memory (start .pre)
-    item inside) in
+    let rule = sym (c .before .is-listed .ensures ∙ listed-is settings numbers memory item
+    inside) in
     ⊎-elim
     (λ w. rw (w .2)
     (fitting-yes settings here places count item so-far inside (rule ∙ w .0 .taken) (w .1 .left)))

@@ -6,13 +6,14 @@ use mathlib.Core.Logic.{⊎-elim}
 use mathlib.Core.Path.{sym, _∙_}
 use Prim.Native.Nat.{_-_, _<_}
 use borrow.Author.Needs.{needs}
-use Rattle.reading.proofs.ReadLaws.{sides-ask, listed-is}
-use Rattle.reading.proofs.ListLaws.{counting-end, one-more-listed, listed-few}
-use Rattle.reading.proofs.WriteLaws.{Writing, writing-start, writing-yes, writing-no, writing-end}
+use Rattle.reading.proofs.ReadLaws.{sides-ask}
+use Rattle.listing.proofs.CallLaws.{listed-is}
+use Rattle.listing.proofs.ListLaws.{counting-end, one-more-listed, listed-few}
+use Rattle.listing.proofs.WriteLaws.{Writing, writing-start, writing-yes, writing-no, writing-end}
 use Rattle.model.proofs.SettingsLaws.{settled}
 use Rattle.model.specs.CoordinatorMemory.{coordinatorIn}
-use Rattle.reading.proofs.write_listed.Statement.{statement}
-use Rattle.reading.proofs.write_listed.Tie as tie
+use Rattle.listing.proofs.write_listed.Statement.{statement}
+use Rattle.listing.proofs.write_listed.Tie as tie
 
 abbrev Inv-loop : tie.InvT-loop
 Inv-loop settings coordinator memory list₀ items count₀ next₀ list count next = Writing settings
@@ -70,8 +71,7 @@ place c =
     let inside = c .before .before .before .loop-test .taken in
     let listed = one-more-listed settings (coordinatorIn settings numbers memory)
     (at-loop .loop .count) item (at-loop .loop .inv .counting) inside
-    (sym (c .before .is-listed .ensures ∙ listed-is settings numbers memory (start .pre .reading)
-    item inside)
+    (sym (c .before .is-listed .ensures ∙ listed-is settings numbers memory item inside)
     ∙ c .if1 .taken) in
     omega (arith, start .pre .places)
 
@@ -102,8 +102,8 @@ loop-again c =
     let count = at-loop .loop .count in
     let item = at-loop .loop .next in
     let inside = c .before .before .before .loop-test .taken in
-    let rule = sym (c .before .is-listed .ensures ∙ listed-is settings numbers memory
-    (start .pre .reading) item inside) in
+    let rule = sym (c .before .is-listed .ensures ∙ listed-is settings numbers memory item
+    inside) in
     ⊎-elim
     (λ w. rw (w .1, w .2)
     (writing-yes settings here before (at-loop .loop .list) count item (at-loop .loop .inv) inside

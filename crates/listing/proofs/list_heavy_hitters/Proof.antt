@@ -3,13 +3,14 @@ use borrow.Author.Tests.{leb-true}
 use lib.ListN.{length}
 use mathlib.Core.Path.{_≡_, sym, _∙_}
 use borrow.Author.Needs.{needs}
-use Rattle.reading.proofs.ReadLaws.{read-asks, list-accepted, list-too-short}
-use Rattle.reading.specs.Contracts.{listRefusal}
+use Rattle.reading.proofs.ReadLaws.{read-asks}
+use Rattle.listing.proofs.CallLaws.{list-accepted, list-too-short}
+use Rattle.listing.specs.Contracts.{listRefusal}
 use Rattle.coordinator_tests.proofs.Chains.{refused-first, accepts, refuses, refuses-by}
 use Rattle.model.specs.Refusals.{accepted, listTooShort}
 use Rattle.model.specs.CoordinatorMemory.{coordinatorMemoryRefusal}
-use Rattle.reading.proofs.list_heavy_hitters.Statement.{statement}
-use Rattle.reading.proofs.list_heavy_hitters.Tie as tie
+use Rattle.listing.proofs.list_heavy_hitters.Statement.{statement}
+use Rattle.listing.proofs.list_heavy_hitters.Tie as tie
 
 coordinator-memory-refusal-requires : tie.Need-coordinator-memory-refusal-requires
 coordinator-memory-refusal-requires c κs = search needs

@@ -14,7 +14,7 @@ use Rattle.model.specs.declared.Settings.{Settings}
 use Rattle.model.specs.SiteMemory.{overwrite}
 use Rattle.model.specs.Coordinator.{Coordinator}
 use Rattle.model.specs.Reading.{isListed, heavyHitters}
-use Rattle.reading.proofs.ListLaws.{listedBelow, listed-yes, listed-no, Counting, counting-yes, counting-no}
+use Rattle.listing.proofs.ListLaws.{listedBelow, listed-yes, listed-no, Counting, counting-yes, counting-no}
 
 module _ (settings : Settings) (c : Coordinator) where
   pub record Writing (before now : List ℕ) (count item : ℕ) : Type 0 where

@@ -1,0 +1,2 @@
+-- What the list call asks and promises, over the model's definitions.
+pub mod Contracts

@@ -1,5 +1,5 @@
 -- Laws of a lent number after a call: what an accepted call and a refused one leave there.
-use mathlib.Core.Path.{_≡_, refl, _∙_}
+use mathlib.Core.Path.{_≡_}
 use Prim.Native.Nat.{ℕ}
 use borrow.Author.Tests.{eq-eqb, ne-eqb}
 use Rattle.model.specs.Choice.{if_then_else_, isZero}

@@ -5,16 +5,15 @@
 --                                     end is passed over
 --   getD-changeFirst-after            a place from n on is as it was
 --   getD-changeFirst-before           a place below n, within the list, is changed
---   changeFirst-all                   all places changed is `map`
 --   changeFirst-keeps                 a part of every element that no change touches
 --   sumBelow-length                   a sum by place is the sum along the list
 use mathlib.Core.Path.{_≡_, refl, sym, ap, _∙_}
-use mathlib.Core.List.{List, [], _∷_, map}
+use mathlib.Core.List.{List, [], _∷_}
 use Prim.Native.Nat.{ℕ, zero, suc, _+_, _≤_, _<_}
 use native.Mathlib.Omega.{arith}
 use native.Mathlib.Decide.{ℕ-discrete}
-use lib.ListN.{length, getD, set, length-set, length-map}
-use lib.Seq.{getD-set-same, getD-set-other, ext-getD}
+use lib.ListN.{length, getD, set, length-set}
+use lib.Seq.{getD-set-same, getD-set-other}
 use Rattle.laws.proofs.Sums.{sumBelow}
 
 -- ---- Places changed in order
@@ -82,30 +81,6 @@ module _ {A : Type 0} (default : A) (change : A → A) where
     changeFirst-keeps zero i xs = refl
     changeFirst-keeps (suc n) i xs =
         change-keeps (changeFirst default change n xs) n i ∙ changeFirst-keeps n i xs
-
-  -- All places changed: the list mapped.
-  pub changeFirst-all : (n : ℕ) (xs : List A)
-      → length xs ≤ n
-      → changeFirst default change n xs ≡ map change xs
-  changeFirst-all n xs all =
-      ext-getD default (changeFirst default change n xs) (map change xs) same-length same-places
-    where
-      same-length : length (changeFirst default change n xs) ≡ length (map change xs)
-      same-length = length-changeFirst n xs ∙ sym (length-map xs change)
-
-      same-places : (i : ℕ) → i < length (changeFirst default change n xs)
-          → getD (changeFirst default change n xs) i default ≡ getD (map change xs) i default
-      same-places i inside =
-          let within : i < length xs = omega (arith, length-changeFirst n xs) in
-          getD-changeFirst-before n i xs (omega arith) within
-          ∙ sym (getD-map-within change xs i default within)
-        where
-          getD-map-within : (f : A → A) (ys : List A) (j : ℕ) (d : A)
-              → j < length ys
-              → getD (map f ys) j d ≡ f (getD ys j d)
-          getD-map-within f [] j d absent = absurd (omega arith)
-          getD-map-within f (y ∷ ys) zero d absent = refl
-          getD-map-within f (y ∷ ys) (suc j) d absent = getD-map-within f ys j d (omega arith)
 
 -- ---- Sums by place and along the list
 

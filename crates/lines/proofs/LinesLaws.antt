@@ -3,7 +3,7 @@
 --   counted-joined, length-counted   a line of a word and a number
 --   message-joined, length-message   the line of a message
 --   listed-joined, length-listed     the line of listed items
-use mathlib.Core.Path.{_≡_, refl, sym, ap, _∙_}
+use mathlib.Core.Path.{_≡_, sym, ap, _∙_}
 use mathlib.Core.List.{List, [], _∷_, _++_, append-assoc, append-nil}
 use Prim.Native.Nat.{ℕ, _+_}
 use native.Mathlib.Omega.{arith}

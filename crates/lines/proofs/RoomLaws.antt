@@ -4,13 +4,12 @@
 --   room-enough, -short   what the test's answer says
 --   length-decimal-64     a number of 64 bits has at most 20 digits
 --   spaced-length-is      a number and the space before it
-use mathlib.Core.Path.{_≡_, refl, sym, ap, _∙_}
+use mathlib.Core.Path.{_≡_, refl, sym, _∙_}
 use mathlib.Core.Bool.{Bool, true, false}
-use mathlib.Core.List.{List, [], _∷_, _++_}
 use Prim.Native.Nat.{ℕ, _+_, _-_, _≤_, _<_}
 use native.Mathlib.Omega.{arith}
 use lib.Dec.{leb}
-use lib.ListN.{length, length-append}
+use lib.ListN.{length}
 use borrow.Author.Tests.{le-leb, lt-leb, leb-true, leb-false}
 use Rattle.model.specs.Decimal.{decimal}
 use Rattle.model.proofs.ReadBack.{length-decimal-le}

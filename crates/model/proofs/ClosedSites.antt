@@ -4,22 +4,20 @@
 --   closedSite t site       a site after a close
 --   getD-sitesClosed        place by place
 --   sitesClosed-keeps       a part of a site that a close does not touch
---   sitesClosed-map         the list as a whole, where it has at most k sites
 --   sumBelow-allPending, sumBelow-allArrivals   sums by place are the sums along the list
---   baseOf-allPending       the new base, where it has k sites: the total with all pendings
 use mathlib.Core.Path.{_≡_, refl, sym, ap, _∙_}
-use mathlib.Core.List.{List, [], _∷_, map}
-use Prim.Native.Nat.{ℕ, _+_, _≤_, _<_}
+use mathlib.Core.List.{List}
+use Prim.Native.Nat.{ℕ, _<_}
 use native.Mathlib.Omega.{arith}
-use lib.ListN.{length, getD, length-map}
+use lib.ListN.{length, getD}
 use Rattle.laws.proofs.Sums.{sumBelow}
-use Rattle.laws.proofs.Updates.{changeFirst, length-changeFirst, getD-changeFirst-before, changeFirst-keeps, changeFirst-all, sumBelow-length}
+use Rattle.laws.proofs.Updates.{length-changeFirst, getD-changeFirst-before, changeFirst-keeps, sumBelow-length}
 use Rattle.model.specs.declared.Settings.{Settings}
 use Rattle.model.specs.Site.{Site, freshSite}
 use Rattle.model.specs.NetworkMemory.{allPending, allArrivals}
 use Rattle.model.proofs.DeliveryMessages.{pendingAt}
 use Rattle.model.proofs.DeliveryLoops.{polled, told}
-use Rattle.model.proofs.DeliveryClose.{baseOf, sitesPolled, sitesClosed}
+use Rattle.model.proofs.DeliveryClose.{sitesPolled, sitesClosed}
 
 -- A site after a close: nothing pending, and the new threshold.
 abbrev pub closedSite : ℕ → Site → Site
@@ -53,21 +51,6 @@ sitesClosed-keeps part polled-keeps told-keeps settings sites t i =
     (sitesPolled settings sites)
     ∙ changeFirst-keeps freshSite polled part polled-keeps (settings .sites) i sites
 
--- All sites are closed, where there are at most k.
-pub sitesClosed-map : (settings : Settings) (sites : List Site) (t : ℕ)
-    → length sites ≤ settings .sites
-    → sitesClosed settings sites t ≡ map (closedSite t) sites
-sitesClosed-map settings sites t few =
-    ap (changeFirst freshSite (told t) (settings .sites))
-    (changeFirst-all freshSite polled (settings .sites) sites few)
-    ∙ (changeFirst-all freshSite (told t) (settings .sites) (map polled sites)
-    (omega (arith, length-map sites polled))
-    ∙ twice sites)
-  where
-    twice : (xs : List Site) → map (told t) (map polled xs) ≡ map (closedSite t) xs
-    twice [] = refl
-    twice (x ∷ xs) = ap {B = List Site} (λ ys. closedSite t x ∷ ys) (twice xs)
-
 -- The sums by place over all sites are the sums that the batch call's test takes.
 pub sumBelow-allPending : (settings : Settings) (sites : List Site)
     → length sites ≡ settings .sites
@@ -85,10 +68,3 @@ sumBelow-allArrivals settings sites all =
     ap (sumBelow (λ j. getD sites j freshSite .arrivals)) (sym all)
     ∙ sumBelow-length (λ (site : Site). site .arrivals) freshSite allArrivals refl
     (λ site others. refl) sites
-
--- The new base is the total with all pendings.
-pub baseOf-allPending : (settings : Settings) (sites : List Site) (total : ℕ)
-    → length sites ≡ settings .sites
-    → baseOf settings sites total ≡ total + allPending sites
-baseOf-allPending settings sites total all =
-    ap (λ (x : ℕ). total + x) (sumBelow-allPending settings sites all)

@@ -3,7 +3,6 @@
 --
 --   length-sitesIn            as many sites are read as there are records, at most k
 --   network-sound-of          what passes 4 and 11 holds a sound network
---   network-within-of         and its coordinator's numbers are within the limit
 --   network-consistent-of     a sound network within the limits passes
 use mathlib.Core.Path.{_≡_, refl, ap}
 use mathlib.Core.Bool.{Bool, true, _&&_, false≢true}
@@ -31,7 +30,7 @@ use Rattle.model.specs.Network.{Network}
 use Rattle.model.specs.NetworkMemory.{sitesWords, sitesIn, networkIn, sitesConsistent, allPending, allArrivals, sameThreshold, atRestTogether, networkConsistent}
 use Rattle.model.specs.SoundNetwork.{SoundSite, Sound}
 use Rattle.model.proofs.ConsistentSites.{sound-of-consistent, consistent-of-sound}
-use Rattle.model.proofs.ConsistentCoordinator.{CoordinatorWithin, coordinator-sound-of, coordinator-within-of, coordinator-consistent-of}
+use Rattle.model.proofs.ConsistentCoordinator.{CoordinatorWithin, coordinator-sound-of, coordinator-consistent-of}
 
 -- ---- The sites one after another
 
@@ -170,13 +169,6 @@ module _ (settings : Settings) (sites : Sites) (coordinator : CoordinatorRecord)
             (at-rest-2 .second-true) j (omega (arith, read .all-read));
         all-counted = eqb-true _ _ (at-rest-3 .second-true);
       }
-
-  -- Its coordinator's numbers are within the limit.
-  pub network-within-of : networkConsistent settings sites coordinator siteNumbers
-      coordinatorNumbers ≡ true
-      → CoordinatorWithin (network .coordinator)
-  network-within-of passes =
-      coordinator-within-of settings (network .coordinator) (rows-of passes .coordinator-row)
 
   -- A sound network within the limits passes.
   pub network-consistent-of : Sound settings network

@@ -4,7 +4,6 @@
 --   both-accepted   neither the first part of a chain nor the later refuses
 --   refused-first   the first part refuses, so the chain does
 --   refused-same    the same, for a number that equals the first part
---   accepted-both   neither part refuses, so the chain does not
 use mathlib.Core.Path.{_≡_, refl, sym, _∙_}
 use mathlib.Core.Bool.{Bool, true, false}
 use Prim.Native.Nat.{ℕ, zero, suc, _<_}
@@ -46,10 +45,3 @@ pub refused-same : (refusal first later : ℕ)
     → refusal ≡ (first orElse later)
 refused-same refusal first later same refused =
     same ∙ sym (refused-first first later (λ none. refused (same ∙ none)))
-
--- Both parts of a chain accept, so the chain does.
-pub accepted-both : (first later : ℕ)
-    → first ≡ accepted
-    → later ≡ accepted
-    → (first orElse later) ≡ accepted
-accepted-both first later none-first none-later = rw (none-first, none-later)

@@ -52,12 +52,6 @@ pub transcript-with-refused : (settings : Settings) (worklist : List ℕ) (refus
 transcript-with-refused settings worklist refusal is some =
     ap (answered settings worklist) is ∙ rw (ne-eqb refusal 0 (λ none. omega arith), answered)
 
-pub transcript-with-accepted : (settings : Settings) (worklist : List ℕ)
-    → programRefusal settings worklist ≡ accepted
-    → transcriptWith settings worklist
-    ≡ transcriptFrom settings (freshRun settings) (readWorklist worklist)
-transcript-with-accepted settings worklist none = ap (answered settings worklist) none
-
 -- ---- By the worklist's length
 
 -- The number that refuses a worklist that is too long: that of the settings, or else 4.

@@ -6,7 +6,7 @@
 --   coordinatorRecord c                       the record of a coordinator
 --   coordinatorMemory c memory                the memory with the coordinator written into it
 --   coordinatorConsistent settings c
-use mathlib.Core.Bool.{Bool, true, false, _&&_, _||_, not}
+use mathlib.Core.Bool.{Bool, true, _&&_, _||_, not}
 use mathlib.Core.List.{List, [], _∷_, _++_}
 use Prim.Native.Nat.{ℕ, _+_}
 use lib.Dec.{eqb, ltb, leb}

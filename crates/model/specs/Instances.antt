@@ -2,13 +2,12 @@
 -- "Instances". The theorem `instances` of proofs/Instances.antt proves them all.
 use mathlib.Core.Path.{_≡_}
 use mathlib.Core.List.{List, [], _∷_, _++_}
-use lib.IntN.{ℤ, pos, negsuc}
+use lib.IntN.{pos, negsuc}
 use Prim.Native.Nat.{ℕ, zero, suc}
 use lib.ListN.{length, replicate}
 use Rattle.model.specs.declared.Settings.{Settings}
 use Rattle.model.specs.declared.Arrival.{Arrival}
 use Rattle.model.specs.declared.Message.{Message}
-use Rattle.model.specs.declared.Quantile.{Quantile}
 use Rattle.model.specs.declared.Quantile.the-variants.{Nothing, Value}
 use Rattle.model.specs.Refusals.{accepted, tooFewCounters}
 use Rattle.model.specs.Settings.{settingsWith, settingsRefusal, thresholdOf, allowance}
@@ -17,9 +16,9 @@ use Rattle.model.specs.Messages.{itemReport, countReport, poll, pollAnsw
 use Rattle.model.specs.Counters.{Counter, counterAt, unreported}
 use Rattle.model.specs.Coordinator.{Coordinator, freshCoordinator}
 use Rattle.model.specs.Reading.{heavyHitters, margin, quantileOf}
-use Rattle.model.specs.Network.{Network, siteAt, afterArrival}
-use Rattle.model.specs.Runs.{Run, runOf}
-use Rattle.model.specs.Transcript.{transcript, endLine, messageLines, listedWord, classWord, messagesWord, spaced}
+use Rattle.model.specs.Network.{siteAt, afterArrival}
+use Rattle.model.specs.Runs.{runOf}
+use Rattle.model.specs.Transcript.{transcript}
 
 -- ---- The settings and arrivals of the instances
 

@@ -14,7 +14,7 @@ use Rattle.model.specs.Choice.{if_then_else_, isZero}
 use Rattle.model.specs.Refusals.{when, _orElse_, accepted, logTooShort}
 use Rattle.model.specs.Limits.{mostMessages}
 use Rattle.model.specs.Site.{arrivalRefusal}
-use Rattle.model.specs.Network.{Network, freshNetwork, siteAt, Delivered, afterArrival}
+use Rattle.model.specs.Network.{Network, freshNetwork, siteAt, afterArrival}
 
 abbrev pub refusalIn : Settings → Network → Arrival → ℕ
 refusalIn settings network arrival =

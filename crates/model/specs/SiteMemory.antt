@@ -6,7 +6,7 @@
 --   siteRecord site                      the record of a site
 --   siteMemory settings site memory      the memory with the site written into it
 --   siteConsistent settings record memory
-use mathlib.Core.Bool.{Bool, true, false, _&&_, not}
+use mathlib.Core.Bool.{Bool, true, _&&_, not}
 use mathlib.Core.List.{List, [], _∷_, _++_}
 use Prim.Native.Nat.{ℕ, zero, suc, _+_, _*_}
 use lib.Dec.{eqb, ltb, leb}

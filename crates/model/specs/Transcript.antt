@@ -11,7 +11,7 @@ use Rattle.model.specs.declared.Settings.{Settings}
 use Rattle.model.specs.declared.Message.{Message}
 use Rattle.model.specs.declared.Quantile.{Quantile}
 use Rattle.model.specs.declared.Quantile.the-variants.{Nothing, Value}
-use Rattle.model.specs.Choice.{if_then_else_, isZero}
+use Rattle.model.specs.Choice.{isZero}
 use Rattle.model.specs.Refusals.{when, _orElse_, accepted, memoryTooShort, malformedLine}
 use Rattle.model.specs.Settings.{settingsRefusal}
 use Rattle.model.specs.Decimal.{decimal}

@@ -3,4 +3,3 @@ pub mod ThreeLaws
 pub mod SettingsLaws
 pub mod StepLaws
 pub mod WalkLaws
-pub mod TranscriptSteps

@@ -3,7 +3,7 @@
 --   line-after-more, -last        the number of the next line, before the last number and at it
 --   step-past                     no bytes are left
 --   step-found, step-missing      a well-formed line, a malformed one
-use mathlib.Core.Path.{_≡_, refl, sym, ap, _∙_}
+use mathlib.Core.Path.{_≡_, sym, ap, _∙_}
 use mathlib.Core.Bool.{true, false}
 use mathlib.Core.List.{List}
 use Prim.Native.Nat.{ℕ, _+_, _-_, _≤_, _<_}
@@ -11,7 +11,7 @@ use native.Mathlib.Omega.{arith}
 use lib.ListN.{length, drop, length-drop}
 use borrow.Author.Tests.{lt-ltb, le-ltb, le-leb, lt-leb}
 use Rattle.model.specs.Refusals.{accepted, malformedLine}
-use Rattle.model.specs.Lines.{Fields, malformed, fields, readFields, arrivalOf}
+use Rattle.model.specs.Lines.{Fields, malformed, readFields, arrivalOf}
 use Rattle.worklist.specs.declared.ThreeRead.{ThreeRead}
 use Rattle.worklist.specs.Contracts.{ThreeSays}
 use Rattle.reader.specs.declared.Step.{Step}

@@ -9,16 +9,15 @@ use mathlib.Core.Bool.{true, false, true≢false, false≢true}
 use mathlib.Core.List.{List, [], _∷_, _++_, append-assoc}
 use Prim.Native.Nat.{ℕ, zero, suc, _+_, _-_, _≤_, _<_}
 use native.Mathlib.Omega.{arith}
-use native.Mathlib.Numerals.{add-one}
 use native.Mathlib.Decide.{decLe}
 use lib.ListN.{length, take, drop, length-append, length-drop, take-append-drop, drop-of-length-le}
 use lib.Seq.{drop-at}
 use Rattle.model.specs.Refusals.{accepted, malformedLine}
-use Rattle.model.specs.Lines.{Fields, malformed, fields, lineFeed, readFields, arrivalOf, Worklist, ended, malformedAt, next, readFrom, readWorklist}
-use Rattle.model.proofs.LineTaken.{FieldsTaken, fields-taken}
+use Rattle.model.specs.Lines.{Fields, malformed, fields, lineFeed, readFields, arrivalOf, malformedAt, next, readFrom}
+use Rattle.model.proofs.LineTaken.{fields-taken}
 use Rattle.model.proofs.WorklistLaws.{read-from-malformed, read-all-line}
 use Rattle.reader.specs.declared.Step.{Step}
-use Rattle.reader.specs.Walk.{lastLine, lineAfter, standing, stepOf, stepAt, thenRead, walkFrom}
+use Rattle.reader.specs.Walk.{lastLine, standing, stepOf, stepAt, thenRead, walkFrom}
 use Rattle.reader.specs.WalkClaims.{GoesOn, WalkClaims}
 use Rattle.reader.proofs.StepLaws.{line-after-more, step-past, step-by}
 

@@ -5,7 +5,7 @@
 --   settingsIn found         the settings of a line, all zeros if it is malformed
 --   bytesAfter bytes found   the bytes after a line, all of them if it is malformed
 use mathlib.Core.Path.{_≡_}
-use mathlib.Core.List.{List, [], _∷_}
+use mathlib.Core.List.{List, []}
 use Prim.Native.Nat.{ℕ, _-_}
 use lib.ListN.{length, drop}
 use Rattle.model.specs.declared.Settings.{Settings}

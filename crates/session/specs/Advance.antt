@@ -1,7 +1,6 @@
 -- The call `advance`, for every input: a line of the worklist, or its end (document 01's section
 -- "Worklist").
 --
---   advanceOf input session given    the outcome of `advance`
 --   AdvanceSays                      the promise
 use mathlib.Core.Path.{_≡_}
 use mathlib.Core.Bool.{true}
@@ -25,9 +24,6 @@ lineOf session step given =
     if step .found then drawOf session step given
     else if isZero (step .refusal) then resultsOf session given
     else refusedOf session (step .refusal) given
-
-abbrev pub advanceOf : List ℕ → Session → Lent → Outcome
-advanceOf input session given = lineOf session (stepAt input (session .at) (session .line)) given
 
 -- ---- The promise
 

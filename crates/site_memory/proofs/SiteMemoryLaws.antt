@@ -2,15 +2,14 @@
 --
 --   length-siteMemory     writing a site keeps the length
 --   siteIn-siteMemory     what was written is what is read
---   siteMemory-part       what lies past the site's own part stays
 --   siteMemory-siteIn     what was read, written again, leaves the memory as it is
 --   siteRecord-siteIn     the record of what was read is the record it was read from
 use Prim.Native.Nat.{ℕ, _≤_}
 use mathlib.Core.Path.{_≡_, ap, sym, _∙_}
-use mathlib.Core.List.{List, [], _++_, append-assoc, append-nil}
+use mathlib.Core.List.{List, _++_, append-assoc}
 use native.Mathlib.Omega.{arith}
-use lib.ListN.{length, take, drop, length-append, length-drop, length-take, drop-of-length-le}
-use lib.Seq.{length-take-le, take-at, drop-at, take-add, take-take, drop-drop}
+use lib.ListN.{length, take, drop, length-append, length-drop}
+use lib.Seq.{length-take-le, take-at, drop-at}
 use Rattle.laws.proofs.FlatMemory.{length-overwritten, overwritten-front, overwritten-take}
 use Rattle.model.specs.declared.Settings.{Settings}
 use Rattle.model.specs.declared.SiteRecord.{SiteRecord}
@@ -82,45 +81,6 @@ module _
     pending = site .pending;
     threshold = site .threshold;
   }
-
-  -- The values' part of the first numbers is the values' part, and nothing lies past it.
-  values-part :
-      drop (counterWords settings) (take (siteWords settings) memory)
-      ≡ take valueCount (drop (counterWords settings) memory)
-  values-part =
-      let words = counterWords settings in
-      ap (drop words) (take-add words valueCount memory)
-      ∙ drop-at (take words memory) (take valueCount (drop words memory)) words
-      (length-take-le words memory front-long)
-
-  past-values : drop (length (site .histogram))
-      (drop (counterWords settings) (take (siteWords settings) memory))
-      ≡ []
-  past-values =
-      let part = take valueCount (drop (counterWords settings) memory) in
-      let short : length part ≤ length (site .histogram) =
-      rw (values, length-take) (omega arith) in
-      ap (drop (length (site .histogram))) values-part ∙ drop-of-length-le part short
-
-  -- A site is written to its own part, and what lies past it stays: so the parts of several sites
-  -- do not meet.
-  pub siteMemory-part : siteMemory settings site memory
-      ≡ siteMemory settings site (take (siteWords settings) memory)
-      ++ drop (siteWords settings) memory
-  siteMemory-part =
-      let words = counterWords settings in
-      let ws = counterNumbers (site .counters) in
-      let front = overwrite ws (take words memory) in
-      let rest = drop (siteWords settings) memory in
-      let same-front : take words (take (siteWords settings) memory) ≡ take words memory =
-      take-take words (siteWords settings) memory (omega arith) in
-      let behind : drop (length (site .histogram)) (drop words memory) ≡ rest =
-      rw (values, drop-drop) in
-      let empty : site .histogram
-      ++ drop (length (site .histogram)) (drop words (take (siteWords settings) memory))
-      ≡ site .histogram =
-      rw past-values (append-nil (site .histogram)) in
-      rw (behind, same-front, empty) (sym (append-assoc front (site .histogram) rest))
 
 -- Reading a site and writing it again changes nothing.
 pub siteMemory-siteIn : (settings : Settings) (numbers : SiteRecord) (memory : List ℕ)

@@ -68,9 +68,6 @@ module _
   pub room : numbers .arrivals < siteLimit
   room = taken .room
 
-  pub capacity-within : settings .capacity ≤ 3000
-  capacity-within = capacity-known .capacity .at-most
-
   -- ---- What each call requires
 
   pub count-asks : CountAsks before (settings .capacity) (numbers .used)

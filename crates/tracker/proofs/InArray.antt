@@ -5,7 +5,7 @@
 --          for a field
 -- Letters: q the share, τ the element's type, b and o the block and the offset of the array, us
 -- the machine's values of its elements. Assumes `Given` (of it `at-elems`, `elems-at`).
-use mathlib.Core.Path.{_≡_, refl, _∙_, ap, subst}
+use mathlib.Core.Path.{_≡_, _∙_, ap, subst}
 use Prim.Native.Nat.{ℕ, zero, suc, _+_, _<_}
 use native.Mathlib.Nat.{not-suc-le-zero, le-of-suc-le-suc}
 use mathlib.Core.List.{List, [], _∷_}

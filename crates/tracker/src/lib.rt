@@ -2,7 +2,6 @@
 // the call starts; then each arrival is tested and delivered, until one is refused. Its parts are
 // those of crate `tracker_steps`.
 
-ghost use mathlib.Core.Path.{_≡_};
 ghost use mathlib.Core.List.{[], _∷_};
 ghost use Rattle.tracker_steps.specs.Steps.{lentOf};
 ghost use Rattle.tracker.specs.Batch.{BatchSays};

@@ -13,7 +13,6 @@ use Rattle.model.specs.Decimal.{decimal}
 use Rattle.model.specs.Lines.{lineFeed}
 use Rattle.model.specs.Transcript.{spaced, endLine, messageLine, messageLines, refusedWord, classWord, messagesWord}
 use Rattle.model.proofs.ReadBack.{length-decimal-le}
-use Rattle.lines.specs.Contracts.{countedLine, listedLine}
 use Rattle.transcript.specs.LineClaims.{MachineMessage, LineClaims}
 use Rattle.lines.proofs.RoomLaws.{length-decimal-64}
 use Rattle.lines.proofs.LinesLaws.{spacedNumber, length-counted, length-message, length-listed}

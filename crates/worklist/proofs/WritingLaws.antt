@@ -4,12 +4,12 @@
 --   written-one      one byte written
 --   written-snoc     one byte more, right after those written
 --   digit-more       the last digit of a number, right after those of its tenth
-use mathlib.Core.Path.{_≡_, refl, sym, ap, _∙_}
+use mathlib.Core.Path.{_≡_, sym, ap, _∙_}
 use mathlib.Core.List.{List, [], _∷_, _++_, append-assoc}
 use Prim.Native.Nat.{ℕ, suc, _+_, _-_, _/_, _%_, _≤_, _<_}
 use native.Mathlib.Numerals.{add-one}
 use native.Mathlib.Omega.{arith}
-use lib.ListN.{length, getD, take, drop, set, length-append, length-take, length-drop}
+use lib.ListN.{length, getD, take, drop, set, length-append, length-drop}
 use borrow.Author.Tests.{le-leb, lt-leb}
 use lib.Seq.{set-split, set-at, drop-cons, append-snoc, length-take-le}
 use Rattle.model.specs.Decimal.{decimal, digitByte}

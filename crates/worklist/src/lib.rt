@@ -2,7 +2,7 @@
 
 ghost use mathlib.Core.Path.{_≡_};
 ghost use mathlib.Core.Bool.{true};
-ghost use Prim.Native.Nat.{ℕ, _+_, _-_, _≤_, _<_};
+ghost use Prim.Native.Nat.{_+_, _-_, _≤_, _<_};
 ghost use lib.ListN.{length, drop};
 ghost use Rattle.model.specs.Decimal.{isDigit, digitValue, digitByte, decimal, leadingZero};
 ghost use Rattle.worklist.specs.Contracts.{notRead, DigitsSay, NumberAt, EndedSays, FieldAt, ThreeAt, LineSays, DigitsPut, DecimalSays};

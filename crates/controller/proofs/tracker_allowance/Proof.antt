@@ -1,5 +1,5 @@
 -- The allowance goes out where the settings are accepted; a refusal leaves the number as it was.
-use mathlib.Core.Path.{_≡_, sym, _∙_}
+use mathlib.Core.Path.{sym, _∙_}
 use Rattle.controller.proofs.HandedOut.{handed-accepted, handed-refused, value-accepted}
 use borrow.Author.Needs.{needs}
 use Rattle.controller.proofs.tracker_allowance.Statement.{statement}

@@ -1,5 +1,5 @@
 -- The line's numbers go out where it is well formed; a refusal leaves all four as they were.
-use mathlib.Core.Path.{_≡_, sym, ap, _∙_}
+use mathlib.Core.Path.{sym, ap, _∙_}
 use borrow.Author.Needs.{needs}
 use Rattle.model.specs.declared.Arrival.{Arrival}
 use Rattle.controller.proofs.HandedOut.{handed-accepted, handed-refused}

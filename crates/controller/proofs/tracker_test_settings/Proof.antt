@@ -1,5 +1,5 @@
 -- The six numbers are made settings, and those are tested.
-use mathlib.Core.Path.{_≡_, ap, _∙_}
+use mathlib.Core.Path.{ap, _∙_}
 use Rattle.model.specs.Settings.{settingsRefusal}
 use borrow.Author.Needs.{needs}
 use Rattle.controller.proofs.tracker_test_settings.Statement.{statement}

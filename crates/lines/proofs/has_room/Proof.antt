@@ -1,9 +1,7 @@
 -- The places from a place on are those of the whole less that place.
-use mathlib.Core.Path.{_≡_, sym, _∙_}
-use mathlib.Core.Bool.{Bool, true, false}
-use Prim.Native.Nat.{ℕ, _+_, _-_, _≤_}
+use mathlib.Core.Path.{sym}
+use Prim.Native.Nat.{_+_, _-_}
 use native.Mathlib.Omega.{arith}
-use lib.Dec.{leb}
 use borrow.Author.Tests.{lt-leb}
 use Rattle.lines.proofs.RoomLaws.{room-from}
 use Rattle.lines.proofs.has_room.Statement.{statement}

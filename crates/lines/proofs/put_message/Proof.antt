@@ -2,7 +2,6 @@
 use mathlib.Core.List.{[], _∷_}
 use Prim.Native.Nat.{_+_}
 use native.Mathlib.Omega.{arith}
-use Rattle.model.specs.Decimal.{decimal}
 use Rattle.model.specs.declared.Message.{Message}
 use Rattle.model.specs.Messages.{message}
 use Rattle.model.specs.Transcript.{messageLine}

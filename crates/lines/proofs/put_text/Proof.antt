@@ -1,7 +1,6 @@
 -- A text is copied byte by byte; the invariant says which bytes have been.
 use Prim.Native.Nat.{_-_}
 use lib.ListN.{length}
-use native.Mathlib.Omega.{arith}
 use borrow.Author.Needs.{needs}
 use Rattle.lines.proofs.PutLaws.{Copying, copying-begins, copying-on, copying-ends}
 use Rattle.lines.proofs.put_text.Statement.{statement}

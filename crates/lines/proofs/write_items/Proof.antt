@@ -1,7 +1,7 @@
 -- The line is written where it fits, and otherwise nothing is: there is room for the word and the
 -- line feed, and for the items beside them.
 use mathlib.Core.Path.{_≡_, sym, _∙_}
-use mathlib.Core.Bool.{true, false}
+use mathlib.Core.Bool.{true}
 use Prim.Native.Nat.{_+_, _-_, _≤_, _<_}
 use native.Mathlib.Omega.{arith}
 use lib.ListN.{length}

@@ -1,5 +1,5 @@
 -- Past the bytes the walk stays; otherwise the step is the line's three fields, or it is malformed.
-use mathlib.Core.Path.{sym, ap, _∙_}
+use mathlib.Core.Path.{sym, _∙_}
 use Rattle.reader.proofs.StepLaws.{step-past, step-found, step-missing}
 use borrow.Author.Needs.{needs}
 use Rattle.reader.proofs.read_at.Statement.{statement}

@@ -1,5 +1,5 @@
 -- The digits counted and the digits left are the digits of n; each turn halves what is left.
-use Prim.Native.Nat.{_+_, _^_, _<_}
+use Prim.Native.Nat.{_+_}
 use mathlib.Core.Path.{_≡_, ap}
 use native.Mathlib.Omega.{arith}
 use Rattle.model.specs.Settings.{digits}

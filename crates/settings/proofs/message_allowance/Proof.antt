@@ -1,13 +1,12 @@
 -- The allowance is the definition's quotient: settings that pass their test keep every product
 -- within 64 bits, since sites are at most 32 and digits at most 64.
 use mathlib.Core.Path.{_≡_, sym, _∙_, ap}
-use Prim.Native.Nat.{ℕ, _+_, _*_, _/_, _^_, _≤_, _<_}
+use Prim.Native.Nat.{ℕ, _+_, _*_, _/_, _≤_}
 use native.Mathlib.Nat.{mul-le-mul}
 use native.Mathlib.Omega.{arith}
 use borrow.Author.Needs.{needs}
 use borrow.Author.Tests.{eq-eqb, ne-eqb}
-use Rattle.model.specs.declared.Settings.{Settings}
-use Rattle.model.specs.Settings.{settingsRefusal, digits, allowance}
+use Rattle.model.specs.Settings.{settingsRefusal}
 use Rattle.model.proofs.SettingsLaws.{settled}
 use Rattle.model.proofs.Digits.{digits-bound}
 use Rattle.settings.proofs.message_allowance.Statement.{statement}

@@ -1,6 +1,6 @@
 -- By the case of the quantile: the line as it is given, or a word and a number.
-use mathlib.Core.Path.{_≡_, sym, ap, subst}
-use mathlib.Core.List.{List, _++_}
+use mathlib.Core.Path.{sym, subst}
+use mathlib.Core.List.{_++_}
 use Rattle.model.specs.declared.Quantile.{Quantile}
 use Rattle.model.specs.Transcript.{endLine, classWord, quantileWord}
 use Rattle.lines.specs.Contracts.{LineWritten}

@@ -1,11 +1,10 @@
 -- The digits of a tenth are written first, and then the last digit right after them.
-use mathlib.Core.Path.{_≡_, sym, ap, _∙_}
-use mathlib.Core.List.{List, [], _∷_, _++_}
+use mathlib.Core.Path.{sym, ap, _∙_}
+use mathlib.Core.List.{List, [], _∷_}
 use native.Mathlib.Omega.{arith}
 use lib.ListN.{length, length-set}
 use borrow.Author.Needs.{needs}
-use Rattle.model.specs.Decimal.{decimal, digitByte}
-use Rattle.model.proofs.DecimalLaws.{decimal-small, decimal-large, length-decimal-large}
+use Rattle.model.proofs.DecimalLaws.{decimal-small, length-decimal-large}
 use Rattle.worklist.specs.Contracts.{writtenAt}
 use Rattle.worklist.proofs.WritingLaws.{written-one, same-length, last-inside, digit-more}
 use Prim.Native.Nat.{ℕ, _<_}

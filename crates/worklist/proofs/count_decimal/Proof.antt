@@ -2,10 +2,9 @@
 -- tenth.
 use Prim.Native.Nat.{_+_, _≤_}
 use mathlib.Core.Path.{_≡_, ap}
-use mathlib.Core.List.{[], _∷_}
 use native.Mathlib.Omega.{arith}
-use lib.ListN.{length, length-append}
-use Rattle.model.specs.Decimal.{decimal, digitByte}
+use lib.ListN.{length}
+use Rattle.model.specs.Decimal.{decimal}
 use Rattle.model.proofs.DecimalLaws.{decimal-small, length-decimal-large}
 use Rattle.worklist.proofs.count_decimal.Statement.{statement}
 use Rattle.worklist.proofs.count_decimal.Tie as tie

@@ -1,5 +1,4 @@
 -- A byte is a digit when it is one of 48 to 57.
-use mathlib.Core.Path.{refl}
 use borrow.Author.Tests.{lt-leb, le-leb}
 use Rattle.worklist.proofs.is_digit.Statement.{statement}
 use Rattle.worklist.proofs.is_digit.Tie as tie

@@ -1,8 +1,8 @@
 -- Each turn of the loop takes a digit into the number, as `moreDigits` does.
-use mathlib.Core.Path.{_≡_, sym, _∙_}
+use mathlib.Core.Path.{sym, _∙_}
 use Prim.Native.Nat.{_-_, _<_}
 use native.Mathlib.Omega.{arith}
-use lib.ListN.{length, getD, drop}
+use lib.ListN.{length, drop}
 use borrow.Author.Needs.{needs}
 use Rattle.model.specs.Decimal.{moreDigits}
 use Rattle.worklist.specs.Reading.{Reading}

@@ -1,5 +1,5 @@
 -- A field is a number that its mark ends.
-use mathlib.Core.Path.{_≡_, sym, ap, _∙_}
+use mathlib.Core.Path.{sym, ap}
 use Rattle.model.specs.Lines.{beforeMark}
 use Rattle.worklist.proofs.ReadingLaws.{none-read, says-of}
 use borrow.Author.Needs.{needs}

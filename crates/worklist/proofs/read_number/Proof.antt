@@ -1,10 +1,9 @@
 -- A number at a place: none past the end, before a byte that is no digit, or with a leading zero;
 -- otherwise its first digit and those after it.
-use mathlib.Core.Path.{_≡_, sym, ap, _∙_}
-use mathlib.Core.Bool.{true}
+use mathlib.Core.Path.{sym, ap, _∙_}
 use Prim.Native.Nat.{ℕ, _+_}
-use lib.ListN.{getD, drop}
-use Rattle.model.specs.Decimal.{isDigit, moreDigits}
+use lib.ListN.{drop}
+use Rattle.model.specs.Decimal.{moreDigits}
 use Rattle.worklist.proofs.ReadingLaws.{read-number-at, read-number-past, none-read, says-of}
 use borrow.Author.Needs.{needs}
 use Rattle.worklist.proofs.read_number.Statement.{statement}

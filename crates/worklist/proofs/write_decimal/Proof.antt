@@ -1,8 +1,5 @@
 -- The digits are written where they fit, and otherwise nothing is.
 use native.Mathlib.Omega.{arith}
-use Prim.Native.Nat.{_+_, _≤_}
-use lib.ListN.{length}
-use Rattle.model.specs.Decimal.{decimal}
 use Rattle.worklist.proofs.WritingLaws.{not-written, all-written}
 use borrow.Author.Needs.{needs}
 use Rattle.worklist.proofs.write_decimal.Statement.{statement}

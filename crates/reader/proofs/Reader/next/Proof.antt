@@ -29,10 +29,10 @@ use denote.RattleType.{RattleType, owns}
 use denote.Laws.{Is, shows}
 use denote.Memory.{mem, cellAt}
 use denote.Plain.{uint-makes}
-use denote.Builtin.{u8, usize}
+use denote.Builtin.{usize}
 use denote.Ref.{RefT, NamedLft, MutRef, now, ptr-vals, mut-tells}
 use denote.Signature.{Slot, plain, namedLft}
-use denote.Slice.{sliceVal, ShrSlice}
+use denote.Slice.{sliceVal}
 use denote.Steps.{only, opens, closes, owned, peeks, heard, nothing}
 use denote.Struct.Declared.{Declared}
 use denote.Struct.Laws as LL
@@ -46,7 +46,6 @@ use denote.Triple.Entry.{Vals, onEntry}
 use denote.Triple.Spec.{Meets, tripleOf}
 use denote.Triple.Table.{entered, cited}
 use denote.Triple.Walked.{says, Stays, stay-ref, walkOf, goes-ref, Walks, ends-at, walked, walk-meets}
-use denote.Exit.{yes}
 use Rattle.reader.specs.Walk.{stepAt}
 use Rattle.reader.specs.declared.Reader.{Reader}
 use Rattle.reader.specs.declared.Step.{Step}

@@ -22,7 +22,7 @@ use Rattle.model.specs.declared.Phase.the-variants.{Idle, Collecting, Probing, 
 use Rattle.model.specs.Coordinator.{Coordinator, isAnnouncing, announcedIn}
 use Rattle.model.specs.Network.{handOver, askAnnouncement, afterArrival}
 use Rattle.model.specs.DeliveryClaims.{Delivery, deliveryStep}
-use Rattle.delivery.specs.declared.Queue.{Queue}
+use Rattle.sending.specs.declared.Queue.{Queue}
 use Rattle.delivery.specs.declared.Underway.{Underway}
 use Rattle.delivery.specs.Holding.{State, Holds, Going, Delivering, goesOn, StepSays, rested}
 use Rattle.delivery.proofs.HoldingLaws.{log-length}

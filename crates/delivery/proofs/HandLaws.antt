@@ -15,10 +15,10 @@ use Rattle.model.specs.Refusals.{accepted}
 use Rattle.model.specs.Network.{Network, handOver}
 use Rattle.model.specs.DeliveryClaims.{messageRefusal}
 use Rattle.model.proofs.MidDelivery.{hand-on}
-use Rattle.delivery.specs.declared.Queue.{Queue}
-use Rattle.delivery.specs.Sending.{queueOf, withoutHead}
+use Rattle.sending.specs.declared.Queue.{Queue}
+use Rattle.sending.specs.Sending.{queueOf, withoutHead}
 use Rattle.delivery.specs.Holding.{State, Fits, Delivering}
-use Rattle.delivery.proofs.LogLaws.{withoutHead-queueOf}
+use Rattle.sending.proofs.LogLaws.{withoutHead-queueOf}
 use Rattle.delivery.proofs.HoldingLaws.{Stored}
 use Rattle.delivery.proofs.GoingLaws.{going-fit, going-stage, going-stored, going-room, going-handed}
 use Rattle.delivery.proofs.StepLaws.{Handing}

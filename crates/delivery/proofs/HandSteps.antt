@@ -24,11 +24,12 @@ use Rattle.coordinator_kinds.specs.declared.Answered.{Answered}
 use Rattle.coordinator_kinds.specs.Steps.{answerOf, Does}
 use Rattle.network_memory.specs.Records.{noRecord}
 use Rattle.network_memory.proofs.SitePart.{part}
-use Rattle.delivery.specs.declared.Queue.{Queue}
-use Rattle.delivery.specs.declared.Traffic.{Traffic}
+use Rattle.sending.specs.declared.Queue.{Queue}
+use Rattle.sending.specs.declared.Traffic.{Traffic}
 use Rattle.delivery.specs.declared.Underway.{Underway}
 use Rattle.delivery.specs.declared.Change.{Change}
-use Rattle.delivery.specs.Sending.{trafficOf, underwayOf, withoutHead, SendAsks, AnswerSays}
+use Rattle.sending.specs.Sending.{withoutHead, SendAsks, AnswerSays}
+use Rattle.delivery.specs.UnderwayParts.{trafficOf, underwayOf}
 use Rattle.delivery.specs.Holding.{state, answered, Holds, Delivering, goesOn, StepSays}
 use Rattle.delivery.specs.Handing.{siteOfHead, coordinatorChange, withQueue, changed, Handed, HandSays}
 use Rattle.delivery.proofs.StepLaws.{handing, asking, asked-sends, asked-holds}

@@ -19,9 +19,10 @@ use Rattle.model.specs.DeliveryClaims.{delivery, deliveryStep}
 use Rattle.coordinator_kinds.specs.declared.Answered as CoordinatorAnswer
 use Rattle.coordinator_kinds.specs.Steps.{Does}
 use Rattle.coordinator_steps.specs.Ready.{CoordinatorReady, StepAsks}
-use Rattle.delivery.specs.declared.Queue.{Queue}
+use Rattle.sending.specs.declared.Queue.{Queue}
 use Rattle.delivery.specs.declared.Underway.{Underway}
-use Rattle.delivery.specs.Sending.{trafficOf, withoutHead, SendAsks}
+use Rattle.sending.specs.Sending.{withoutHead, SendAsks}
+use Rattle.delivery.specs.UnderwayParts.{trafficOf}
 use Rattle.delivery.specs.Holding.{State, state, answered, Holds, Fits, Delivering}
 use Rattle.delivery.proofs.StageNumbers.{coordinator-ready}
 use Rattle.delivery.proofs.QuietSteps.{quiet-receives}

@@ -27,10 +27,11 @@ use Rattle.site_steps.specs.declared.Answered as SiteAnswer
 use Rattle.site_steps.specs.Steps.{ReceiveAsks, ReceiveStepSays}
 use Rattle.site_steps.proofs.ReceiveLaws.{Due, message-due}
 use Rattle.network_memory.proofs.SitesMemoryLaws.{sitesMemory-kept}
-use Rattle.delivery.specs.declared.Queue.{Queue}
+use Rattle.sending.specs.declared.Queue.{Queue}
 use Rattle.delivery.specs.declared.Underway.{Underway}
 use Rattle.network_memory.specs.Records.{noRecord, withRecord}
-use Rattle.delivery.specs.Sending.{trafficOf, withoutHead, SendAsks}
+use Rattle.sending.specs.Sending.{withoutHead, SendAsks}
+use Rattle.delivery.specs.UnderwayParts.{trafficOf}
 use Rattle.delivery.specs.Holding.{State, state, answered, Holds, Fits, Delivering}
 use Rattle.delivery.specs.Handing.{siteOfHead}
 use Rattle.delivery.proofs.StageNumbers.{at-stage, site-ready}

@@ -33,12 +33,13 @@ use Rattle.network_memory.proofs.OneSite.{overwritten-again}
 use Rattle.network_memory.proofs.SitesMemoryLaws.{AllStorable, getD-siteRecords, siteRecords-set, length-sitesMemory}
 use Rattle.network_memory.proofs.SitesReading.{siteIn-sitesMemory}
 use Rattle.delivery.specs.declared.Underway.{Underway}
-use Rattle.delivery.specs.declared.Queue.{Queue}
-use Rattle.delivery.specs.Log.{messageNumbers, putRecord}
+use Rattle.sending.specs.declared.Queue.{Queue}
+use Rattle.sending.specs.Log.{messageNumbers, putRecord}
 use Rattle.network_memory.specs.Records.{noRecord, withRecord}
-use Rattle.delivery.specs.Sending.{queueOf, trafficOf, withTraffic, sent, SendAsks}
+use Rattle.sending.specs.Sending.{queueOf, sent, SendAsks}
+use Rattle.delivery.specs.UnderwayParts.{trafficOf, withTraffic}
 use Rattle.delivery.specs.Holding.{Given, State, state, answered, Holds, Fits}
-use Rattle.delivery.proofs.LogLaws.{length-messageNumbers, putRecord-append, joined-queueOf}
+use Rattle.sending.proofs.LogLaws.{length-messageNumbers, putRecord-append, joined-queueOf}
 
 -- ---- Sizes
 

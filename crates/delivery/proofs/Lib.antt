@@ -3,12 +3,10 @@ pub mod BoundedLaws
 pub mod StageNumbers
 pub mod QuietSteps
 pub mod BoundedSteps
-pub mod LogLaws
 pub mod HoldingLaws
 pub mod GoingLaws
 pub mod StepLaws
 pub mod DeliverLaws
-pub mod SendLaws
 pub mod ObservedLaws
 pub mod SiteLaws
 pub mod TakenLaws

@@ -20,7 +20,8 @@ use Rattle.model.specs.SiteMemory.{siteMemory}
 use Rattle.model.specs.Network.{Network}
 use Rattle.model.specs.DeliveryClaims.{delivery}
 use Rattle.site_steps.proofs.ObserveMemory.{length-countersReported}
-use Rattle.delivery.specs.Sending.{trafficOf, withTraffic, sentTwo, loggedTwo}
+use Rattle.sending.specs.Sending.{sentTwo, loggedTwo}
+use Rattle.delivery.specs.UnderwayParts.{trafficOf, withTraffic}
 use Rattle.delivery.specs.Holding.{Given, State, state, Holds}
 use Rattle.delivery.proofs.HoldingLaws.{holds-sent}
 

@@ -23,7 +23,7 @@ use Rattle.site_steps.specs.Steps.{ObserveAsks, ObserveStepSays}
 use Rattle.network_memory.specs.Records.{noRecord}
 use Rattle.network_memory.proofs.SitesMemoryLaws.{sitesMemory-set}
 use Rattle.network_memory.proofs.SitePart.{few-sites, start-small, part, part-is}
-use Rattle.delivery.specs.Sending.{queueOf}
+use Rattle.sending.specs.Sending.{queueOf}
 use Rattle.delivery.specs.Holding.{State, state, Holds, Fits}
 use Rattle.delivery.specs.Arriving.{ArrivalAsks, stepAt, takenAt, Taken, outOf, putBack}
 use Rattle.delivery.proofs.StageNumbers.{site-ready}

@@ -19,9 +19,10 @@ use Rattle.model.proofs.StageFacts.{stage-coordinator}
 use Rattle.coordinator_kinds.specs.declared.Answered as CoordinatorAnswer
 use Rattle.coordinator_kinds.specs.Steps.{answerOf}
 use Rattle.coordinator_steps.specs.Ready.{AnnounceAsks}
-use Rattle.delivery.specs.declared.Queue.{Queue}
+use Rattle.sending.specs.declared.Queue.{Queue}
 use Rattle.delivery.specs.declared.Underway.{Underway}
-use Rattle.delivery.specs.Sending.{queueOf, trafficOf, SendAsks}
+use Rattle.sending.specs.Sending.{queueOf, SendAsks}
+use Rattle.delivery.specs.UnderwayParts.{trafficOf}
 use Rattle.delivery.specs.Holding.{Given, State, state, answered, Holds, Fits, Going, Delivering, goesOn}
 use Rattle.delivery.proofs.QuietSteps.{quiet-announced}
 use Rattle.delivery.proofs.HoldingLaws.{coordinator-read, send-asks, holds-answer, holds-coordinator}

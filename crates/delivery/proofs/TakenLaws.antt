@@ -18,9 +18,10 @@ use Rattle.model.specs.Coordinator.{isAnnouncing}
 use Rattle.model.specs.Network.{Network, siteAt, afterArrival}
 use Rattle.model.specs.DeliveryClaims.{Delivery, deliveryOf}
 use Rattle.model.specs.SoundClaims.{begun}
-use Rattle.delivery.specs.declared.Queue.{Queue}
-use Rattle.delivery.specs.declared.Traffic.{Traffic}
-use Rattle.delivery.specs.Sending.{trafficOf, withTraffic, SendTwoAsks, TwoSay}
+use Rattle.sending.specs.declared.Queue.{Queue}
+use Rattle.sending.specs.declared.Traffic.{Traffic}
+use Rattle.sending.specs.Sending.{SendTwoAsks, TwoSay}
+use Rattle.delivery.specs.UnderwayParts.{trafficOf, withTraffic}
 use Rattle.delivery.specs.Holding.{Given, State, state, Holds, Going, Delivering, rested}
 use Rattle.delivery.specs.Arriving.{stepAt, Taken, MessagesAsk}
 use Rattle.delivery.proofs.ObservedLaws.{messages-two, holds-two}

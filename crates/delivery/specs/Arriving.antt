@@ -18,9 +18,9 @@ use Rattle.model.specs.Network.{Network, siteAt, withSite, afterArrival}
 use Rattle.model.specs.DeliveryClaims.{Delivery, delivery}
 use Rattle.site_steps.specs.declared.Observed.{Observed}
 use Rattle.network_memory.specs.Records.{noRecord, withRecord}
-use Rattle.delivery.specs.declared.Queue.{Queue}
+use Rattle.sending.specs.declared.Queue.{Queue}
 use Rattle.delivery.specs.declared.Underway.{Underway}
-use Rattle.delivery.specs.Sending.{queueOf}
+use Rattle.sending.specs.Sending.{queueOf}
 use Rattle.delivery.specs.Holding.{Given, State, state, Holds, Accepting, rested}
 
 -- A network at rest, and an arrival that it accepts.

@@ -20,11 +20,12 @@ use Rattle.model.specs.Messages.{toCoordinator}
 use Rattle.model.specs.DeliveryClaims.{deliveryStep}
 use Rattle.coordinator_kinds.specs.declared.Answered.{Answered}
 use Rattle.network_memory.specs.Records.{noRecord}
-use Rattle.delivery.specs.declared.Queue.{Queue}
-use Rattle.delivery.specs.declared.Traffic.{Traffic}
+use Rattle.sending.specs.declared.Queue.{Queue}
+use Rattle.sending.specs.declared.Traffic.{Traffic}
 use Rattle.delivery.specs.declared.Underway.{Underway}
 use Rattle.delivery.specs.declared.Change.{Change}
-use Rattle.delivery.specs.Sending.{trafficOf, underwayOf, SendAsks}
+use Rattle.sending.specs.Sending.{SendAsks}
+use Rattle.delivery.specs.UnderwayParts.{trafficOf, underwayOf}
 use Rattle.delivery.specs.Holding.{state, answered, Holds, Delivering, goesOn}
 
 abbrev pub siteOfHead : Queue → ℕ

@@ -33,10 +33,11 @@ use Rattle.model.specs.Runs.{refusalIn}
 use Rattle.model.specs.SoundNetwork.{Sound}
 use Rattle.model.specs.DeliveryClaims.{Delivery, delivery, deliveryStep, deliveryOf}
 use Rattle.model.specs.SoundClaims.{Reached}
-use Rattle.delivery.specs.declared.Queue.{Queue}
+use Rattle.sending.specs.declared.Queue.{Queue}
 use Rattle.delivery.specs.declared.Underway.{Underway}
-use Rattle.delivery.specs.Log.{logRoom, messageNumbers}
-use Rattle.delivery.specs.Sending.{queueOf, trafficOf, withTraffic, sentIf, loggedIf}
+use Rattle.sending.specs.Log.{logRoom, messageNumbers}
+use Rattle.sending.specs.Sending.{queueOf, sentIf, loggedIf}
+use Rattle.delivery.specs.UnderwayParts.{trafficOf, withTraffic}
 use Rattle.delivery.specs.Bounded.{Bounded}
 
 -- ---- What is held

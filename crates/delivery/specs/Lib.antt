@@ -1,6 +1,5 @@
 -- What a delivery requires and promises.
-pub mod Log
-pub mod Sending
+pub mod UnderwayParts
 pub mod Bounded
 pub mod Holding
 pub mod Handing

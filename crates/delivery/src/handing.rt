@@ -6,8 +6,6 @@ ghost use mathlib.Core.Path.{_≡_};
 ghost use Rattle.delivery.specs.Holding.{goesOn};
 ghost use Rattle.delivery.specs.Handing.{siteOfHead, coordinatorChange, HandAsks, HandSays};
 use crate::Change;
-use crate::Queue;
-use crate::take_head;
 use crate::to_coordinator;
 use coordinator_kinds::Answered;
 use counters::Word;
@@ -15,6 +13,8 @@ use model::CoordinatorRecord;
 use model::Phase;
 use model::Settings;
 use model::SiteRecord;
+use sending::Queue;
+use sending::take_head;
 
 // Whether a message waits, or the coordinator announces.
 pub fn goes_on(coordinator: CoordinatorRecord, waiting: Queue) -> bool

@@ -9,14 +9,12 @@ ghost use Prim.Native.Nat.{_<_};
 ghost use lib.ListN.{getD};
 ghost use Rattle.model.specs.Messages.{toCoordinator};
 ghost use Rattle.network_memory.specs.Records.{noRecord, withRecord};
-ghost use Rattle.delivery.specs.Sending.{nothingWaits, resting, underwayOf, joined, withoutHead};
+ghost use Rattle.delivery.specs.UnderwayParts.{resting, underwayOf};
 ghost use Rattle.delivery.specs.Holding.{state, Delivering, EndSays};
 ghost use Rattle.delivery.specs.Arriving.{SiteAsks, SiteSays, MessagesAsk, MessagesSay};
 use crate::handing::goes_on;
 use crate::handing::hand_over;
 use crate::handing::site_of_head;
-use crate::sending::send_answer;
-use crate::sending::send_two;
 use counters::Word;
 use model::Arrival;
 use model::CoordinatorRecord;
@@ -24,32 +22,20 @@ use model::Message;
 use model::Settings;
 use model::SiteRecord;
 use model::Sites;
+use sending::Queue;
+use sending::Traffic;
+use sending::empty_queue;
+use sending::send_answer;
+use sending::send_two;
 use site_steps::Observed;
 
 mod handing;
-mod sending;
-
-// The messages that wait to be handed over, or are to go out: two at most, since an arrival sends
-// two at most, and every hand-over is answered by one at most. An absent one is all zeros.
-pub struct Queue {
-    pub count: u32,
-    pub first: Message,
-    pub second: Message,
-}
 
 // A delivery under way: the records of the network, the messages written to the log so far, and
 // those that wait.
 pub struct Underway {
     pub sites: Sites,
     pub coordinator: CoordinatorRecord,
-    pub written: u64,
-    pub waiting: Queue,
-}
-
-// The messages of a delivery under way: how many the network has counted, how many stand in the
-// log, and those that wait.
-pub struct Traffic {
-    pub messages: u64,
     pub written: u64,
     pub waiting: Queue,
 }
@@ -63,40 +49,6 @@ pub struct Change {
     pub waiting: Queue,
     pub count: u32,
     pub out: Message,
-}
-
-// A message waits last.
-pub fn join(queue: Queue, message: Message) -> Queue
-    ensures { λ r. ⌜ r ≡ joined queue message ⌝ }
-{
-    if queue.count == 0 {
-        return Queue {
-            count: 1,
-            first: message,
-            second: coordinator_kinds::no_message(),
-        };
-    }
-    let first = queue.first;
-    Queue {
-        count: 2,
-        first: first,
-        second: message,
-    }
-}
-
-// The messages that wait without their head.
-pub fn take_head(queue: Queue) -> Queue
-    ensures { λ r. ⌜ r ≡ withoutHead queue ⌝ }
-{
-    if queue.count == 2 {
-        let second = queue.second;
-        return Queue {
-            count: 1,
-            first: second,
-            second: coordinator_kinds::no_message(),
-        };
-    }
-    empty_queue()
 }
 
 // The record of one site. Internal: the batch call looks at a site that `site::address_refusal`
@@ -116,18 +68,6 @@ pub fn with_record(sites: Sites, which: usize, numbers: SiteRecord) -> Sites
     let mut next = sites;
     next.records[which] = numbers;
     next
-}
-
-// No message waits.
-pub fn empty_queue() -> Queue
-    ensures { λ r. ⌜ r ≡ nothingWaits ⌝ }
-{
-    let none = coordinator_kinds::no_message();
-    Queue {
-        count: 0,
-        first: none,
-        second: none,
-    }
 }
 
 // A network at rest, with so many messages written: nothing waits.

@@ -18,8 +18,8 @@ use lib.Seq.{take-all, take-suc, take-at, drop-append-add, drop-drop, length-tak
 use borrow.Author.Tests.{le-leb, lt-leb}
 use Rattle.model.specs.Decimal.{decimal}
 use Rattle.model.specs.Transcript.{space}
-use Rattle.worklist.specs.Contracts.{writtenAt, DecimalSays}
-use Rattle.worklist.proofs.WritingLaws.{length-written, written-snoc}
+use Rattle.decimals.specs.Contracts.{writtenAt, DecimalSays}
+use Rattle.decimals.proofs.WritingLaws.{length-written, written-snoc}
 use Rattle.lines.specs.Contracts.{Put, LineWritten}
 
 -- ---- Bytes after others

@@ -14,7 +14,7 @@ use Rattle.model.specs.Choice.{if_then_else_}
 use Rattle.model.specs.Decimal.{decimal}
 use Rattle.model.specs.declared.Message.{Message}
 use Rattle.model.specs.Transcript.{space, spaced, endLine, listedWord, messageLine}
-use Rattle.worklist.specs.Contracts.{writtenAt}
+use Rattle.decimals.specs.Contracts.{writtenAt}
 
 abbrev pub fit : List ℕ → ℕ → List ℕ → Bool
 fit bytes place out = leb (place + length bytes) (length out)

@@ -12,8 +12,8 @@ ghost use Rattle.model.specs.Decimal.{decimal};
 ghost use Rattle.model.specs.Messages.{message};
 ghost use Rattle.model.specs.Transcript.{space, spaced, messageLine};
 ghost use Rattle.lines.specs.Contracts.{countedLine, listedLine, Put, LineWritten, RecordWritten, SpacedLength};
-use worklist::count_decimal;
-use worklist::write_decimal;
+use decimals::count_decimal;
+use decimals::write_decimal;
 
 // Whether so many places are free from a place on.
 fn has_room(length: usize, at: usize, need: usize) -> bool

@@ -5,7 +5,7 @@ ghost use lib.ListN.{length};
 ghost use lib.Dec.{leb};
 ghost use Rattle.reading.specs.Contracts.{ReadAsks, SidesAsk};
 ghost use Rattle.listing.specs.Contracts.{Lists, WriteAsks, Writes, hittersIn, ruleHolds};
-use coordinator_tests::consistency::coordinator_memory_refusal;
+use coordinator_tests::coordinator_memory_refusal;
 use model::ACCEPTED;
 use model::CoordinatorRecord;
 use model::LIST_TOO_SHORT;

@@ -109,11 +109,7 @@ fn network_consistent(
         return false;
     }
     if sites_consistent(settings, sites, site_memory) {
-        if coordinator_tests::consistency::coordinator_consistent(
-            settings,
-            coordinator,
-            coordinator_memory,
-        ) {
+        if coordinator_tests::coordinator_consistent(settings, coordinator, coordinator_memory) {
             return at_rest(settings, sites, coordinator);
         }
         return false;

@@ -27,7 +27,7 @@ use Rattle.model.proofs.RefusalLaws.{both-accepted}
 use Rattle.model.proofs.SettingsLaws.{settled}
 use Rattle.model.proofs.SoundSites.{taken-of-no-refusal}
 use Rattle.network_tests.specs.Contracts.{SitesFit}
-use Rattle.delivery.specs.declared.Queue.{Queue}
+use Rattle.sending.specs.declared.Queue.{Queue}
 use Rattle.site_steps.specs.declared.Observed.{Observed}
 use Rattle.site.specs.Calls.{ObserveSays}
 use Rattle.history.specs.State.{Held, State, recordAt, siteStart, sitePart, withPart, withRecord, afterSiteCall}

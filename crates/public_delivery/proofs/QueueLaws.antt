@@ -15,8 +15,8 @@ use lib.ListN.{length, getD, take}
 use borrow.Author.Tests.{ne-eqb}
 use Rattle.model.specs.declared.Message.{Message}
 use Rattle.model.specs.Choice.{isZero}
-use Rattle.delivery.specs.declared.Queue.{Queue}
-use Rattle.delivery.specs.Sending.{joined, withoutHead}
+use Rattle.sending.specs.declared.Queue.{Queue}
+use Rattle.sending.specs.Sending.{joined, withoutHead}
 use Rattle.public_delivery.specs.Progress.{queued, joinedIf, QueueSays}
 
 pub getD-within : {A : Type 0} (xs : List A) (i : ℕ) (one other : A)

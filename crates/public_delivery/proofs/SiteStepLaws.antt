@@ -19,8 +19,8 @@ use Rattle.model.specs.declared.Sites.{Sites}
 use Rattle.model.specs.Refusals.{when, _orElse_, accepted, unknownSite}
 use Rattle.model.specs.Site.{siteMessageRefusal}
 use Rattle.model.specs.SiteMemory.{siteWords, siteIn, siteMemoryRefusal}
-use Rattle.delivery.specs.declared.Queue.{Queue}
-use Rattle.delivery.specs.Sending.{withoutHead}
+use Rattle.sending.specs.declared.Queue.{Queue}
+use Rattle.sending.specs.Sending.{withoutHead}
 use Rattle.model.proofs.RefusalLaws.{both-accepted, passed}
 use Rattle.network_tests.specs.Contracts.{SitesFit}
 use Rattle.site_steps.specs.declared.Answered.{Answered}

@@ -17,8 +17,8 @@ use Rattle.model.specs.declared.Sites.{Sites}
 use Rattle.model.specs.declared.CoordinatorRecord.{CoordinatorRecord}
 use Rattle.model.specs.Refusals.{accepted}
 use Rattle.model.specs.Coordinator.{isAnnouncing}
-use Rattle.delivery.specs.declared.Queue.{Queue}
-use Rattle.delivery.specs.Sending.{withoutHead}
+use Rattle.sending.specs.declared.Queue.{Queue}
+use Rattle.sending.specs.Sending.{withoutHead}
 use Rattle.coordinator.specs.declared.Received.{Received}
 use Rattle.coordinator.specs.Calls as CoordinatorCalls
 use Rattle.history.specs.State.{Held, State, afterCoordinatorCall, sending}

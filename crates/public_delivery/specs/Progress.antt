@@ -21,8 +21,8 @@ use Rattle.model.specs.Choice.{if_then_else_, isZero}
 use Rattle.model.specs.Site.{freshSite}
 use Rattle.model.specs.SiteMemory.{siteRecord}
 use Rattle.model.specs.Coordinator.{isIdle, isAnnouncing}
-use Rattle.delivery.specs.declared.Queue.{Queue}
-use Rattle.delivery.specs.Sending.{joined}
+use Rattle.sending.specs.declared.Queue.{Queue}
+use Rattle.sending.specs.Sending.{joined}
 use Rattle.history.specs.State.{Held, State}
 use Rattle.public_delivery.specs.declared.Progress.{Progress}
 

@@ -11,13 +11,13 @@ ghost use Rattle.public_delivery.specs.Progress.{joinedIf, refusedWith, 
 ghost use Rattle.public_delivery.specs.Steps.{AskAsks, HandAsks, DueAsks, StepSays};
 use crate::Progress;
 use counters::Word;
-use delivery::Queue;
 use model::ACCEPTED;
 use model::Message;
 use model::Settings;
 use model::SiteRecord;
 use model::Sites;
 use model::UNKNOWN_SITE;
+use sending::Queue;
 
 // The message that an answer hands out waits last, if there is one.
 fn join_answer(queue: Queue, count: u32, message: Message) -> Queue
@@ -26,7 +26,7 @@ fn join_answer(queue: Queue, count: u32, message: Message) -> Queue
     if count == 0 {
         return queue;
     }
-    delivery::join(queue, message)
+    sending::join(queue, message)
 }
 
 // A call was refused: all else is as it was.
@@ -94,7 +94,7 @@ fn hand_to_coordinator(
     let out = answer.out;
     let mut next = progress;
     next.coordinator = after;
-    next.waiting = join_answer(delivery::take_head(waiting), answer.count, out);
+    next.waiting = join_answer(sending::take_head(waiting), answer.count, out);
     next
 }
 
@@ -122,7 +122,7 @@ fn hand_to_site(settings: Settings, progress: Progress, site_memory: &[Word]) ->
     let out = answer.reply;
     let mut next = progress;
     next.sites = delivery::with_record(sites, which, after);
-    next.waiting = join_answer(delivery::take_head(waiting), answer.count, out);
+    next.waiting = join_answer(sending::take_head(waiting), answer.count, out);
     next
 }
 

@@ -14,7 +14,6 @@ ghost use Rattle.public_delivery.specs.Steps.{DeliverAsks, DeliverSays};
 use crate::calls::record_at;
 use crate::calls::take_step;
 use counters::Word;
-use delivery::Queue;
 use model::ACCEPTED;
 use model::Arrival;
 use model::CoordinatorRecord;
@@ -23,6 +22,7 @@ use model::Message;
 use model::Phase;
 use model::Settings;
 use model::Sites;
+use sending::Queue;
 
 mod calls;
 

@@ -6,7 +6,7 @@ ghost use Prim.Native.Nat.{_*_, _<_};
 ghost use Rattle.model.specs.CoordinatorMemory.{coordinatorIn};
 ghost use Rattle.model.specs.Reading.{difference, leastValue, quantileOf};
 ghost use Rattle.reading.specs.Contracts.{ReadsMargin, ReadsQuantile, ReadAsks, SidesAsk, ValuesAsk, marginRefusal, sideNeeded};
-use coordinator_tests::consistency::coordinator_memory_refusal;
+use coordinator_tests::coordinator_memory_refusal;
 use model::ACCEPTED;
 use model::CoordinatorRecord;
 use model::Quantile;

@@ -15,8 +15,8 @@ use lib.Seq.{take-at, drop-at, drop-drop, length-take-le}
 use borrow.Author.Tests.{le-leb, leb-true}
 use Rattle.model.specs.declared.Message.{Message}
 use Rattle.model.specs.Transcript.{messageLine, messageLines, refusedLine}
-use Rattle.worklist.specs.Contracts.{writtenAt}
-use Rattle.worklist.proofs.WritingLaws.{length-written}
+use Rattle.decimals.specs.Contracts.{writtenAt}
+use Rattle.decimals.proofs.WritingLaws.{length-written}
 use Rattle.lines.specs.Contracts.{fit, LineWritten}
 use Rattle.session_steps.specs.declared.Session.{Session}
 use Rattle.session_steps.specs.declared.Turn.{Turn}

@@ -12,7 +12,7 @@ use lib.ListN.{length}
 use Rattle.model.specs.declared.Message.{Message}
 use Rattle.model.specs.Choice.{if_then_else_}
 use Rattle.model.specs.Transcript.{messageLine, messageLines}
-use Rattle.worklist.specs.Contracts.{writtenAt}
+use Rattle.decimals.specs.Contracts.{writtenAt}
 use Rattle.lines.specs.Contracts.{fit}
 use Rattle.tracker.specs.Batch.{messagesIn}
 

@@ -25,7 +25,7 @@ use Rattle.model.specs.Runs.{Batch, batchFrom, freshBatch}
 use Rattle.coordinator_kinds.proofs.MemoryLaws.{memory-kept}
 use Rattle.network_memory.specs.Records.{noRecord}
 use Rattle.network_memory.proofs.SitesReading.{siteRecords-sitesIn, sitesMemory-sitesIn}
-use Rattle.delivery.specs.Log.{logRoom}
+use Rattle.sending.specs.Log.{logRoom}
 use Rattle.delivery.specs.Holding.{Given}
 use Rattle.network_tests.proofs.SoundLaws.{Passing, passing}
 use Rattle.tracker_steps.specs.declared.BatchAnswer.{BatchAnswer}

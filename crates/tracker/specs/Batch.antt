@@ -17,7 +17,7 @@ use Rattle.model.specs.SiteMemory.{overwrite}
 use Rattle.model.specs.CoordinatorMemory.{coordinatorRecord, coordinatorMemory}
 use Rattle.model.specs.NetworkMemory.{siteRecords, sitesMemory, networkIn, networkRefusal}
 use Rattle.model.specs.Runs.{Batch, batchOf}
-pub use Rattle.delivery.specs.Log.{logRoom, messageNumbers, messagesIn}
+pub use Rattle.sending.specs.Log.{logRoom, messageNumbers, messagesIn}
 use Rattle.tracker_steps.specs.declared.BatchAnswer.{BatchAnswer}
 pub use Rattle.tracker_steps.specs.Steps.{BatchLent}
 

@@ -28,8 +28,8 @@ use Rattle.model.proofs.ClosedSites.{sumBelow-allArrivals}
 use Rattle.laws.proofs.Sums.{sumBelow-le, sumBelow-const}
 use Rattle.network_memory.specs.Records.{noRecord}
 use Rattle.delivery.specs.declared.Underway.{Underway}
-use Rattle.delivery.specs.Log.{logRoom}
-use Rattle.delivery.specs.Sending.{resting}
+use Rattle.sending.specs.Log.{logRoom}
+use Rattle.delivery.specs.UnderwayParts.{resting}
 use Rattle.delivery.specs.Holding.{Given, state, Holds, Accepting, rested}
 use Rattle.delivery.specs.Arriving.{ArrivalAsks}
 use Rattle.delivery.proofs.HoldingLaws.{Stored, record-read, log-length}

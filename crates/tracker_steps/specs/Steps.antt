@@ -29,8 +29,8 @@ use Rattle.model.specs.SoundNetwork.{Sound}
 use Rattle.model.specs.DeliveryClaims.{delivery}
 use Rattle.site.specs.Calls.{bareSite}
 use Rattle.delivery.specs.declared.Underway.{Underway}
-use Rattle.delivery.specs.Log.{logRoom}
-use Rattle.delivery.specs.Sending.{nothingWaits}
+use Rattle.sending.specs.Log.{logRoom}
+use Rattle.sending.specs.Sending.{nothingWaits}
 use Rattle.delivery.specs.Bounded.{Bounded}
 use Rattle.delivery.specs.Holding.{Given, state, Holds, Fits}
 use Rattle.tracker_steps.specs.declared.BatchAnswer.{BatchAnswer}

@@ -21,8 +21,8 @@ use Rattle.model.specs.Refusals.{accepted}
 use Rattle.model.specs.Limits.{mostSites, siteLimit}
 use Rattle.model.specs.Runs.{Batch}
 use Rattle.network_memory.specs.Records.{noRecord, withRecord}
-use Rattle.delivery.specs.Log.{logRoom}
-use Rattle.delivery.specs.Sending.{nothingWaits}
+use Rattle.sending.specs.Log.{logRoom}
+use Rattle.sending.specs.Sending.{nothingWaits}
 use Rattle.delivery.specs.Holding.{Given, state}
 use Rattle.delivery.specs.Arriving.{Taken, putBack}
 use Rattle.tracker_steps.specs.declared.BatchAnswer.{BatchAnswer}

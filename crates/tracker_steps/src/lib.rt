@@ -6,7 +6,6 @@ ghost use mathlib.Core.Path.{_≡_};
 ghost use Rattle.tracker_steps.specs.Steps.{OpenSays, OneAsks, OneSays, placesRefusal, PlacesAsk, lentOf};
 ghost use Rattle.tracker_steps.specs.Turns.{placeOf, refusedTurn, counted, TurnAsks, TurnSays, CountAsks, DeliverAsks, DeliverSays};
 use counters::Word;
-use delivery::Queue;
 use model::ACCEPTED;
 use model::Arrival;
 use model::CoordinatorRecord;
@@ -14,6 +13,7 @@ use model::LOG_TOO_SHORT;
 use model::Settings;
 use model::SiteRecord;
 use model::Sites;
+use sending::Queue;
 
 // What the batch call answers: the refusal that stopped it or 0, the arrivals accepted, the
 // messages written to the log, and both records as they are then.
@@ -101,7 +101,7 @@ fn one_refusal(
 fn refused_turn(number: u32, own: SiteRecord) -> Turn
     ensures { λ r. ⌜ r ≡ refusedTurn number own ⌝ }
 {
-    let out = delivery::empty_queue();
+    let out = sending::empty_queue();
     Turn {
         refusal: number,
         taken: 0,

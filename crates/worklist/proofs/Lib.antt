@@ -1,4 +1,3 @@
--- Laws of reading and writing numbers that the functions' proofs share.
+-- Laws of reading numbers that the functions' proofs share.
 pub mod ReadingLaws
 pub mod FieldLaws
-pub mod WritingLaws

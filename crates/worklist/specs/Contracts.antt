@@ -1,19 +1,16 @@
--- The contracts of reading and writing decimal numbers and lines.
+-- The contracts of reading decimal numbers and lines.
 use mathlib.Core.Path.{_≡_}
-use mathlib.Core.Bool.{Bool, false, not}
-use mathlib.Core.List.{List, [], _∷_, _++_}
-use Prim.Native.Nat.{ℕ, _+_, _≤_, _<_}
-use lib.Dec.{leb}
-use lib.ListN.{length, take, drop}
+use mathlib.Core.Bool.{false, not}
+use mathlib.Core.List.{List, [], _∷_}
+use Prim.Native.Nat.{ℕ, _≤_, _<_}
+use lib.ListN.{length, drop}
 use Rattle.worklist.specs.declared.NumberRead.{NumberRead}
 use Rattle.worklist.specs.declared.ThreeRead.{ThreeRead}
 use Rattle.worklist.specs.declared.LineRead.{LineRead}
 use Rattle.model.specs.Choice.{if_then_else_}
 use Rattle.model.specs.Refusals.{when, malformedLine}
-use Rattle.model.specs.Decimal.{Number, noNumber, number, moreDigits, readNumber, decimal}
+use Rattle.model.specs.Decimal.{Number, noNumber, number, moreDigits, readNumber}
 use Rattle.model.specs.Lines.{Fields, malformed, fields, beforeMark, readField, readFieldsTo, readLine}
-
--- ---- Reading
 
 -- The number that an answer of the reader stands for, with the bytes after it.
 abbrev pub numberIn : List ℕ → NumberRead → Number
@@ -76,25 +73,3 @@ pub record LineSays (bytes : List ℕ) (answer : LineRead) : Type 0 where
   pub refusal : answer .refusal ≡ when (not (readLine bytes .wellFormed)) malformedLine
   pub arrival : answer .arrival ≡ readLine bytes .arrival
   pub used : answer .used ≡ readLine bytes .used
-
--- ---- Writing
-
--- Whether a number's digits fit from a place on.
-abbrev pub fits : ℕ → ℕ → List ℕ → Bool
-fits n place bytes = leb (place + length (decimal n)) (length bytes)
-
--- Bytes with others written over them from a place on.
-abbrev pub writtenAt : ℕ → List ℕ → List ℕ → List ℕ
-writtenAt place written bytes =
-    take place bytes ++ written ++ drop (place + length written) bytes
-
--- The digits of a number written from a place on where they fit, and how many they are.
-pub record DigitsPut (n place : ℕ) (before after : List ℕ) (answer : ℕ) : Type 0 where
-  pub count : answer ≡ length (decimal n)
-  pub bytes : after ≡ writtenAt place (decimal n) before
-
--- The digits of a number written from a place on, and how many they are; where they don't fit,
--- nothing is written and the answer is 0.
-pub record DecimalSays (n place : ℕ) (before after : List ℕ) (answer : ℕ) : Type 0 where
-  pub count : answer ≡ (if fits n place before then length (decimal n) else 0)
-  pub bytes : after ≡ (if fits n place before then writtenAt place (decimal n) before else before)

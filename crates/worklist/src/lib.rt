@@ -1,11 +1,11 @@
-// Decimal numbers and worklist lines: read from bytes, and written to bytes.
+// Decimal numbers and worklist lines, read from bytes.
 
 ghost use mathlib.Core.Path.{_≡_};
 ghost use mathlib.Core.Bool.{true};
 ghost use Prim.Native.Nat.{_+_, _-_, _≤_, _<_};
 ghost use lib.ListN.{length, drop};
-ghost use Rattle.model.specs.Decimal.{isDigit, digitValue, digitByte, decimal, leadingZero};
-ghost use Rattle.worklist.specs.Contracts.{notRead, DigitsSay, NumberAt, EndedSays, FieldAt, ThreeAt, LineSays, DigitsPut, DecimalSays};
+ghost use Rattle.model.specs.Decimal.{isDigit, digitValue, leadingZero};
+ghost use Rattle.worklist.specs.Contracts.{notRead, DigitsSay, NumberAt, EndedSays, FieldAt, ThreeAt, LineSays};
 use model::ACCEPTED;
 use model::Arrival;
 use model::MALFORMED_LINE;
@@ -212,53 +212,4 @@ pub fn test_line(bytes: &[u8]) -> LineRead
         arrival: arrival,
         used: 0,
     }
-}
-
-// How many digits a number has. Internal: for the crates that write lines of such numbers.
-pub fn count_decimal(n: u64) -> usize
-    ensures { λ r. ⌜ r ≡ length (decimal n) ⌝ }
-{
-    let mut rest = n;
-    let mut count: usize = 1;
-    while 9 < rest {
-        rest = rest / 10;
-        count += 1;
-    }
-    count
-}
-
-// The byte of a digit.
-fn digit_byte(digit: u64) -> u8
-    requires { ⌜ digit < 10 ⌝ }
-    ensures { λ r. ⌜ r ≡ digitByte digit ⌝ }
-{
-    (digit + 48) as u8
-}
-
-// Writes the digits of a number from a place on, where they fit; internal to `write_decimal`.
-fn put_digits(n: u64, bytes: &mut [u8], at: usize) -> usize
-    requires { ⌜ at + length (decimal n) ≤ length (now bytes) ⌝ }
-    ensures { λ r. ⌜ DigitsPut n at (now (bytes .entry)) (now (bytes .exit)) r ⌝ }
-{
-    if n < 10 {
-        bytes[at] = digit_byte(n);
-        return 1;
-    }
-    let used = put_digits(n / 10, bytes, at);
-    bytes[at + used] = digit_byte(n % 10);
-    used + 1
-}
-
-// Writes a number in decimal from a place on; answers how many bytes it took, 0 if they don't fit.
-pub fn write_decimal(n: u64, bytes: &mut [u8], at: usize) -> usize
-    ensures { λ r. ⌜ DecimalSays n at (now (bytes .entry)) (now (bytes .exit)) r ⌝ }
-{
-    let count = count_decimal(n);
-    if bytes.len() < at {
-        return 0;
-    }
-    if bytes.len() - at < count {
-        return 0;
-    }
-    put_digits(n, bytes, at)
 }

@@ -6,7 +6,7 @@ use native.Mathlib.Omega.{arith}
 use lib.ListN.{length, getD}
 use borrow.Author.Needs.{needs}
 use Rattle.network_memory.specs.Records.{noRecord}
-use Rattle.delivery.specs.Sending.{underwayOf}
+use Rattle.delivery.specs.UnderwayParts.{underwayOf}
 use Rattle.delivery.specs.Holding.{state, Delivering}
 use Rattle.delivery.proofs.HoldingLaws.{coordinator-memory-length, log-length}
 use Rattle.delivery.proofs.GoingLaws.{going-stored, going-room}

@@ -1,6 +1,6 @@
 -- `public_delivery::hand_to_coordinator` meets its contract: by whether the coordinator accepts.
 use mathlib.Core.Path.{ap, _∙_}
-use Rattle.delivery.specs.declared.Queue.{Queue}
+use Rattle.sending.specs.declared.Queue.{Queue}
 use Rattle.public_delivery.specs.Progress.{joinedIf}
 use Rattle.public_delivery.proofs.StepLaws.{coordinator-goes, coordinator-stops}
 use borrow.Author.Needs.{needs}

@@ -1,0 +1,2 @@
+-- Laws of writing that the functions' proofs share.
+pub mod WritingLaws

@@ -12,9 +12,6 @@ use Prim.Native.Nat.{ℕ, _+_, _*_, _≤_}
 use lib.Dec.{eqb}
 use lib.ListN.{length, getD}
 use Rattle.model.specs.declared.Message.{Message}
-use Rattle.model.specs.declared.SiteRecord.{SiteRecord}
-use Rattle.model.specs.declared.Sites.{Sites}
-use Rattle.model.specs.declared.CoordinatorRecord.{CoordinatorRecord}
 use Rattle.model.specs.Choice.{if_then_else_, isZero}
 use Rattle.model.specs.Limits.{messageLimit}
 use Rattle.model.specs.Messages.{noMessage}

@@ -1,4 +1,3 @@
 -- Laws of the calls on sites.
-pub mod MessageLaws
 pub mod CallLaws
 pub mod StartLaws

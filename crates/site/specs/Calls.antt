@@ -19,22 +19,12 @@ use Rattle.model.specs.Choice.{if_then_else_, isZero}
 use Rattle.model.specs.Refusals.{when, _orElse_, accepted, memoryTooShort, unknownSite}
 use Rattle.model.specs.Messages.{noMessage}
 use Rattle.model.specs.Settings.{settingsRefusal}
-use Rattle.model.specs.Site.{Site, SiteStep, arrivalRefusal, observed, siteMessageRefusal, siteReceives}
+use Rattle.model.specs.Site.{SiteStep, arrivalRefusal, observed, siteMessageRefusal, siteReceives}
 use Rattle.model.specs.SiteMemory.{siteIn, siteRecord, siteMemory, siteMemoryRefusal, overwrite}
 use Rattle.model.specs.NetworkMemory.{sitesWords, freshSites}
 use Rattle.site_steps.specs.declared.Observed.{Observed}
 use Rattle.site_steps.specs.declared.Answered.{Answered}
 use Rattle.site.specs.declared.StartedSites.{StartedSites}
-
--- The site of a record alone, for tests that look at the single numbers: no counter, no value.
-abbrev pub bareSite : SiteRecord → Site
-bareSite numbers = record {
-  counters = [];
-  histogram = [];
-  arrivals = numbers .arrivals;
-  pending = numbers .pending;
-  threshold = numbers .threshold;
-}
 
 -- ---- Starting all sites
 

@@ -11,7 +11,6 @@ ghost use Rattle.model.specs.Settings.{settingsRefusal};
 ghost use Rattle.model.specs.Site.{upTo};
 ghost use Rattle.model.specs.SiteMemory.{siteWords, sum, siteConsistent, siteMemoryRefusal};
 ghost use Rattle.site_memory.specs.Contracts.{counterPasses, countersPass, MemoryFits, CountsFit, ValuesFit};
-use counters::StoredCounter;
 use counters::Word;
 use model::ACCEPTED;
 use model::MEMORY_INCONSISTENT;
@@ -137,7 +136,7 @@ pub fn site_memory_refusal(settings: Settings, site: SiteRecord, memory: &[Word]
 }
 
 // The arrivals of a histogram at or below a value. Internal: `site_memory_refusal` decides that the
-// histogram lies within the memory, `site::message_refusal` that the value is one.
+// histogram lies within the memory, `site_refusals::message_refusal` that the value is one.
 pub fn count_up_to(memory: &[Word], from: usize, value: usize) -> u64
     requires { ⌜ ValuesFit (now memory) from value ⌝ }
     ensures { λ r. ⌜ r ≡ upTo value (take valueCount (drop from (now (memory .entry)))) ⌝ }

@@ -18,7 +18,7 @@ use Rattle.model.specs.Site.{Site, arrivalRefusal}
 use Rattle.model.specs.Network.{Network, siteAt}
 use Rattle.model.specs.Runs.{batchRefusal}
 use Rattle.model.proofs.RefusalLaws.{refused-same}
-use Rattle.site.specs.Calls.{bareSite}
+use Rattle.site_refusals.specs.Bare.{bareSite}
 use Rattle.tracker_steps.specs.Steps.{placesRefusal}
 use Rattle.tracker_steps.specs.Turns.{placeOf}
 

@@ -27,7 +27,7 @@ use Rattle.model.specs.NetworkMemory.{allArrivals, networkRefusal}
 use Rattle.model.specs.Runs.{Batch, batchRefusal}
 use Rattle.model.specs.SoundNetwork.{Sound}
 use Rattle.model.specs.DeliveryClaims.{delivery}
-use Rattle.site.specs.Calls.{bareSite}
+use Rattle.site_refusals.specs.Bare.{bareSite}
 use Rattle.delivery.specs.declared.Underway.{Underway}
 use Rattle.sending.specs.Log.{logRoom}
 use Rattle.sending.specs.Sending.{nothingWaits}

@@ -86,7 +86,7 @@ fn one_refusal(
     requires { ⌜ PlacesAsk settings written numbers ⌝ }
     ensures { λ r. ⌜ r ≡ placesRefusal settings own arrival numbers written ⌝ }
 {
-    let of_site = site::arrival_refusal(settings, own, arrival);
+    let of_site = site_refusals::arrival_refusal(settings, own, arrival);
     if of_site != ACCEPTED {
         return of_site;
     }

@@ -1,10 +1,10 @@
--- `site::amount_wrong` meets its contract: each kind by its test, and the amounts by theirs.
+-- `site_refusals::amount_wrong` meets its contract: each kind by its test, and the amounts by theirs.
 use borrow.Author.Tests.{eq-eqb, ne-eqb, lt-ltb}
 use Rattle.laws.proofs.Tests.{or-false}
-use Rattle.site.specs.Calls.{bareSite}
-use Rattle.site.proofs.MessageLaws.{wrong-by-limit}
-use Rattle.site.proofs.amount_wrong.Statement.{statement}
-use Rattle.site.proofs.amount_wrong.Tie as tie
+use Rattle.site_refusals.specs.Bare.{bareSite}
+use Rattle.site_refusals.proofs.MessageLaws.{wrong-by-limit}
+use Rattle.site_refusals.proofs.amount_wrong.Statement.{statement}
+use Rattle.site_refusals.proofs.amount_wrong.Tie as tie
 
 returns : tie.Need-returns
 returns c = simp (c .before .before .if1 .taken, ne-eqb _ _ (c .if2 .taken))

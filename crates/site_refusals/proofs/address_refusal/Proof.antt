@@ -1,9 +1,9 @@
--- `site::address_refusal` meets its contract: the rows in their order.
+-- `site_refusals::address_refusal` meets its contract: the rows in their order.
 use native.Mathlib.Omega.{arith}
 use borrow.Author.Tests.{lt-ltb, le-ltb, le-leb, lt-leb}
 use Rattle.model.specs.Limits.{topValue}
-use Rattle.site.proofs.address_refusal.Statement.{statement}
-use Rattle.site.proofs.address_refusal.Tie as tie
+use Rattle.site_refusals.proofs.address_refusal.Statement.{statement}
+use Rattle.site_refusals.proofs.address_refusal.Tie as tie
 
 returns : tie.Need-returns
 returns c = simp (le-leb _ _ (c .if1 .taken))

@@ -1,4 +1,4 @@
--- `site::message_refusal` meets its contract: the rows in their order.
+-- `site_refusals::message_refusal` meets its contract: the rows in their order.
 use Prim.Native.Nat.{ℕ}
 use mathlib.Core.Path.{_≡_}
 use mathlib.Core.Bool.{Bool, true, false}
@@ -6,9 +6,9 @@ use borrow.Author.Tests.{le-leb, lt-leb}
 use borrow.Author.Needs.{needs}
 use Rattle.model.specs.Refusals.{when, _orElse_, accepted, amountNotDue}
 use Rattle.model.specs.Site.{siteMessageRefusal}
-use Rattle.site.specs.Calls.{bareSite}
-use Rattle.site.proofs.message_refusal.Statement.{statement}
-use Rattle.site.proofs.message_refusal.Tie as tie
+use Rattle.site_refusals.specs.Bare.{bareSite}
+use Rattle.site_refusals.proofs.message_refusal.Statement.{statement}
+use Rattle.site_refusals.proofs.message_refusal.Tie as tie
 
 returns : tie.Need-returns
 returns c = simp (le-leb _ _ (c .if1 .taken))

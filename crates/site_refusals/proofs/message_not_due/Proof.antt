@@ -1,9 +1,9 @@
--- `site::message_not_due` meets its contract: each answer by the tests that lead to it.
+-- `site_refusals::message_not_due` meets its contract: each answer by the tests that lead to it.
 use borrow.Author.Tests.{eq-eqb, ne-eqb}
 use Rattle.laws.proofs.Tests.{and-false}
-use Rattle.site.proofs.MessageLaws.{not-due-by-kind}
-use Rattle.site.proofs.message_not_due.Statement.{statement}
-use Rattle.site.proofs.message_not_due.Tie as tie
+use Rattle.site_refusals.proofs.MessageLaws.{not-due-by-kind}
+use Rattle.site_refusals.proofs.message_not_due.Statement.{statement}
+use Rattle.site_refusals.proofs.message_not_due.Tie as tie
 
 returns : tie.Need-returns
 returns c =

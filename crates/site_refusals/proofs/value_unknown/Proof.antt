@@ -1,8 +1,8 @@
--- `site::value_unknown` meets its contract: each answer by its test.
+-- `site_refusals::value_unknown` meets its contract: each answer by its test.
 use borrow.Author.Tests.{eq-eqb, ne-eqb}
 use borrow.Author.Needs.{needs}
-use Rattle.site.proofs.value_unknown.Statement.{statement}
-use Rattle.site.proofs.value_unknown.Tie as tie
+use Rattle.site_refusals.proofs.value_unknown.Statement.{statement}
+use Rattle.site_refusals.proofs.value_unknown.Tie as tie
 
 cast-top : tie.Need-cast-top
 cast-top c = search needs

@@ -1,12 +1,12 @@
--- `site::arrival_refusal` meets its contract: 5, 6, 7 first, then 8.
+-- `site_refusals::arrival_refusal` meets its contract: 5, 6, 7 first, then 8.
 use mathlib.Core.Path.{_∙_, sym}
 use native.Mathlib.Omega.{arith}
 use borrow.Author.Tests.{le-leb, lt-leb}
 use borrow.Author.Needs.{needs}
 use Rattle.model.specs.Limits.{siteLimit}
 use Rattle.model.proofs.RefusalLaws.{refused-same}
-use Rattle.site.proofs.arrival_refusal.Statement.{statement}
-use Rattle.site.proofs.arrival_refusal.Tie as tie
+use Rattle.site_refusals.proofs.arrival_refusal.Statement.{statement}
+use Rattle.site_refusals.proofs.arrival_refusal.Tie as tie
 
 address-refusal-requires : tie.Need-address-refusal-requires
 address-refusal-requires c κs = search needs

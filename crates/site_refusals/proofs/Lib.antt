@@ -1,0 +1,2 @@
+-- Laws that the proofs of the tests share.
+pub mod MessageLaws

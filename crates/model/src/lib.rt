@@ -49,6 +49,21 @@ pub const COORDINATOR_LIMIT: u64 = 100000000000;
 
 pub const MESSAGE_LIMIT: u64 = 100000000000000;
 
+// The kinds of message: document 01's table.
+pub const ITEM_REPORT: u32 = 1;
+
+pub const COUNT_REPORT: u32 = 2;
+
+pub const POLL: u32 = 3;
+
+pub const POLL_ANSWER: u32 = 4;
+
+pub const PROBE: u32 = 5;
+
+pub const PROBE_ANSWER: u32 = 6;
+
+pub const ANNOUNCEMENT: u32 = 7;
+
 // The settings of a network: document 01's k, e, p, q, c and u. `epsilon` (leeway), `phi` (list
 // share) and `rank` are in thousandths; `rank` is a relative rank, not a position.
 pub struct Settings {

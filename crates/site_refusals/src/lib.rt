@@ -10,9 +10,12 @@ ghost use Rattle.model.specs.Site.{addressRefusal, arrivalRefusal, dueAtSite, w
 ghost use Rattle.site_refusals.specs.Bare.{bareSite};
 use model::ACCEPTED;
 use model::AMOUNT_NOT_DUE;
+use model::ANNOUNCEMENT;
 use model::Arrival;
 use model::MESSAGE_NOT_DUE;
 use model::Message;
+use model::POLL;
+use model::PROBE;
 use model::SITE_FULL;
 use model::SITE_LIMIT;
 use model::Settings;
@@ -21,9 +24,6 @@ use model::TOP_VALUE;
 use model::UNKNOWN_ITEM;
 use model::UNKNOWN_SITE;
 use model::VALUE_TOO_LARGE;
-use site_steps::ANNOUNCEMENT;
-use site_steps::POLL;
-use site_steps::PROBE;
 
 // Why an arrival's site, item or value is refused: 5, 6, 7.
 pub fn address_refusal(settings: Settings, arrival: Arrival) -> u32

@@ -16,24 +16,15 @@ use counters::StoredCounter;
 use counters::Word;
 use model::ACCEPTED;
 use model::Arrival;
+use model::COUNT_REPORT;
+use model::ITEM_REPORT;
 use model::Message;
+use model::POLL;
+use model::POLL_ANSWER;
+use model::PROBE;
+use model::PROBE_ANSWER;
 use model::Settings;
 use model::SiteRecord;
-
-// The kinds of message that a site sends or takes: document 01's table.
-pub const ITEM_REPORT: u32 = 1;
-
-pub const COUNT_REPORT: u32 = 2;
-
-pub const POLL: u32 = 3;
-
-pub const POLL_ANSWER: u32 = 4;
-
-pub const PROBE: u32 = 5;
-
-pub const PROBE_ANSWER: u32 = 6;
-
-pub const ANNOUNCEMENT: u32 = 7;
 
 // What an arrival leads to: the site's record then, and the messages that go out, of which there
 // are `count`; an absent one is all zeros.

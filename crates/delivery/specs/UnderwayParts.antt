@@ -1,4 +1,5 @@
--- What is under way, in parts: the records, and the messages that crate `sending` writes and counts.
+-- What is under way, in parts: the records, and the messages that crate `sending` writes and
+-- counts.
 --
 --   resting ..                    a network at rest: nothing waits
 --   trafficOf underway            the messages of what is under way

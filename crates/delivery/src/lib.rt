@@ -51,8 +51,9 @@ pub struct Change {
     pub out: Message,
 }
 
-// The record of one site. Internal: the batch call looks at a site that `site_refusals::address_refusal`
-// (5, 6) has let pass, in a network whose settings passed 1 to 3, so that there are at most 32.
+// The record of one site. Internal: the batch call looks at a site that
+// `site_refusals::address_refusal` (5, 6) has let pass, in a network whose settings passed 1 to 3,
+// so that there are at most 32.
 pub fn record_of(sites: Sites, which: usize) -> SiteRecord
     requires { ⌜ which < 32 ⌝ }
     ensures { λ r. ⌜ r ≡ getD (sites .records) which noRecord ⌝ }

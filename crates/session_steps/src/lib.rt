@@ -1,6 +1,6 @@
 // The steps of a session of the program `drawtrack`: a refusal, the draw of a line of the worklist,
-// and the results at its end. The functions are internal: crate `session`, which reads the lines and
-// says which step comes, calls them.
+// and the results at its end. The functions are internal: crate `session`, which reads the lines
+// and says which step comes, calls them.
 
 ghost use mathlib.Core.Path.{_≡_};
 ghost use mathlib.Core.List.{[]};

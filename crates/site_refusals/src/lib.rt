@@ -1,5 +1,5 @@
-// Why an arrival or a message is refused at a site: document 01's rows 5 to 10, each by a test of its
-// own, on the record alone. Nothing is changed here.
+// Why an arrival or a message is refused at a site: document 01's rows 5 to 10, each by a test of
+// its own, on the record alone. Nothing is changed here.
 
 ghost use mathlib.Core.Path.{_≡_};
 ghost use mathlib.Core.Bool.{not, _&&_};

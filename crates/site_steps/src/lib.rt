@@ -177,8 +177,8 @@ fn store_arrival(
 }
 
 // An arrival at a site: stored, and then the messages that go out. Internal: what it requires is
-// decided by `site_memory::site_memory_refusal` and `site_refusals::arrival_refusal`, or by the tests of the
-// batch call.
+// decided by `site_memory::site_memory_refusal` and `site_refusals::arrival_refusal`, or by the
+// tests of the batch call.
 pub fn observe_step(
     settings: Settings,
     site: SiteRecord,
@@ -206,8 +206,8 @@ pub fn observe_step(
 
 // A message at a site: a poll is answered by what is pending, a probe by the arrivals at or below
 // its value, and an announcement sets the threshold. The memory is only read. Internal: what it
-// requires is decided by `site_memory::site_memory_refusal` and `site_refusals::message_refusal`, or by the
-// tests of the batch call.
+// requires is decided by `site_memory::site_memory_refusal` and `site_refusals::message_refusal`,
+// or by the tests of the batch call.
 pub fn receive_step(
     settings: Settings,
     site: SiteRecord,

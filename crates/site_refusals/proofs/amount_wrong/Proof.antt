@@ -1,4 +1,5 @@
--- `site_refusals::amount_wrong` meets its contract: each kind by its test, and the amounts by theirs.
+-- `site_refusals::amount_wrong` meets its contract: each kind by its test, and the amounts by
+-- theirs.
 use borrow.Author.Tests.{eq-eqb, ne-eqb, lt-ltb}
 use Rattle.laws.proofs.Tests.{or-false}
 use Rattle.site_refusals.specs.Bare.{bareSite}

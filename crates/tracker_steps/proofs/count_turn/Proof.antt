@@ -1,4 +1,4 @@
--- `tracker::count_turn` meets its contract: three fields are changed.
+-- `tracker_steps::count_turn` meets its contract: three fields are changed.
 use native.Mathlib.Omega.{arith}
 use Rattle.tracker_steps.proofs.count_turn.Statement.{statement}
 use Rattle.tracker_steps.proofs.count_turn.Tie as tie

@@ -1,4 +1,4 @@
--- `tracker::deliver_turn` meets its contract: its messages, sent from a network at rest.
+-- `tracker_steps::deliver_turn` meets its contract: its messages, sent from a network at rest.
 use mathlib.Core.Path.{refl}
 use Rattle.tracker_steps.proofs.TurnLaws.{messages-ask}
 use Rattle.tracker_steps.proofs.BatchLaws.{holds-delivered}

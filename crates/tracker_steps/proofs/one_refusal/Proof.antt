@@ -1,4 +1,4 @@
--- `tracker::one_refusal` meets its contract: row by row.
+-- `tracker_steps::one_refusal` meets its contract: row by row.
 use mathlib.Core.Path.{sym, _∙_}
 use Rattle.tracker_steps.proofs.RefusalLaws.{arrival-refused, log-refused, not-refused}
 use borrow.Author.Needs.{needs}

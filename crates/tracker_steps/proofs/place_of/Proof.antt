@@ -1,4 +1,4 @@
--- `tracker::place_of` meets its contract: by whether there is such a place.
+-- `tracker_steps::place_of` meets its contract: by whether there is such a place.
 use borrow.Author.Needs.{needs}
 use borrow.Author.Tests.{lt-ltb, le-ltb}
 use Rattle.tracker_steps.proofs.place_of.Statement.{statement}

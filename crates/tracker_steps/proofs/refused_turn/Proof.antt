@@ -1,4 +1,4 @@
--- `tracker::refused_turn` meets its contract: a record and messages of zeros.
+-- `tracker_steps::refused_turn` meets its contract: a record and messages of zeros.
 use borrow.Author.Needs.{needs}
 use Rattle.tracker_steps.proofs.refused_turn.Statement.{statement}
 use Rattle.tracker_steps.proofs.refused_turn.Tie as tie

@@ -1,4 +1,4 @@
--- `tracker::take_arrival` meets its contract: the turn, its count and its messages.
+-- `tracker_steps::take_arrival` meets its contract: the turn, its count and its messages.
 use Rattle.tracker_steps.specs.Steps.{lentOf}
 use Rattle.tracker_steps.proofs.TurnLaws.{turn-asks, count-asks, deliver-asks, quiet-says, loud-says}
 use Rattle.tracker_steps.proofs.RefusalLaws.{place-within}

@@ -1,4 +1,4 @@
--- `tracker::take_turn` meets its contract: the arrival is refused, or its site takes it.
+-- `tracker_steps::take_turn` meets its contract: the arrival is refused, or its site takes it.
 use Rattle.tracker_steps.proofs.TurnLaws.{turn-places, turn-refused, turn-observes, turn-taken}
 use borrow.Author.Needs.{needs}
 use Rattle.tracker_steps.proofs.take_turn.Statement.{statement}

@@ -1,4 +1,4 @@
--- `tracker_steps::open_batch` meets its contract: the tests of the whole network, and nothing written.
+-- `tracker_steps::open_batch` meets its contract: the tests of the whole network, nothing written.
 use mathlib.Core.Path.{refl, ap}
 use Prim.Native.Nat.{ℕ}
 use Rattle.tracker_steps.specs.Steps.{opened}

@@ -112,7 +112,8 @@ fn refused_turn(number: u32, own: SiteRecord) -> Turn
 
 // An arrival is refused, or its site takes it. It is handed the one record that changes and hands
 // it back: the records of 32 sites are not copied for an arrival. `own` is that record, `written`
-// the messages written so far, and `numbers` the log's length.
+// the messages written so far, and `numbers` the log's length. Internal: the calls of crate
+// `tracker` alone call it, after `open_batch` has accepted.
 pub fn take_turn(
     settings: Settings,
     own: SiteRecord,
@@ -160,7 +161,8 @@ fn count_turn(answer: BatchAnswer, which: usize, turn: Turn) -> BatchAnswer
     next
 }
 
-// The messages of a turn, with full delivery.
+// The messages of a turn, with full delivery. Internal: it follows `take_turn`, whose answer has
+// what it requires.
 pub fn deliver_turn(
     settings: Settings,
     answer: BatchAnswer,
@@ -201,6 +203,7 @@ pub fn deliver_turn(
 }
 
 // One arrival of a batch, from its turn to its last message: what `run_batch` does in place.
+// Internal: `run_one` alone calls it, after `open_batch` has accepted.
 pub fn take_arrival(
     settings: Settings,
     answer: BatchAnswer,

@@ -1,6 +1,6 @@
 // Messages that go out: each is written to the log, counted, and waits last, until it is handed
-// over. The functions are internal: the deliveries of crates `delivery` and `public_delivery` call
-// them, and what they require follows from what these require.
+// over. The functions are internal: the deliveries of crates `delivery` and `public_delivery`, and
+// the parts of the batch call, call them, and what they require follows from what these require.
 ghost use mathlib.Core.Path.{_≡_};
 ghost use Prim.Native.Nat.{_+_, _*_, _≤_};
 ghost use lib.ListN.{length};

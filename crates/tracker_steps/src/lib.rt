@@ -112,8 +112,8 @@ fn refused_turn(number: u32, own: SiteRecord) -> Turn
 
 // An arrival is refused, or its site takes it. It is handed the one record that changes and hands
 // it back: the records of 32 sites are not copied for an arrival. `own` is that record, `written`
-// the messages written so far, and `numbers` the log's length. Internal: the calls of crate
-// `tracker` alone call it, after `open_batch` has accepted.
+// the messages written so far, and `numbers` the log's length. Internal: `take_arrival` and
+// `tracker::run_batch` alone call it, after `open_batch` has accepted.
 pub fn take_turn(
     settings: Settings,
     own: SiteRecord,
@@ -161,8 +161,8 @@ fn count_turn(answer: BatchAnswer, which: usize, turn: Turn) -> BatchAnswer
     next
 }
 
-// The messages of a turn, with full delivery. Internal: it follows `take_turn`, whose answer has
-// what it requires.
+// The messages of a turn, with full delivery. Internal: it follows `take_turn`, once the turn
+// is counted in the answer.
 pub fn deliver_turn(
     settings: Settings,
     answer: BatchAnswer,

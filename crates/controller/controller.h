@@ -1,9 +1,15 @@
 /* The three calls that a bench controller makes, in C or C++. Link with libcontroller.a.
  *
  * Each call answers 0 if it accepts, or the number of the refusal. Values go out through pointers,
- * and a refusal leaves the numbers there as they were. No call keeps a pointer, allocates, or fails in
- * any other way. Pointers must not be null, except that of an empty byte range, whose length is 0,
- * and the numbers that a call hands out must not overlap one another or the bytes.
+ * and a refusal leaves the numbers there as they were. No call keeps a pointer, allocates, or fails
+ * in any other way.
+ *
+ * What a caller owes:
+ * - A pointer to a number is never null, and is aligned as C aligns an object of its type: 4 bytes
+ *   for uint32_t, 8 for uint64_t and size_t. Variables, array elements and fields of a struct that
+ *   is not packed are.
+ * - The bytes may stand at any address. With length 0 the pointer to them may be null.
+ * - The numbers that a call hands out do not overlap one another or the bytes.
  */
 #ifndef TRACKER_CONTROLLER_H
 #define TRACKER_CONTROLLER_H

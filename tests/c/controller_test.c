@@ -1,8 +1,10 @@
 /* Links libcontroller.a and checks its three calls: document 01's instances P7, P10 and the line
- * instances, every refusal of settings, and every sort of malformed line. Its last line counts the
- * checks; it exits non-zero if one failed. */
+ * instances, every refusal of settings, every sort of malformed line, and what the header says of
+ * pointers: null for no bytes, bytes at any address, numbers aligned as C aligns them and no more.
+ * Its last line counts the checks; it exits non-zero if one failed. */
 #include "controller.h"
 
+#include <stdalign.h>
 #include <stdio.h>
 #include <string.h>
 
@@ -131,8 +133,69 @@ static void line_checks(void) {
     }
 }
 
+/* With length 0 the bytes may be null: no line, and the numbers stay. */
+static void null_checks(void) {
+    uint32_t out[3] = {9, 9, 9};
+    size_t used = 99;
+    check(tracker_test_line(NULL, 0, &out[0], &out[1], &out[2], &used) == 13, "null, no bytes");
+    check(out[0] == 9 && out[1] == 9 && out[2] == 9 && used == 99, "null: the numbers stay");
+}
+
+/* The bytes of a line at each of eight addresses in a row. */
+static void byte_address_checks(void) {
+    static const char text[] = "31;65535;1023\n";
+    uint8_t room[8 + sizeof text];
+    size_t shift;
+    for (shift = 0; shift < 8; shift++) {
+        uint32_t out[3] = {9, 9, 9};
+        size_t used = 99;
+        memcpy(room + shift, text, sizeof text);
+        check(tracker_test_line(room + shift, 14, &out[0], &out[1], &out[2], &used) == 0 &&
+                  out[0] == 31 && out[1] == 65535 && out[2] == 1023 && used == 14,
+              "bytes at any address");
+    }
+}
+
+/* Numbers at the least aligned addresses that the header allows, close together: the places before
+ * and after each are as they were. */
+struct numbers {
+    uint32_t before;
+    uint32_t deck;
+    uint32_t code;
+    uint32_t volume_class;
+    size_t used;
+    uint64_t messages;
+    uint32_t after;
+};
+
+static void alignment_checks(void) {
+    /* one number further on, so that a uint32_t stands at 4 and at 0 of a multiple of 8 */
+    alignas(16) uint32_t row[4] = {9, 9, 9, 9};
+    struct numbers n = {1, 9, 9, 9, 99, 77, 2};
+    size_t used = 99;
+    check(alignof(uint32_t) == 4 && alignof(uint64_t) == 8 && alignof(size_t) == 8,
+          "the alignments that the header names");
+    check(line("4;5;6\n", 6, row, &used) == 0 && row[0] == 4 && row[1] == 5 && row[2] == 6 &&
+              row[3] == 9 && used == 6,
+          "numbers from a multiple of 16 on");
+    check(line("4;5;6\n", 6, row + 1, &used) == 0 && row[0] == 4 && row[1] == 4 && row[2] == 5 &&
+              row[3] == 6,
+          "numbers one place further on");
+    check(tracker_test_line((const uint8_t *)"4;5;6\n", 6, &n.deck, &n.code, &n.volume_class,
+                            &n.used) == 0 &&
+              n.before == 1 && n.deck == 4 && n.code == 5 && n.volume_class == 6 && n.used == 6 &&
+              n.messages == 77 && n.after == 2,
+          "numbers that are fields of a struct");
+    check(allowance(settings_a, 6, &n.messages) == 0 && n.messages == 600 && n.used == 6 &&
+              n.after == 2,
+          "the allowance into a field of a struct");
+}
+
 int main(void) {
     settings_checks();
+    null_checks();
+    byte_address_checks();
+    alignment_checks();
     allowance_checks();
     line_checks();
     printf("%d passed, %d failed\n", passed, failed);

@@ -28,18 +28,18 @@ extern "C" {
 #define TRACKER_TOO_FEW_SLOTS 3        /* slots times leeway, c x e, is below 6000 */
 #define TRACKER_MALFORMED_LINE 13      /* a line is not deck;code;class and a line feed */
 
-/* Tests settings: decks k (1 to 32), leeway e (2 to 1000), list share p (1 to 1000) and rank q (1 to
- * 1000) in thousandths, slots c (1 to 3000), code space u (1 to 65536). Answers 0, 1, 2 or 3. */
+/* Tests settings: decks k (1 to 32), leeway e (2 to 1000), list share p (1 to 1000) and rank q (1
+ * to 1000) in thousandths, slots c (1 to 3000), code space u (1 to 65536). Answers 0, 1, 2 or 3. */
 uint32_t tracker_test_settings(uint32_t decks, uint32_t leeway, uint32_t share, uint32_t rank,
                                uint32_t slots, uint32_t codes);
 
-/* The most messages that so many draws may cost under these settings: into *messages. Answers 0, 1, 2
- * or 3, as the settings test does. */
+/* The most messages that so many draws may cost under these settings: into *messages. Answers 0, 1,
+ * 2 or 3, as the settings test does. */
 uint32_t tracker_allowance(uint32_t decks, uint32_t leeway, uint32_t share, uint32_t rank,
                            uint32_t slots, uint32_t codes, uint64_t draws, uint64_t *messages);
 
-/* Reads the first worklist line of some bytes: its deck, code and class, and how many bytes the line
- * takes with its line feed. Answers 0 or 13. */
+/* Reads the first worklist line of some bytes: its deck, code and class, and how many bytes the
+ * line takes with its line feed. Answers 0 or 13. */
 uint32_t tracker_test_line(const uint8_t *bytes, size_t length, uint32_t *deck, uint32_t *code,
                            uint32_t *volume_class, size_t *used);
 

@@ -1,8 +1,8 @@
 //! Counts the messages of streams of draws beside the allowance and beside one message for each
 //! draw, and writes a table and a plot: `messages TABLE.md PLOT.svg`.
 //!
-//! The counts are those of the rules, taken from the separate implementation in tests/reference; the
-//! proved batch call writes the same messages (tests/ compares them).
+//! The counts are those of the rules, taken from the separate implementation in tests/reference;
+//! the proved batch call writes the same messages (tests/ compares them).
 
 use reference::coordinator::start_coordinator;
 use reference::message::{Arrival, Message};
@@ -147,7 +147,10 @@ fn frame(svg: &mut String, panel: usize, title: &str) {
 
 fn main() {
     let paths: Vec<String> = std::env::args().skip(1).collect();
-    let mut table = String::from("| decks | slots | leeway | stream | draws | messages | messages a draw | allowance |\n|---|---|---|---|---|---|---|---|\n");
+    let mut table = String::from(
+        "| decks | slots | leeway | stream | draws | messages | messages a draw | allowance |\n\
+         |---|---|---|---|---|---|---|---|\n",
+    );
     let mut svg = String::from(
         "<svg xmlns=\"http://www.w3.org/2000/svg\" width=\"880\" height=\"740\">\n\
          <rect width=\"880\" height=\"740\" fill=\"white\"/>\n",
@@ -170,14 +173,18 @@ fn main() {
                 )
                 .unwrap();
             }
-            granted = points.iter().map(|p| (p.0 as f64, allowance(&settings, p.0).unwrap() as f64)).collect();
+            granted = points
+                .iter()
+                .map(|p| (p.0 as f64, allowance(&settings, p.0).unwrap() as f64))
+                .collect();
             let drawn: Vec<(f64, f64)> = points.iter().map(|p| (p.0 as f64, p.1 as f64)).collect();
             line(&mut svg, panel, &drawn, colour, "");
         }
         line(&mut svg, panel, &granted, "#000", "stroke-dasharray=\"6 3\"");
         line(&mut svg, panel, &[(100.0, 100.0), (1e6, 1e6)], "#888", "stroke-dasharray=\"2 3\"");
     }
-    let legend = "messages by draws taken: blue uniform, green Zipf, red one code at all decks in turn; dashed the allowance, dotted one message a draw";
+    let legend = "messages by draws taken: blue uniform, green Zipf, red one code at all \
+        decks in turn; dashed the allowance, dotted one message a draw";
     text(&mut svg, 440.0, 722.0, 12, "middle", legend);
     svg.push_str("</svg>\n");
     std::fs::write(&paths[0], table).expect("the table's path can be written");

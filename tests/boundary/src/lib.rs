@@ -1,7 +1,7 @@
-//! Safe functions over the calls that `libtesting.a` and `libtesting_batches.a` export. Records are plain numbers: settings
-//! six, a site's record four, all sites 129, the coordinator's record ten, a message four. Lent
-//! numbers may be more; the rest is not looked at. A call answers document 01's refusal, or
-//! [`UNFIT`] where what it is lent does not fit the boundary.
+//! Safe functions over the calls that `libtesting.a` and `libtesting_batches.a` export. Records are
+//! plain numbers: settings six, a site's record four, all sites 129, the coordinator's record ten,
+//! a message four. Lent numbers may be more; the rest is not looked at. A call answers document
+//! 01's refusal, or [`UNFIT`] where what it is lent does not fit the boundary.
 
 mod batch;
 mod delivery;

@@ -78,7 +78,7 @@ fn settings_and_allowance_agree() {
     assert!(accepted > CASES / 5 && accepted < CASES * 9 / 10, "{accepted} accepted");
 }
 
-/// A well-formed line, or one with some bytes changed, left out or put in, and perhaps more after it.
+/// A well-formed line, or one with some bytes changed, left out or put in; perhaps more after it.
 fn some_line(random: &mut Random) -> Vec<u8> {
     let mut text = String::new();
     for mark in [";", ";", "\n"] {

@@ -102,7 +102,8 @@ fn malformed_line(random: &mut Random) -> Vec<u8> {
         .pick::<&[u8]>(&[
             b"\n", b"0;7\n", b"0;7;3;1\n", b"00;7;3\n", b"0;07;3\n", b"0;7;03\n", b"0;7;3",
             b";7;3\n", b"0;;3\n", b"0;7;\n", b"10000000;7;3\n", b"0;12345678;3\n", b"0;7;3\r\n",
-            b" 0;7;3\n", b"0;7;3 \n", b"-1;7;3\n", b"0,7,3\n", b"0;7;\x003\n", b"\xff\n", b"0;a;3\n",
+            b" 0;7;3\n", b"0;7;3 \n", b"-1;7;3\n", b"0,7,3\n", b"0;7;\x003\n", b"\xff\n",
+            b"0;a;3\n",
         ])
         .to_vec()
 }
@@ -157,7 +158,8 @@ pub fn input(random: &mut Random, sort: u64) -> Vec<u8> {
                 &[0, 1, 1000, 1001, 65_536, 65_537],
             ];
             settings[which] = *random.pick(limits[which]);
-            [line_of(&settings), worklist(random, &served_settings(&mut Random::new(1)), 60)].concat()
+            let served = served_settings(&mut Random::new(1));
+            [line_of(&settings), worklist(random, &served, 60)].concat()
         }
         // p below e, and c * e around 6000
         10 => {
@@ -178,7 +180,7 @@ pub fn input(random: &mut Random, sort: u64) -> Vec<u8> {
             }
             [line, worklist(random, &settings, 60)].concat()
         }
-        // a worklist of about the most bytes, of rubbish or of draws: 4 or 13 or whatever comes first
+        // a worklist of about the most bytes, of rubbish or of draws: 4, 13 or whatever comes first
         12 => {
             let length = random.between(8190, 8194) as usize;
             let mut lines = worklist(random, &settings, length);
@@ -199,7 +201,9 @@ pub fn input(random: &mut Random, sort: u64) -> Vec<u8> {
         }
         // nothing, or little
         _ => random
-            .pick::<&[u8]>(&[b"", b"\n", b";", b"1", b"1;1000;1000;500;6;10", b"1;1000;1000;500;6;10\n"])
+            .pick::<&[u8]>(&[
+                b"", b"\n", b";", b"1", b"1;1000;1000;500;6;10", b"1;1000;1000;500;6;10\n",
+            ])
             .to_vec(),
     }
 }

@@ -5,8 +5,11 @@ ghost use Rattle.model.specs.Messages.{poll, probe, announcement};
 ghost use Rattle.coordinator_kinds.specs.Steps.{inPhase, spoken, silent};
 use crate::Answered;
 use crate::no_message;
+use model::ANNOUNCEMENT;
 use model::CoordinatorRecord;
 use model::Message;
+use model::POLL;
+use model::PROBE;
 use model::Phase;
 
 // A kind 3.
@@ -14,7 +17,7 @@ pub fn poll_of(site: u32) -> Message
     ensures { λ r. ⌜ r ≡ poll site ⌝ }
 {
     Message {
-        kind: 3,
+        kind: POLL,
         site: site,
         a: 0,
         b: 0,
@@ -26,7 +29,7 @@ pub fn probe_of(site: u32, value: u32) -> Message
     ensures { λ r. ⌜ r ≡ probe site value ⌝ }
 {
     Message {
-        kind: 5,
+        kind: PROBE,
         site: site,
         a: value as u64,
         b: 0,
@@ -38,7 +41,7 @@ pub fn announcement_of(site: u32, threshold: u64, base: u64) -> Message
     ensures { λ r. ⌜ r ≡ announcement site threshold base ⌝ }
 {
     Message {
-        kind: 7,
+        kind: ANNOUNCEMENT,
         site: site,
         a: threshold,
         b: base,

@@ -8,6 +8,7 @@ ghost use Rattle.coordinator_kinds.specs.Steps.{ThresholdAsks};
 use model::CoordinatorRecord;
 use model::Message;
 use model::Settings;
+use model::THRESHOLD_FACTOR;
 
 pub mod answers;
 pub mod reports;
@@ -40,7 +41,7 @@ pub fn threshold_of(settings: Settings, base: u64) -> u64
     ensures { λ r. ⌜ r ≡ thresholdOf settings base ⌝ }
 {
     let share = (settings.epsilon as u64) * base;
-    let parts = 3000 * (settings.sites as u64);
+    let parts = THRESHOLD_FACTOR * (settings.sites as u64);
     let threshold = share / parts;
     if threshold < 1 {
         return 1;

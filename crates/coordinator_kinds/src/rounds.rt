@@ -18,6 +18,7 @@ use crate::threshold_of;
 use model::CoordinatorRecord;
 use model::Message;
 use model::Phase;
+use model::RANK_FACTOR;
 use model::Settings;
 use model::TOP_VALUE;
 
@@ -54,8 +55,9 @@ pub fn take_poll_answer(
 {
     let mut next = coordinator;
     next.total = coordinator.total + message.a;
-    if site + 1 < settings.sites {
-        return speak(next, Phase::Collecting(site + 1), poll_of(site + 1));
+    let following = site + 1;
+    if following < settings.sites {
+        return speak(next, Phase::Collecting(following), poll_of(following));
     }
     close(settings, next)
 }
@@ -100,7 +102,7 @@ fn halve(
 {
     let half = middle_of(low, high);
     let needed = (settings.rank as u64) * coordinator.base;
-    if needed <= 1000 * sum {
+    if needed <= RANK_FACTOR * sum {
         return narrow(settings, coordinator, low, half);
     }
     narrow(settings, coordinator, half + 1, high)

@@ -11,9 +11,13 @@ ghost use Rattle.model.specs.Coordinator.{dueIn, askedValue, namesLargeValue, w
 ghost use Rattle.model.specs.CoordinatorMemory.{coordinatorIn};
 use model::ACCEPTED;
 use model::AMOUNT_NOT_DUE;
+use model::COUNT_REPORT;
 use model::CoordinatorRecord;
+use model::ITEM_REPORT;
 use model::MESSAGE_NOT_DUE;
 use model::Message;
+use model::POLL_ANSWER;
+use model::PROBE_ANSWER;
 use model::Phase;
 use model::SITE_LIMIT;
 use model::Settings;
@@ -28,19 +32,19 @@ fn not_due(phase: Phase, message: Message) -> bool
 {
     match phase {
         Phase::Idle => {
-            if message.kind == 1 {
+            if message.kind == ITEM_REPORT {
                 return false;
             }
-            message.kind != 2
+            message.kind != COUNT_REPORT
         }
         Phase::Collecting(site) => {
-            if message.kind == 4 {
+            if message.kind == POLL_ANSWER {
                 return message.site != site;
             }
             true
         }
         Phase::Probing(site, _, _, _) => {
-            if message.kind == 6 {
+            if message.kind == PROBE_ANSWER {
                 return message.site != site;
             }
             true
@@ -65,7 +69,7 @@ fn asked_value(phase: Phase) -> u64
 fn names_unknown_item(settings: Settings, message: Message) -> bool
     ensures { λ r. ⌜ r ≡ (isItemReport message && leb (settings .universe) (message .a)) ⌝ }
 {
-    if message.kind == 1 {
+    if message.kind == ITEM_REPORT {
         return (settings.universe as u64) <= message.a;
     }
     false
@@ -76,10 +80,10 @@ fn names_large_value(coordinator: CoordinatorRecord, message: Message) -> bool
     ensures { λ r. ⌜ ((settings : Settings) (memory : List ℕ) → r ≡ namesLargeValue
         (coordinatorIn settings coordinator memory) message) ⌝ }
 {
-    if message.kind == 6 {
+    if message.kind == PROBE_ANSWER {
         return (TOP_VALUE as u64) < message.a;
     }
-    if message.kind == 2 {
+    if message.kind == COUNT_REPORT {
         if coordinator.threshold == 1 {
             return (TOP_VALUE as u64) < message.b;
         }
@@ -92,10 +96,10 @@ fn wrong_amount(coordinator: CoordinatorRecord, message: Message) -> bool
     ensures { λ r. ⌜ ((settings : Settings) (memory : List ℕ) → r ≡ wrongAtCoordinator
         (coordinatorIn settings coordinator memory) message) ⌝ }
 {
-    if message.kind == 1 {
+    if message.kind == ITEM_REPORT {
         return message.b != coordinator.threshold;
     }
-    if message.kind == 2 {
+    if message.kind == COUNT_REPORT {
         if message.a != coordinator.threshold {
             return true;
         }
@@ -104,13 +108,13 @@ fn wrong_amount(coordinator: CoordinatorRecord, message: Message) -> bool
         }
         return message.b != 0;
     }
-    if message.kind == 4 {
+    if message.kind == POLL_ANSWER {
         if coordinator.threshold <= message.a {
             return true;
         }
         return message.b != 0;
     }
-    if message.kind == 6 {
+    if message.kind == PROBE_ANSWER {
         let phase = coordinator.phase;
         let asked = asked_value(phase);
         if message.a != asked {

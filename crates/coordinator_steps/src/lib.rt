@@ -17,6 +17,7 @@ use coordinator_kinds::reports::take_item_report;
 use coordinator_kinds::rounds::take_poll_answer;
 use coordinator_kinds::rounds::take_probe_answer;
 use model::CoordinatorRecord;
+use model::ITEM_REPORT;
 use model::Message;
 use model::Phase;
 use model::Settings;
@@ -63,7 +64,7 @@ pub fn receive_step(
     let phase = coordinator.phase;
     match phase {
         Phase::Idle => {
-            if message.kind == 1 {
+            if message.kind == ITEM_REPORT {
                 return take_item_report(settings, coordinator, message, memory);
             }
             take_count_report(settings, coordinator, message, memory)

@@ -5,6 +5,7 @@ ghost use Prim.Native.Nat.{_+_, _≤_, _<_};
 ghost use lib.ListN.{length};
 ghost use Rattle.model.specs.Decimal.{digitByte, decimal};
 ghost use Rattle.decimals.specs.Contracts.{DigitsPut, DecimalSays};
+use model::ZERO;
 
 // How many digits a number has. Internal: for the crates that write lines of such numbers.
 pub fn count_decimal(n: u64) -> usize
@@ -24,7 +25,7 @@ fn digit_byte(digit: u64) -> u8
     requires { ⌜ digit < 10 ⌝ }
     ensures { λ r. ⌜ r ≡ digitByte digit ⌝ }
 {
-    (digit + 48) as u8
+    (digit as u8) + ZERO
 }
 
 // Writes the digits of a number from a place on, where they fit; internal to `write_decimal`.

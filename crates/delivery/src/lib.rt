@@ -17,8 +17,13 @@ use crate::handing::hand_over;
 use crate::handing::site_of_head;
 use counters::Word;
 use model::Arrival;
+use model::COUNT_REPORT;
 use model::CoordinatorRecord;
+use model::ITEM_REPORT;
 use model::Message;
+use model::POLL_ANSWER;
+use model::PROBE_ANSWER;
+use model::SITE_RECORDS;
 use model::Settings;
 use model::SiteRecord;
 use model::Sites;
@@ -88,23 +93,23 @@ pub fn at_rest(sites: Sites, coordinator: CoordinatorRecord, written: u64) -> Un
 pub fn to_coordinator(message: Message) -> bool
     ensures { λ r. ⌜ r ≡ toCoordinator message ⌝ }
 {
-    if message.kind == 1 {
+    if message.kind == ITEM_REPORT {
         return true;
     }
-    if message.kind == 2 {
+    if message.kind == COUNT_REPORT {
         return true;
     }
-    if message.kind == 4 {
+    if message.kind == POLL_ANSWER {
         return true;
     }
-    message.kind == 6
+    message.kind == PROBE_ANSWER
 }
 
 // A delivery to its end. The records of the sites are changed in their places here, and handed to
 // no function: 32 of them would be copied for each message.
 fn deliver(
     settings: Settings,
-    mut records: [SiteRecord; 32],
+    mut records: [SiteRecord; SITE_RECORDS],
     mut coordinator: CoordinatorRecord,
     mut traffic: Traffic,
     site_memory: &[Word],

@@ -8,6 +8,7 @@ ghost use Rattle.listing.specs.Contracts.{Lists, WriteAsks, Writes, hitt
 use coordinator_tests::coordinator_memory_refusal;
 use model::ACCEPTED;
 use model::CoordinatorRecord;
+use model::LIST_FACTOR;
 use model::LIST_TOO_SHORT;
 use model::Settings;
 use reading::side_needed;
@@ -26,7 +27,7 @@ fn is_listed(settings: Settings, total: u64, number: u64) -> bool
     if total < 1 {
         return false;
     }
-    side_needed(settings, total, number) <= 2000 * number
+    side_needed(settings, total, number) <= LIST_FACTOR * number
 }
 
 // Whether the listed items have places. All of them have where there is a place for every item;

@@ -1,8 +1,8 @@
 // The record types that the calls take and hand back. The model's definitions (specs/) speak of
 // these very types: to the logic a machine number is a natural number and a declared array a list,
 // so no translation stands between a contract and the model. This crate has no function. The
-// numbers of refusals and limits stand here once for all code, as specs/Refusals.antt and
-// specs/Limits.antt have them once for all definitions.
+// numbers of refusals, limits and kinds of message stand here once for all code, as
+// specs/Refusals.antt and specs/Limits.antt have them once for all definitions.
 
 // Why a call is refused: document 01's table "Refused".
 pub const ACCEPTED: u32 = 0;
@@ -35,13 +35,36 @@ pub const MALFORMED_LINE: u32 = 13;
 
 pub const LOG_TOO_SHORT: u32 = 14;
 
-// Document 01's limits: the greatest value and how many values there are, the most sites, the draws
-// a site takes, the numbers the coordinator holds, and the messages a network counts.
+// The ranges of the settings: "Decks k 1 to 32. Leeway e 2 to 1000, list share p 1 to 1000, rank q
+// 1 to 1000, all in thousandths. Slots c 1 to 3000 for each deck. Code space u 1 to 65,536". All
+// but the leeway are at least 1.
+pub const LEAST_SETTING: u32 = 1;
+
+pub const MOST_SITES: u32 = 32;
+
+pub const LEAST_EPSILON: u32 = 2;
+
+pub const MOST_EPSILON: u32 = 1000;
+
+pub const MOST_PHI: u32 = 1000;
+
+pub const MOST_RANK: u32 = 1000;
+
+pub const MOST_CAPACITY: u32 = 3000;
+
+pub const MOST_UNIVERSE: u32 = 65536;
+
+// "c × e < 6000" is refused, with 3.
+pub const LEAST_PRODUCT: u64 = 6000;
+
+// The records in a `Sites` value, as many as there are sites at most.
+pub const SITE_RECORDS: usize = MOST_SITES as usize;
+
+// Document 01's limits: the greatest value and how many values there are, the draws a site takes,
+// the numbers the coordinator holds, and the messages a network counts.
 pub const TOP_VALUE: u32 = 1023;
 
 pub const VALUE_COUNT: usize = 1024;
-
-pub const MOST_SITES: u32 = 32;
 
 pub const SITE_LIMIT: u64 = 1000000000;
 
@@ -49,7 +72,37 @@ pub const COORDINATOR_LIMIT: u64 = 100000000000;
 
 pub const MESSAGE_LIMIT: u64 = 100000000000000;
 
-// The kinds of message: document 01's table.
+// "At most 23 × k + 2 messages follow one draw": for each site when a round closes, and the
+// arrival's own. Function `most_messages` of crate `settings` has the sum.
+pub const CLOSING_MESSAGES: u64 = 23;
+
+pub const ARRIVAL_MESSAGES: u64 = 2;
+
+// The factors of document 01's formulas: "e × base / (3000 × k)", the threshold that a base gives;
+// "1000 × sum ≥ q × base", in the halving and for the class; "2000 × its number ≥ (2p - e) ×
+// total", the list rule; "150,000 × k × (binary digits of n, plus 1) / e", the allowance.
+pub const THRESHOLD_FACTOR: u64 = 3000;
+
+pub const RANK_FACTOR: u64 = 1000;
+
+pub const LIST_FACTOR: u64 = 2000;
+
+pub const ALLOWANCE_FACTOR: u64 = 150000;
+
+// The bytes of a line: the first and the last digit, and the marks that end a field and a line.
+pub const ZERO: u8 = 48;
+
+pub const NINE: u8 = 57;
+
+pub const SEMICOLON: u8 = 59;
+
+pub const LINE_FEED: u8 = 10;
+
+// "1 to 7 digits each": after a number's first digit, six more at most.
+pub const MORE_DIGITS: u32 = 6;
+
+// The kinds of message: document 01's table. 0 is no kind: where no message goes out, the place of
+// one holds four zeros.
 pub const ITEM_REPORT: u32 = 1;
 
 pub const COUNT_REPORT: u32 = 2;
@@ -102,7 +155,7 @@ pub struct SiteRecord {
 
 // The records of up to 32 sites in one value, and the count of messages since the start.
 pub struct Sites {
-    pub records: [SiteRecord; 32],
+    pub records: [SiteRecord; SITE_RECORDS],
     pub messages: u64,
 }
 

@@ -9,7 +9,9 @@ ghost use Rattle.reading.specs.Contracts.{ReadsMargin, ReadsQuantile, Re
 use coordinator_tests::coordinator_memory_refusal;
 use model::ACCEPTED;
 use model::CoordinatorRecord;
+use model::LIST_FACTOR;
 use model::Quantile;
+use model::RANK_FACTOR;
 use model::Settings;
 use model::UNKNOWN_ITEM;
 use model::VALUE_COUNT;
@@ -49,7 +51,7 @@ fn margin_of(settings: Settings, total: u64, number: u64) -> i64
     requires { ⌜ SidesAsk settings total number ⌝ }
     ensures { λ r. ⌜ r ≡ difference (2000 * number) (sideNeeded settings total) ⌝ }
 {
-    subtract(2000 * number, side_needed(settings, total, number))
+    subtract(LIST_FACTOR * number, side_needed(settings, total, number))
 }
 
 // Why the margin is refused, or 0.
@@ -105,7 +107,7 @@ fn least_value(rank: u32, total: u64, counts: &[u64]) -> Quantile
     let mut value = 0;
     while value < counts.len() {
         below += counts[value];
-        if needed <= 1000 * below {
+        if needed <= RANK_FACTOR * below {
             return Quantile::Value(value as u32);
         }
         value += 1;

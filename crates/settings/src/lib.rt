@@ -1,12 +1,25 @@
-// The settings test and the allowance: what a planner asks before any memory is lent.
+// The settings test, and what messages may cost: those of one arrival and the allowance. It is what
+// a planner asks before any memory is lent.
 
 ghost use mathlib.Core.Path.{_≡_};
 ghost use mathlib.Core.Bool.{not};
 ghost use Rattle.model.specs.Choice.{between};
+ghost use Rattle.model.specs.Limits.{mostMessages};
 ghost use Rattle.model.specs.Settings.{inRange, settingsRefusal, digits};
 ghost use Rattle.settings.specs.Contracts.{AllowanceSays};
 use model::ACCEPTED;
+use model::ALLOWANCE_FACTOR;
+use model::ARRIVAL_MESSAGES;
+use model::CLOSING_MESSAGES;
+use model::LEAST_EPSILON;
+use model::LEAST_PRODUCT;
+use model::LEAST_SETTING;
+use model::MOST_CAPACITY;
+use model::MOST_EPSILON;
+use model::MOST_PHI;
+use model::MOST_RANK;
 use model::MOST_SITES;
+use model::MOST_UNIVERSE;
 use model::PHI_BELOW_EPSILON;
 use model::SETTING_OUT_OF_RANGE;
 use model::Settings;
@@ -32,22 +45,22 @@ fn outside(low: u32, x: u32, high: u32) -> bool
 fn any_outside(settings: Settings) -> bool
     ensures { λ r. ⌜ r ≡ not (inRange settings) ⌝ }
 {
-    if outside(1, settings.sites, MOST_SITES) {
+    if outside(LEAST_SETTING, settings.sites, MOST_SITES) {
         return true;
     }
-    if outside(2, settings.epsilon, 1000) {
+    if outside(LEAST_EPSILON, settings.epsilon, MOST_EPSILON) {
         return true;
     }
-    if outside(1, settings.phi, 1000) {
+    if outside(LEAST_SETTING, settings.phi, MOST_PHI) {
         return true;
     }
-    if outside(1, settings.rank, 1000) {
+    if outside(LEAST_SETTING, settings.rank, MOST_RANK) {
         return true;
     }
-    if outside(1, settings.capacity, 3000) {
+    if outside(LEAST_SETTING, settings.capacity, MOST_CAPACITY) {
         return true;
     }
-    outside(1, settings.universe, 65536)
+    outside(LEAST_SETTING, settings.universe, MOST_UNIVERSE)
 }
 
 // The settings test: refusal 1, 2 or 3, tested in this order, or 0.
@@ -61,10 +74,17 @@ pub fn test_settings(settings: Settings) -> u32
         return PHI_BELOW_EPSILON;
     }
     let product = (settings.capacity as u64) * (settings.epsilon as u64);
-    if product < 6000 {
+    if product < LEAST_PRODUCT {
         return TOO_FEW_COUNTERS;
     }
     ACCEPTED
+}
+
+// How many messages follow one arrival at most: "23 × k + 2".
+pub fn most_messages(settings: Settings) -> u64
+    ensures { λ r. ⌜ r ≡ mostMessages (settings .sites) ⌝ }
+{
+    CLOSING_MESSAGES * (settings.sites as u64) + ARRIVAL_MESSAGES
 }
 
 // The binary digits of n: how many halvings bring it to 0.
@@ -96,6 +116,6 @@ pub fn message_allowance(settings: Settings, arrivals: u64) -> Allowance
     let epsilon = settings.epsilon as u64;
     Allowance {
         refusal: ACCEPTED,
-        messages: 150000 * (sites * rounds) / epsilon,
+        messages: ALLOWANCE_FACTOR * (sites * rounds) / epsilon,
     }
 }

@@ -14,6 +14,7 @@ use model::ACCEPTED;
 use model::Arrival;
 use model::MEMORY_TOO_SHORT;
 use model::Message;
+use model::SITE_RECORDS;
 use model::Settings;
 use model::SiteRecord;
 use model::Sites;
@@ -114,7 +115,7 @@ fn fresh_sites() -> Sites
         used: 0,
     };
     Sites {
-        records: [fresh; 32],
+        records: [fresh; SITE_RECORDS],
         messages: 0,
     }
 }

@@ -5,6 +5,7 @@ ghost use lib.ListN.{length};
 ghost use Rattle.testing_numbers.specs.Openings.{given, lent, Writes};
 ghost use Rattle.testing_numbers.specs.Numbers.{zeroSettings, zeroSite, zeroSites, settingsFrom, siteFrom, siteNumbers, sitesFrom, sitesNumbers, oneMessage, twoMessages};
 use model::Message;
+use model::SITE_RECORDS;
 use model::Settings;
 use model::SiteRecord;
 use model::Sites;
@@ -14,7 +15,10 @@ pub const SETTINGS_NUMBERS: usize = 6;
 
 pub const SITE_NUMBERS: usize = 4;
 
-pub const SITES_NUMBERS: usize = 129;
+pub const SITES_NUMBERS: usize = COUNT_PLACE + 1;
+
+// Where the count of messages stands among the sites' numbers: after all records.
+const COUNT_PLACE: usize = SITE_NUMBERS * SITE_RECORDS;
 
 // The answer's numbers: how many messages go out, and four for each that may.
 pub const ONE_MESSAGE: usize = 5;
@@ -73,7 +77,7 @@ pub fn zero_sites() -> Sites
         used: 0,
     };
     Sites {
-        records: [zero; 32],
+        records: [zero; SITE_RECORDS],
         messages: 0,
     }
 }
@@ -113,9 +117,9 @@ pub fn sites_from(numbers: &[u64]) -> Sites
         threshold: 0,
         used: 0,
     };
-    let mut records = [zero; 32];
+    let mut records = [zero; SITE_RECORDS];
     let mut i = 0;
-    while i < 32 {
+    while i < SITE_RECORDS {
         let at = 4 * i;
         records[i] = SiteRecord {
             arrivals: numbers[at],
@@ -127,7 +131,7 @@ pub fn sites_from(numbers: &[u64]) -> Sites
     }
     Sites {
         records: records,
-        messages: numbers[128],
+        messages: numbers[COUNT_PLACE],
     }
 }
 
@@ -137,7 +141,7 @@ pub fn write_sites(numbers: &mut [u64], sites: Sites)
     ensures { λ r. ⌜ Writes (sitesNumbers sites) (lent numbers) ⌝ }
 {
     let mut i = 0;
-    while i < 32 {
+    while i < SITE_RECORDS {
         let site = sites.records[i];
         let at = 4 * i;
         numbers[at] = site.arrivals;
@@ -146,7 +150,7 @@ pub fn write_sites(numbers: &mut [u64], sites: Sites)
         numbers[at + 3] = site.used;
         i += 1;
     }
-    numbers[128] = sites.messages;
+    numbers[COUNT_PLACE] = sites.messages;
 }
 
 // One message and how many there are. Internal: `openings` tests the lengths.

@@ -92,7 +92,7 @@ pub fn run_batch(
         coordinator_memory,
     );
     let mut i: usize = 0;
-    while i < arrivals.len() && answer.refusal == 0 {
+    while i < arrivals.len() && answer.refusal == ACCEPTED {
         let arrival = arrivals[i];
         let which = place_of(arrival);
         let own = answer.sites.records[which];

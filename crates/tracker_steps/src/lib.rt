@@ -10,6 +10,7 @@ use model::ACCEPTED;
 use model::Arrival;
 use model::CoordinatorRecord;
 use model::LOG_TOO_SHORT;
+use model::MOST_SITES;
 use model::Settings;
 use model::SiteRecord;
 use model::Sites;
@@ -69,7 +70,7 @@ pub fn open_batch(
 pub fn place_of(arrival: Arrival) -> usize
     ensures { λ r. ⌜ r ≡ placeOf arrival ⌝ }
 {
-    if arrival.site < 32 {
+    if arrival.site < MOST_SITES {
         return arrival.site as usize;
     }
     0
@@ -91,7 +92,7 @@ fn one_refusal(
         return of_site;
     }
     let free = ((numbers / 4) as u64) - written;
-    if free < 23 * (settings.sites as u64) + 2 {
+    if free < settings::most_messages(settings) {
         return LOG_TOO_SHORT;
     }
     ACCEPTED

@@ -8,7 +8,12 @@ ghost use Rattle.model.specs.Decimal.{isDigit, digitValue, leadingZero};
 ghost use Rattle.worklist.specs.Contracts.{notRead, DigitsSay, NumberAt, EndedSays, FieldAt, ThreeAt, LineSays};
 use model::ACCEPTED;
 use model::Arrival;
+use model::LINE_FEED;
 use model::MALFORMED_LINE;
+use model::MORE_DIGITS;
+use model::NINE;
+use model::SEMICOLON;
+use model::ZERO;
 
 // A number that was read: whether one stands there, its value, and the place after it.
 pub struct NumberRead {
@@ -33,12 +38,6 @@ pub struct LineRead {
     pub used: usize,
 }
 
-const ZERO: u8 = 48;
-
-const SEMICOLON: u8 = 59;
-
-const LINE_FEED: u8 = 10;
-
 fn no_number() -> NumberRead
     ensures { λ r. ⌜ r ≡ notRead ⌝ }
 {
@@ -52,10 +51,10 @@ fn no_number() -> NumberRead
 fn is_digit(byte: u8) -> bool
     ensures { λ r. ⌜ r ≡ isDigit byte ⌝ }
 {
-    if byte < 48 {
+    if byte < ZERO {
         return false;
     }
-    byte <= 57
+    byte <= NINE
 }
 
 // The value of a digit's byte.
@@ -63,7 +62,7 @@ fn digit_value(byte: u8) -> u32
     requires { ⌜ isDigit byte ≡ true ⌝ }
     ensures { λ r. ⌜ (r ≡ digitValue byte) × (r < 10) ⌝ }
 {
-    (byte - 48) as u32
+    (byte - ZERO) as u32
 }
 
 // The digits after a number's first, at most six of them; a seventh makes it too long.
@@ -73,7 +72,7 @@ fn more_digits(bytes: &[u8], start: usize, first: u32) -> NumberRead
 {
     let mut next = start;
     let mut value = first;
-    let mut more: u32 = 6;
+    let mut more: u32 = MORE_DIGITS;
     while next < bytes.len() {
         let byte = bytes[next];
         if is_digit(byte) {

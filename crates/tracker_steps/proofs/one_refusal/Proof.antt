@@ -17,14 +17,16 @@ returns-2 c =
     let tested = c .before .before in
     let a = tested .before .before .args in
     log-refused (a .settings) (a .own) (a .arrival) (a .numbers) (a .written)
-    (sym (tested .before .arrival-refusal .ensures) ∙ tested .if1 .left) (c .if2 .taken)
+    (sym (tested .before .arrival-refusal .ensures) ∙ tested .if1 .left)
+    (rw (← c .before .most-messages .ensures) (c .if2 .taken))
 
 returns-3 : tie.Need-returns-3
 returns-3 c =
     let tested = c .before .before in
     let a = tested .before .before .args in
     not-refused (a .settings) (a .own) (a .arrival) (a .numbers) (a .written)
-    (sym (tested .before .arrival-refusal .ensures) ∙ tested .if1 .left) (c .if2 .left)
+    (sym (tested .before .arrival-refusal .ensures) ∙ tested .if1 .left)
+    (rw (← c .before .most-messages .ensures) (c .if2 .left))
 
 pub one-refusal-spec : {M : Type 1} → statement M
 one-refusal-spec =
@@ -32,6 +34,6 @@ one-refusal-spec =
     (tie.spec
     (λ c κs. search needs)
     returns
-    (λ c. search needs) (λ c. search needs) (λ c. search needs) (λ c. search needs)
+    (λ c. search needs) (λ c κs. search needs)
     returns-2
     returns-3)

@@ -1,4 +1,5 @@
 -- Laws of reading that the functions' proofs share.
+pub mod LentLocal
 pub mod ThreeLaws
 pub mod SettingsLaws
 pub mod StepLaws

@@ -152,7 +152,9 @@ pub fn begin(
     }
 }
 
-// Reads the next line of the worklist and takes it.
+// Reads the next line of the worklist and takes it. The reader stands at the place and line that
+// the session carries from call to call: a session holds no reference, so it cannot hold the
+// reader.
 pub fn advance(
     session: Session,
     input: &[u8],
@@ -168,7 +170,7 @@ pub fn advance(
         (now («coordinator_memory» .exit)) (now (log .exit)) (now (list .exit)) (now (out .exit)))
         r ⌝ }
 {
-    let step = reader::read_at(input, session.at, session.line);
+    let step = reader::read_line(input, session.at, session.line);
     if step.found {
         return session_steps::take_draw(session, step, site_memory, coordinator_memory, log, out);
     }

@@ -1,7 +1,7 @@
 -- The reader's next line: a walk of the function's steps by hand. The borrow is opened, the struct
 -- behind it is taken apart, `read_at` is called on its bytes and its two numbers, the numbers of
--- the
--- step are stored, and the borrow is closed. All that the walk knows of `read_at` is its contract.
+-- the step are stored, and the borrow is closed. All that the walk knows of `read_at` is its
+-- contract.
 -- What the struct owns can be copied: one copy goes to the callee, and one is kept.
 use mathlib.Core.Path.{_≡_, refl, ap, subst}
 use Prim.Native.Nat.{ℕ, _<_, _^_}

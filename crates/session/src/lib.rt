@@ -35,6 +35,17 @@ pub const SESSION_SITE_NUMBERS: usize = 5696;
 
 pub const SESSION_COORDINATOR_NUMBERS: usize = 2024;
 
+// Room for what a call writes: 4 × (23 × 4 + 2) numbers of a log, 1000 places of a list, and the
+// bytes of the lines of either.
+pub const SESSION_LOG_NUMBERS: usize = 376;
+
+pub const SESSION_LIST_PLACES: usize = 1000;
+
+pub const SESSION_OUT_BYTES: usize = 8192;
+
+// The most bytes of an input that matter: 48 of a settings line, 8192 of a worklist and one more.
+pub const SESSION_INPUT_BYTES: usize = 8241;
+
 // Whether settings or worklist are beyond the program's limits.
 fn beyond_limits(settings: Settings, bytes: usize) -> bool
     ensures { λ r. ⌜ r ≡ beyondProgram settings bytes ⌝ }

@@ -17,7 +17,7 @@ use Rattle.session.specs.Begin.{BeginSays}
 use Rattle.session.specs.Advance.{AdvanceSays}
 use Rattle.session.specs.Course.{Course, begun, advanced}
 use Rattle.session.proofs.Theorem.{session-claims}
-use Rattle.drawtrack.specs.Serving.{Lends, Standing, standing, begunWith, withoutLists, afterBegin, standingAfter, afterCall, afterCalls, Serving, ServeSays}
+use Rattle.drawtrack.specs.Serving.{Lends, Situation, situation, begunWith, withoutLists, afterBegin, situationOf, afterCall, afterCalls, Serving, ServeSays}
 
 -- ---- The first call, and the promise
 
@@ -25,9 +25,9 @@ module _ (input : List ℕ) (given : Lent) (siteMemory coordinatorMemory out : L
     (answer : Turn)
     (says : BeginSays input (withoutLists given) (lent siteMemory coordinatorMemory [] [] out)
     answer) where
-  abbrev first : Standing
+  abbrev first : Situation
   first =
-      standing (answer .session)
+      situation (answer .session)
       (lent siteMemory coordinatorMemory (given .log) (given .list) out)
 
   pub serving-begins : Lends input given → Serving input first first 0
@@ -59,7 +59,7 @@ module _ (input : List ℕ) (given : Lent) (siteMemory coordinatorMemory out : L
   first-is = ap (begunWith (given .log) (given .list)) (says .is)
 
   pub serves : (session : Session) (left : Lent) (turns : ℕ)
-      → Serving input first (standing session left) turns
+      → Serving input first (situation session left) turns
       → session .going ≡ false
       → ServeSays input given left (session .going)
   serves session left turns serving ended =
@@ -71,7 +71,7 @@ module _ (input : List ℕ) (given : Lent) (siteMemory coordinatorMemory out : L
         ended = ended;
         bytes = serving .bytes;
         course = serving .course;
-        left-is = serving .now-is ∙ ap (λ (from : Standing). afterCalls input from turns) first-is;
+        left-is = serving .now-is ∙ ap (λ (from : Situation). afterCalls input from turns) first-is;
         bytes-are =
             session-claims .writes-transcript input turns session (left .siteMemory)
             (left .coordinatorMemory) (serving .bytes) (omega (arith, few)) (serving .course)
@@ -88,12 +88,12 @@ module _ (input : List ℕ) (given : Lent) (siteMemory coordinatorMemory out : L
 
 -- ---- A turn
 
-module _ (input : List ℕ) (first : Standing) (session : Session) (given : Lent) (turns : ℕ)
-    (serving : Serving input first (standing session given) turns) where
+module _ (input : List ℕ) (first : Situation) (session : Session) (given : Lent) (turns : ℕ)
+    (serving : Serving input first (situation session given) turns) where
   pub serving-on : (left : Lent) (answer : Turn)
       → session .going ≡ true
       → AdvanceSays input session given left answer
-      → Serving input first (standing (answer .session) left) (turns + 1)
+      → Serving input first (situation (answer .session) left) (turns + 1)
   serving-on left answer going says =
       let one-more : suc turns ≡ turns + 1 = omega arith in
       let bytes-then = serving .bytes ++ take (answer .written) (left .out) in
@@ -121,7 +121,7 @@ module _ (input : List ℕ) (first : Standing) (session : Session) (given : Lent
             })
             says);
         now-is =
-            ap standingAfter (says .line .is)
+            ap situationOf (says .line .is)
             ∙ ap (afterCall input) (serving .now-is)
             ∙ ap (afterCalls input first) one-more;
       }

@@ -2,7 +2,7 @@
 -- of it.
 --
 --   Lends ..                       the input and the memory that the program lends
---   Standing                       a session, and what the calls so far left in lent memory
+--   Situation                      a session, and what the calls so far left in lent memory
 --   afterBegin input given         after `begin`
 --   afterCalls input first n       after n calls of `advance` more; 0: `first` itself
 --   Serving ..                     the loop after so many turns
@@ -33,36 +33,36 @@ pub record Lends (input : List ℕ) (given : Lent) : Type 0 where
 
 -- ---- What the calls leave, one after the other
 
-pub record Standing : Type 0 where
+pub record Situation : Type 0 where
   pub session : Session
   pub left : Lent
 
-abbrev pub standing : Session → Lent → Standing
-standing session left = record { session = session; left = left }
+abbrev pub situation : Session → Lent → Situation
+situation session left = record { session = session; left = left }
 
 -- `begin` is lent no log and no list: these are as they were.
-abbrev pub begunWith : List ℕ → List ℕ → Outcome → Standing
+abbrev pub begunWith : List ℕ → List ℕ → Outcome → Situation
 begunWith log list begun =
-    standing (begun .turn .session)
+    situation (begun .turn .session)
     (lent (begun .left .siteMemory) (begun .left .coordinatorMemory) log list (begun .left .out))
 
 abbrev pub withoutLists : Lent → Lent
 withoutLists given = lent (given .siteMemory) (given .coordinatorMemory) [] [] (given .out)
 
-abbrev pub afterBegin : List ℕ → Lent → Standing
+abbrev pub afterBegin : List ℕ → Lent → Situation
 afterBegin input given =
     begunWith (given .log) (given .list) (beginOf input (withoutLists given))
 
 -- A call of `advance`: the line at the session's place.
-abbrev pub standingAfter : Outcome → Standing
-standingAfter line = standing (line .turn .session) (line .left)
+abbrev pub situationOf : Outcome → Situation
+situationOf line = situation (line .turn .session) (line .left)
 
-abbrev pub afterCall : List ℕ → Standing → Standing
+abbrev pub afterCall : List ℕ → Situation → Situation
 afterCall input before =
     let session = before .session in
-    standingAfter (lineOf session (stepAt input (session .at) (session .line)) (before .left))
+    situationOf (lineOf session (stepAt input (session .at) (session .line)) (before .left))
 
-abbrev pub afterCalls : List ℕ → Standing → ℕ → Standing
+abbrev pub afterCalls : List ℕ → Situation → ℕ → Situation
 afterCalls input first zero = first
 afterCalls input first (suc n) = afterCall input (afterCalls input first n)
 
@@ -70,7 +70,7 @@ afterCalls input first (suc n) = afterCall input (afterCalls input first n)
 
 -- The calls so far, each on the memory that the one before left; the slices are as long as they
 -- were.
-pub record Serving (input : List ℕ) (first now : Standing) (turns : ℕ) : Type 0 where
+pub record Serving (input : List ℕ) (first now : Situation) (turns : ℕ) : Type 0 where
   pub lends : Lends input (first .left)
   pub lengths : SameLengths (first .left) (now .left)
   pub bytes : List ℕ
@@ -91,6 +91,6 @@ pub record ServeSays (input : List ℕ) (given left : Lent) (answer : Bool) : Ty
   pub ended : session .going ≡ false
   pub bytes : List ℕ
   pub course : Course input turns session (left .siteMemory) (left .coordinatorMemory) bytes
-  pub left-is : standing session left ≡ afterCalls input (afterBegin input given) turns
+  pub left-is : situation session left ≡ afterCalls input (afterBegin input given) turns
   pub bytes-are : bytes ≡ transcript input
   pub first-bytes : (whole : List ℕ) → input ≡ take inputRoom whole → bytes ≡ transcript whole

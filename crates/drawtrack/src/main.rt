@@ -22,10 +22,10 @@ fn write_out(written: usize, out: &[u8]) {
     }
 }
 
-// A call for each line, until the session has ended; what each wrote is written out. Each line after
-// which it goes on takes six bytes or more, so it ends long before the turns do. Answers whether the
-// session still goes on: it never does. The calls make a course of the session that has ended, and
-// their bytes, one after the other, are the transcript of the input.
+// A call for each line, until the session has ended; what each wrote is written out. Each line
+// after which it goes on takes six bytes or more, so it ends long before the turns do. Answers
+// whether the session still goes on: it never does. The calls make a course of the session that has
+// ended, and their bytes, one after the other, are the transcript of the input.
 fn serve(
     input: &[u8],
     site_memory: &mut [u32],

@@ -36,7 +36,7 @@ logRoom = 4 * mostMessages programSites
 abbrev pub listRoom : ℕ
 listRoom = programUniverse
 
--- The lines of those messages take at most 84 bytes each, and the results take fewer than all these.
+-- The lines of those messages take at most 84 bytes each; the results take fewer than all of them.
 abbrev pub outRoom : ℕ
 outRoom = 8192
 

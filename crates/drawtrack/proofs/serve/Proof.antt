@@ -5,7 +5,7 @@ use borrow.Author.Needs.{needs}
 use borrow.Author.Tests.{ltb-true, ltb-false}
 use Rattle.session_steps.specs.Outcome.{lent}
 use Rattle.session.specs.Limits.{inputRoom}
-use Rattle.drawtrack.specs.Serving.{standing, Serving}
+use Rattle.drawtrack.specs.Serving.{situation, Serving}
 use Rattle.drawtrack.proofs.ServingLaws.{serving-begins, serving-on, serving-over, serves}
 use Rattle.drawtrack.proofs.serve.Statement.{statement}
 use Rattle.drawtrack.proofs.serve.Tie as tie
@@ -14,8 +14,8 @@ abbrev Inv-loop : tie.InvT-loop
 Inv-loop input site-memory₀ coordinator-memory₀ log₀ list₀ out₀ session₀ turns₀ site-memory
     coordinator-memory log list out session turns =
     Serving input
-    (standing session₀ (lent site-memory₀ coordinator-memory₀ log₀ list₀ out₀))
-    (standing session (lent site-memory coordinator-memory log list out))
+    (situation session₀ (lent site-memory₀ coordinator-memory₀ log₀ list₀ out₀))
+    (situation session (lent site-memory coordinator-memory log list out))
     turns
 
 abbrev μ-loop : tie.MeasureT-loop

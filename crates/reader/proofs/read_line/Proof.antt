@@ -1,7 +1,7 @@
 -- The line at a place, by a reader that is made there: a walk of the function's steps by hand. The
 -- struct is made in a local, lent to `next` for the call, and comes back. All that the walk knows
 -- of `next` is its contract.
-use mathlib.Core.Path.{_≡_, refl, ap, subst}
+use mathlib.Core.Path.{_≡_, refl, ap}
 use Prim.Native.Nat.{ℕ, _<_, _^_}
 use mathlib.Core.List.{List, [], _∷_}
 use lib.ListN.{length}
@@ -48,6 +48,7 @@ use Rattle.reader.specs.Walk.{stepAt}
 use Rattle.reader.specs.declared.Reader.{Reader}
 use Rattle.reader.specs.declared.Step.{Step}
 use Rattle.reader.proofs.LentLocal.{Lent, lends, returned}
+use Rattle.reader.proofs.StepValue.{stepVal, settled}
 use Rattle.reader.proofs.Reader as T
 use Rattle.reader.proofs.Reader.Laws as T′
 use Rattle.reader.proofs.Step as S
@@ -71,10 +72,6 @@ stayed = (
 abbrev Next : {M : Type 1} (𝓤 : URA M) (H : Heap 𝓤) (A : Atoms 𝓤)
     (mem : Memory → SProp 𝓤) (run : Routine → Fun 𝓤) → Contract 𝓤
 Next 𝓤 H A mem run = tripleOf 𝓤 H A next.signature (next.spec 𝓤 H A mem run)
-
--- A step as it lies in memory.
-abbrev stepVal : Step → Val
-stepVal step = LL.val S.the-type S′.the-laws step
 
 module _ {M : Type 1} (𝓤 : URA M) (H : Heap 𝓤) (A : Atoms 𝓤) (W : Given 𝓤 H A)
     (mem : Memory → SProp 𝓤) (run : Routine → Fun 𝓤) (κ : Lft) (q : Share)
@@ -168,13 +165,6 @@ module _ {M : Type 1} (𝓤 : URA M) (H : Heap 𝓤) (A : Atoms 𝓤) (W : Given
       (stepVal step) step (tt, (tt, (tt, tt))) (tt, (tt, (tt, tt)))) $
       says ! says-step $ nothing ! $ move ! (1 ∷ 0 ∷ []) $ join ! $ frame ! $ fjoin ! $ frame ! $
       owned ! S.the-row (Is S.the-row) (LL.makes S.the-type S′.the-plain 𝓤 H A) step _ is $ done !
-
-  -- The step that the callee answers, at the value that memory holds.
-  settled : (step : Step) (answered : Val)
-      → Is S.the-row step (answered ∷ [])
-      → Is S.the-row step (stepVal step ∷ [])
-  settled step answered is = subst (Is S.the-row step) (LL.tells S.the-type S′.the-laws step
-      (answered ∷ []) is) is
 
   module _ (C : Calls 𝓤 H) (Λ : Loops 𝓤 H) (fm : FmC 𝓤 H (W .laws) C)
       (known : Triple 𝓤 (C #reader·Reader·next) (Next 𝓤 H A mem run)) where

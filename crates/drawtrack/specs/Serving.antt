@@ -1,36 +1,96 @@
--- The program's loop over the calls of a session: what it is lent, and where it stands.
+-- The program's loop over the calls of a session: what it is lent, where it stands, and what comes
+-- of it.
 --
---   Lends ..       the input and the memory that the program lends
---   Serving ..     after so many turns: the calls so far, as a course of crate `session`
+--   Lends ..                       the input and the memory that the program lends
+--   Situation                      a session, and what the calls so far left in lent memory
+--   afterBegin input given         after `begin`
+--   afterCalls input first n       after n calls of `advance` more; 0: `first` itself
+--   Serving ..                     the loop after so many turns
+--   ServeSays ..                   the promise
 use mathlib.Core.Path.{_≡_}
-use mathlib.Core.List.{List}
-use Prim.Native.Nat.{ℕ, _≤_}
-use lib.ListN.{length}
+use mathlib.Core.Bool.{Bool, false}
+use mathlib.Core.List.{List, []}
+use Prim.Native.Nat.{ℕ, zero, suc, _≤_}
+use lib.ListN.{length, take}
+use Rattle.model.specs.Transcript.{transcript}
+use Rattle.reader.specs.Walk.{stepAt}
 use Rattle.session_steps.specs.declared.Session.{Session}
+use Rattle.session_steps.specs.Outcome.{Lent, lent, Outcome, SameLengths}
+use Rattle.session.specs.Limits.{siteRoom, coordinatorRoom, logRoom, listRoom, outRoom, inputRoom}
+use Rattle.session.specs.Begin.{beginOf}
+use Rattle.session.specs.Advance.{lineOf}
 use Rattle.session.specs.Course.{Course}
 
--- "Its memory serves k up to 4, c up to 100, u up to 1000 and a worklist up to 8192 bytes": 48
--- bytes of a settings line and one more are read besides; log, list and output for the longest
--- answer.
-pub record Lends (input siteMemory coordinatorMemory log list out : List ℕ) : Type 0 where
-  pub input-few : length input ≤ 8241
-  pub site-memory : 5696 ≤ length siteMemory
-  pub coordinator-memory : 2024 ≤ length coordinatorMemory
-  pub log-long : 376 ≤ length log
-  pub list-long : 1000 ≤ length list
-  pub out-long : 8192 ≤ length out
+-- "Its memory serves k up to 4, c up to 100, u up to 1000 and a worklist up to 8192 bytes": of the
+-- input no more bytes than matter; log, list and output for the longest answer.
+pub record Lends (input : List ℕ) (given : Lent) : Type 0 where
+  pub input-few : length input ≤ inputRoom
+  pub site-memory : siteRoom ≤ length (given .siteMemory)
+  pub coordinator-memory : coordinatorRoom ≤ length (given .coordinatorMemory)
+  pub log-long : logRoom ≤ length (given .log)
+  pub list-long : listRoom ≤ length (given .list)
+  pub out-long : outRoom ≤ length (given .out)
+
+-- ---- What the calls leave, one after the other
+
+pub record Situation : Type 0 where
+  pub session : Session
+  pub left : Lent
+
+abbrev pub situation : Session → Lent → Situation
+situation session left = record { session = session; left = left }
+
+-- `begin` is lent no log and no list: these are as they were.
+abbrev pub begunWith : List ℕ → List ℕ → Outcome → Situation
+begunWith log list begun =
+    situation (begun .turn .session)
+    (lent (begun .left .siteMemory) (begun .left .coordinatorMemory) log list (begun .left .out))
+
+abbrev pub withoutLists : Lent → Lent
+withoutLists given = lent (given .siteMemory) (given .coordinatorMemory) [] [] (given .out)
+
+abbrev pub afterBegin : List ℕ → Lent → Situation
+afterBegin input given =
+    begunWith (given .log) (given .list) (beginOf input (withoutLists given))
+
+-- A call of `advance`: the line at the session's place.
+abbrev pub situationOf : Outcome → Situation
+situationOf line = situation (line .turn .session) (line .left)
+
+abbrev pub afterCall : List ℕ → Situation → Situation
+afterCall input before =
+    let session = before .session in
+    situationOf (lineOf session (stepAt input (session .at) (session .line)) (before .left))
+
+abbrev pub afterCalls : List ℕ → Situation → ℕ → Situation
+afterCalls input first zero = first
+afterCalls input first (suc n) = afterCall input (afterCalls input first n)
+
+-- ---- The loop
 
 -- The calls so far, each on the memory that the one before left; the slices are as long as they
 -- were.
-pub record Serving
-    (input siteBefore coordinatorBefore logBefore listBefore outBefore : List ℕ)
-    (siteMemory coordinatorMemory log list out : List ℕ)
-    (session : Session) (turns : ℕ) : Type 0 where
-  pub lends : Lends input siteBefore coordinatorBefore logBefore listBefore outBefore
+pub record Serving (input : List ℕ) (first now : Situation) (turns : ℕ) : Type 0 where
+  pub lends : Lends input (first .left)
+  pub lengths : SameLengths (first .left) (now .left)
   pub bytes : List ℕ
-  pub course : Course input turns session siteMemory coordinatorMemory bytes
-  pub site-memory : length siteMemory ≡ length siteBefore
-  pub coordinator-memory : length coordinatorMemory ≡ length coordinatorBefore
-  pub log-same : length log ≡ length logBefore
-  pub list-same : length list ≡ length listBefore
-  pub out-same : length out ≡ length outBefore
+  pub course : Course input turns (now .session) (now .left .siteMemory)
+      (now .left .coordinatorMemory) bytes
+  pub now-is : now ≡ afterCalls input first turns
+
+-- ---- The promise
+
+-- The calls are a course of the session that has ended: `begin`, and then a call for each turn.
+-- What they leave in every place of lent memory follows from the input and from what was lent.
+-- Their bytes, one after the other, are the transcript of the input; also of a longer one, of which
+-- it is the first bytes.
+pub record ServeSays (input : List ℕ) (given left : Lent) (answer : Bool) : Type 0 where
+  pub answer-false : answer ≡ false
+  pub turns : ℕ
+  pub session : Session
+  pub ended : session .going ≡ false
+  pub bytes : List ℕ
+  pub course : Course input turns session (left .siteMemory) (left .coordinatorMemory) bytes
+  pub left-is : situation session left ≡ afterCalls input (afterBegin input given) turns
+  pub bytes-are : bytes ≡ transcript input
+  pub first-bytes : (whole : List ℕ) → input ≡ take inputRoom whole → bytes ≡ transcript whole

@@ -2,25 +2,30 @@
 // each draw, and then the results or the line of a refusal, on standard output. Thin over crate
 // `session`: it lends the memory, reads once, and writes what each call wrote.
 
-ghost use mathlib.Core.Path.{_≡_};
-ghost use mathlib.Core.Bool.{false};
-ghost use Rattle.drawtrack.specs.Serving.{Lends};
+ghost use Rattle.session_steps.specs.Outcome.{lent};
+ghost use Rattle.drawtrack.specs.Serving.{Lends, ServeSays};
 use libc::STDIN_FILENO;
 use libc::STDOUT_FILENO;
+use session::SESSION_COORDINATOR_NUMBERS;
+use session::SESSION_INPUT_BYTES;
+use session::SESSION_LIST_PLACES;
+use session::SESSION_LOG_NUMBERS;
+use session::SESSION_OUT_BYTES;
+use session::SESSION_SITE_NUMBERS;
 
-// The most bytes of input that matter: 48 of a settings line, 8192 of a worklist and one more.
-const INPUT_BYTES: usize = 8241;
-
-// Writes the bytes that a call wrote.
+// Writes the bytes that a call wrote. That they reach the descriptor no contract says: the one of
+// the C function that writes speaks of how many bytes it took, so a program whose writes were lost
+// would still be proved. What the program prints is tested (tests/program).
 fn write_out(written: usize, out: &[u8]) {
     if written <= out.len() {
         io::write_all(STDOUT_FILENO, &out[..written]);
     }
 }
 
-// A call for each line, until the session has ended. Each line after which it goes on takes six
-// bytes or more, so it ends long before the turns do. Answers whether the session still goes on:
-// it never does.
+// A call for each line, until the session has ended; what each wrote is written out. Each line
+// after which it goes on takes six bytes or more, so it ends long before the turns do. Answers
+// whether the session still goes on: it never does. The calls make a course of the session that has
+// ended, and their bytes, one after the other, are the transcript of the input.
 fn serve(
     input: &[u8],
     site_memory: &mut [u32],
@@ -29,15 +34,19 @@ fn serve(
     list: &mut [u32],
     out: &mut [u8],
 ) -> bool
-    requires { ⌜ Lends (now input) (now «site_memory») (now «coordinator_memory») (now log)
-        (now list) (now out) ⌝ }
-    ensures { λ r. ⌜ r ≡ false ⌝ }
+    requires { ⌜ Lends (now input) (lent (now «site_memory») (now «coordinator_memory») (now log)
+        (now list) (now out)) ⌝ }
+    ensures { λ r. ⌜ ServeSays (now (input .entry))
+        (lent (now («site_memory» .entry)) (now («coordinator_memory» .entry)) (now (log .entry))
+        (now (list .entry)) (now (out .entry))) (lent (now («site_memory» .exit))
+        (now («coordinator_memory» .exit)) (now (log .exit)) (now (list .exit)) (now (out .exit)))
+        r ⌝ }
 {
     let first = session::begin(input, site_memory, coordinator_memory, out);
     write_out(first.written, out);
     let mut session = first.session;
     let mut turns: usize = 0;
-    while session.going && turns < INPUT_BYTES {
+    while session.going && turns < SESSION_INPUT_BYTES {
         let turn = session::advance(
             session,
             input,
@@ -54,16 +63,14 @@ fn serve(
     session.going
 }
 
-// The memory for the program's limits: 4 sites of 4 × 100 + 1024 numbers, 1000 + 1024 numbers of
-// the coordinator, a log of 94 messages, 1000 listed items, and the lines of 94 messages or the
-// results.
+// The memory for the program's limits, and one reading of the input.
 fn main() {
-    let mut input = [0u8; 8241];
-    let mut site_memory = [0u32; 5696];
-    let mut coordinator_memory = [0u64; 2024];
-    let mut log = [0u64; 376];
-    let mut list = [0u32; 1000];
-    let mut out = [0u8; 8192];
+    let mut input = [0u8; SESSION_INPUT_BYTES];
+    let mut site_memory = [0u32; SESSION_SITE_NUMBERS];
+    let mut coordinator_memory = [0u64; SESSION_COORDINATOR_NUMBERS];
+    let mut log = [0u64; SESSION_LOG_NUMBERS];
+    let mut list = [0u32; SESSION_LIST_PLACES];
+    let mut out = [0u8; SESSION_OUT_BYTES];
     let length = io::read_full(STDIN_FILENO, &mut input);
     serve(
         &input[..length],

@@ -28,8 +28,9 @@ pub struct Step {
     pub line: usize,
 }
 
-// A reader of a worklist: its bytes, the place where it stands, and the number of the line there.
-// Its functions are thin over `read_at`, which is what code with parameters of its own calls.
+// A reader of a worklist: its bytes, the place where it stands, and the number of the line there
+// ("The reader walks the file's bytes line by line"). Its functions are thin over `read_at`, which
+// does the work of a line and knows nothing of the walk.
 pub struct Reader<'a> {
     pub bytes: &'a [u8],
     pub at: usize,
@@ -109,7 +110,7 @@ fn stand(refusal: u32, at: usize, line: usize) -> Step
 
 // The line that stands at a place of the bytes, as the step of a walk: an arrival, the end of the
 // bytes, or refusal 13. `line` is the number of that line.
-pub fn read_at(bytes: &[u8], at: usize, line: usize) -> Step
+fn read_at(bytes: &[u8], at: usize, line: usize) -> Step
     ensures { λ r. ⌜ r ≡ stepAt (now (bytes .entry)) at line ⌝ }
 {
     if bytes.len() <= at {
@@ -154,4 +155,17 @@ impl<'a> Reader<'a> {
         self.line = step.line;
         step
     }
+}
+
+// The line at a place of a worklist, by a reader that stands there: for a caller that keeps the
+// place and the line's number between its calls, and can keep no reference.
+pub fn read_line(bytes: &[u8], at: usize, line: usize) -> Step
+    ensures { λ step. ⌜ step ≡ stepAt (now (bytes .entry)) at line ⌝ }
+{
+    let mut reader = Reader {
+        bytes: bytes,
+        at: at,
+        line: line,
+    };
+    reader.next()
 }

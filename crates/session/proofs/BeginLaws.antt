@@ -32,17 +32,18 @@ use Rattle.coordinator.specs.Calls as CoordinatorCalls
 use Rattle.session_steps.specs.declared.Session.{Session}
 use Rattle.session_steps.specs.declared.Turn.{Turn}
 use Rattle.session_steps.specs.Outcome.{Lent, lent, withOut, outcome, Refuses, refusedOf}
+use Rattle.session.specs.Limits.{programSites, programCapacity, programUniverse, siteRoom, coordinatorRoom}
 use Rattle.session.specs.Begin.{shorterThanLimits, startRefusalOf, beginRefusalOf, freshSession, firstSession, startedOf, beginOf}
 
 -- ---- Settings and memory within the program's limits
 
 pub record Served (settings : Settings) (siteNumbers coordinatorNumbers : ℕ) : Type 0 where
   pub passes : settingsRefusal settings ≡ accepted
-  pub few-sites : settings .sites ≤ 4
-  pub few-counters : settings .capacity ≤ 100
-  pub few-items : settings .universe ≤ 1000
-  pub sites-long : 5696 ≤ siteNumbers
-  pub coordinator-long : 2024 ≤ coordinatorNumbers
+  pub few-sites : settings .sites ≤ programSites
+  pub few-counters : settings .capacity ≤ programCapacity
+  pub few-items : settings .universe ≤ programUniverse
+  pub sites-long : siteRoom ≤ siteNumbers
+  pub coordinator-long : coordinatorRoom ≤ coordinatorNumbers
 
 pub served : (line : ℕ) (settings : Settings) (bytes siteNumbers coordinatorNumbers : ℕ)
     → startRefusalOf line settings bytes siteNumbers coordinatorNumbers ≡ accepted
@@ -60,21 +61,20 @@ served line settings bytes siteNumbers coordinatorNumbers none =
     let two = neither-of-or (ltb 4 (settings .sites) || ltb 100 (settings .capacity)) _
     (three .first-false) in
     let one = neither-of-or (ltb 4 (settings .sites)) _ (two .first-false) in
-    let both = neither-of-or (ltb siteNumbers 5696) _ (long .test-failed) in
+    let both = neither-of-or (ltb siteNumbers siteRoom) _ (long .test-failed) in
     record {
       passes = later .first-accepted;
       few-sites = ltb-false 4 (settings .sites) (one .first-false);
       few-counters = ltb-false 100 (settings .capacity) (one .second-false);
       few-items = ltb-false 1000 (settings .universe) (two .second-false);
-      sites-long = ltb-false siteNumbers 5696 (both .first-false);
-      coordinator-long = ltb-false coordinatorNumbers 2024 (both .second-false);
+      sites-long = ltb-false siteNumbers siteRoom (both .first-false);
+      coordinator-long = ltb-false coordinatorNumbers coordinatorRoom (both .second-false);
     }
 
 -- The start calls are accepted then.
 module _ (settings : Settings) (siteMemory memory : List ℕ)
     (fit : Served settings (length siteMemory) (length memory)) where
-  -- 4 * (4 * 100 + 1024)
-  sites-few : sitesWords settings ≤ 5696
+  sites-few : sitesWords settings ≤ siteRoom
   sites-few =
       let words : siteWords settings ≤ 1424 = omega (arith, fit .few-counters, valueCount-is) in
       omega (arith, mul-le-mul (fit .few-sites) words)

@@ -31,6 +31,7 @@ use Rattle.history.proofs.Invariant.{StateOk, Resting, rest-of-standing}
 use Rattle.history.proofs.StartedState.{start-ok}
 use Rattle.session_steps.specs.declared.Turn.{Turn}
 use Rattle.session_steps.specs.Outcome.{Lent, Outcome, refusedOf}
+use Rattle.session.specs.Limits.{siteRoom, coordinatorRoom, outRoom}
 use Rattle.session.specs.Begin.{beginRefusalOf, freshSession, firstSession, startedOf, beginOf, BeginSays}
 use Rattle.session.specs.Course.{Represents, beginRefusal, BeginRight}
 use Rattle.session.proofs.BeginLaws.{Served, served, sites-start, coordinator-start}
@@ -120,9 +121,9 @@ module _ (settings : Settings) (at : ℕ) (siteMemory memory : List ℕ)
 -- ---- The beginning
 
 module _ (input : List ℕ) (given : Lent)
-    (sites-long : 5696 ≤ length (given .siteMemory))
-    (coordinator-long : 2024 ≤ length (given .coordinatorMemory))
-    (out-long : 8192 ≤ length (given .out)) where
+    (sites-long : siteRoom ≤ length (given .siteMemory))
+    (coordinator-long : coordinatorRoom ≤ length (given .coordinatorMemory))
+    (out-long : outRoom ≤ length (given .out)) where
   abbrev found : Fields
   found = readFields 6 input
 
@@ -135,8 +136,8 @@ module _ (input : List ℕ) (given : Lent)
   rule-is : beginRefusalOf input found given ≡ rule
   rule-is =
       rw (
-        le-ltb (length (given .siteMemory)) 5696 sites-long,
-        le-ltb (length (given .coordinatorMemory)) 2024 coordinator-long,
+        le-ltb (length (given .siteMemory)) siteRoom sites-long,
+        le-ltb (length (given .coordinatorMemory)) coordinatorRoom coordinator-long,
       )
 
   refused-right : isZero rule ≡ false

@@ -27,6 +27,7 @@ use Rattle.reader.specs.Contracts.{lineRefusal, settingsIn, bytesAfter}
 use Rattle.reader.specs.Walk.{stepOf, stepAt}
 use Rattle.session_steps.specs.Output.{atStart, lineAfter}
 use Rattle.session_steps.proofs.OutputLaws.{line-fits}
+use Rattle.session.specs.Limits.{outRoom}
 use Rattle.session.specs.Course.{beginRefusal}
 
 when-small : (test : Bool) (refusal : ℕ) → refusal ≤ 99 → when test refusal ≤ 99
@@ -97,7 +98,7 @@ step-small input at line = by-refusal (isZero (stepAt input at line .refusal)) r
 
 pub refused-line : (refusal : ℕ) (out : List ℕ)
     → refusal ≤ 99
-    → 8192 ≤ length out
+    → outRoom ≤ length out
     → let written = lineAfter (atStart out) (refusedLine refusal) in
     take (written .place) (written .out) ≡ refusedLine refusal
 refused-line refusal out small long =

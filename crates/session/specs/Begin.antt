@@ -25,14 +25,14 @@ use Rattle.site.specs.Calls.{cleared}
 use Rattle.session_steps.specs.declared.Session.{Session}
 use Rattle.session_steps.specs.declared.Turn.{Turn}
 use Rattle.session_steps.specs.Outcome.{Lent, lent, Outcome, outcome, SameLengths, refusedOf}
+use Rattle.session.specs.Limits.{siteRoom, coordinatorRoom}
 
 -- ---- Why a session does not start
 
--- Memory for the program's limits: 4 × (4 × 100 + 1024) numbers of the sites, 1000 + 1024 of the
--- coordinator.
+-- Memory for the program's limits, of the sites and of the coordinator.
 abbrev pub shorterThanLimits : ℕ → ℕ → Bool
 shorterThanLimits siteNumbers coordinatorNumbers =
-    ltb siteNumbers 5696 || ltb coordinatorNumbers 2024
+    ltb siteNumbers siteRoom || ltb coordinatorNumbers coordinatorRoom
 
 -- "beyond that it meets refusal 4, before any draw, but after 13 for the settings line and 1 to 3":
 -- by the line's refusal, its settings, the bytes after it, and the memory lent.

@@ -12,6 +12,7 @@ use Rattle.reader.specs.Walk.{lastLine, stepAt}
 use Rattle.session_steps.specs.declared.Session.{Session}
 use Rattle.session_steps.specs.declared.Turn.{Turn}
 use Rattle.session_steps.specs.Outcome.{Lent, stopped}
+use Rattle.session.specs.Limits.{siteRoom, coordinatorRoom, outRoom, inputRoom}
 use Rattle.session.specs.Begin.{firstSession, BeginSays}
 use Rattle.session.specs.Advance.{AdvanceSays}
 use Rattle.session.specs.Course.{Represents, Room, BeginRight, LineRight, Course}
@@ -41,9 +42,9 @@ pub record SessionClaims : Type 0 where
       → Keeps session given left answer
   -- With memory for the program's limits: the piece before the first line.
   pub begins : (input : List ℕ) (given left : Lent) (answer : Turn)
-      → 5696 ≤ length (given .siteMemory)
-      → 2024 ≤ length (given .coordinatorMemory)
-      → 8192 ≤ length (given .out)
+      → siteRoom ≤ length (given .siteMemory)
+      → coordinatorRoom ≤ length (given .coordinatorMemory)
+      → outRoom ≤ length (given .out)
       → BeginSays input given left answer
       → BeginRight input left answer
   -- On a session that stands for a run: the piece of the next line.
@@ -65,7 +66,7 @@ pub record SessionClaims : Type 0 where
   -- It is enough to read the first 8241 bytes: what is written then is the transcript of the whole.
   pub reads-enough : (most : ℕ) (whole : List ℕ) (n : ℕ) (session : Session)
       (siteMemory coordinatorMemory bytes : List ℕ)
-      → 8241 ≤ most
+      → inputRoom ≤ most
       → most ≤ lastLine
       → Course (take most whole) n session siteMemory coordinatorMemory bytes
       → session .going ≡ false

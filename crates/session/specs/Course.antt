@@ -30,6 +30,7 @@ use Rattle.reader.specs.Contracts.{lineRefusal, settingsIn, bytesAfter}
 use Rattle.session_steps.specs.declared.Session.{Session}
 use Rattle.session_steps.specs.declared.Turn.{Turn}
 use Rattle.session_steps.specs.Outcome.{Lent}
+use Rattle.session.specs.Limits.{programSites, programUniverse, siteRoom, coordinatorRoom, logRoom, listRoom, outRoom}
 use Rattle.session.specs.Begin.{BeginSays}
 use Rattle.session.specs.Advance.{AdvanceSays}
 
@@ -40,8 +41,8 @@ use Rattle.session.specs.Advance.{AdvanceSays}
 pub record Represents (session : Session) (siteMemory coordinatorMemory : List ℕ)
     (arrivals : List Arrival) : Type 0 where
   pub settings-accepted : settingsRefusal (session .settings) ≡ accepted
-  pub few-sites : session .settings .sites ≤ 4
-  pub few-items : session .settings .universe ≤ 1000
+  pub few-sites : session .settings .sites ≤ programSites
+  pub few-items : session .settings .universe ≤ programUniverse
   pub all-records : length (session .sites .records) ≡ mostSites
   pub sites-long : sitesWords (session .settings) ≤ length siteMemory
   pub coordinator-long : coordinatorWords (session .settings) ≤ length coordinatorMemory
@@ -52,11 +53,12 @@ pub record Represents (session : Session) (siteMemory coordinatorMemory : List �
   pub accepted-are : runOf (session .settings) arrivals .accepted ≡ arrivals
   pub count-is : session .sites .messages ≡ length (runOf (session .settings) arrivals .messages)
 
--- Room for 23 × 4 + 2 messages in the log, for a list of all items, and for the lines of either.
+-- Room for the messages of one draw in the log, for a list of all items, and for the lines of
+-- either.
 pub record Room (given : Lent) : Type 0 where
-  pub log-long : 376 ≤ length (given .log)
-  pub list-long : 1000 ≤ length (given .list)
-  pub out-long : 8192 ≤ length (given .out)
+  pub log-long : logRoom ≤ length (given .log)
+  pub list-long : listRoom ≤ length (given .list)
+  pub out-long : outRoom ≤ length (given .out)
 
 -- ---- Beginning
 
@@ -130,9 +132,9 @@ pub record LineRight (session : Session) (step : Step) (left : Lent) (arrivals :
 -- anything; the two memories are those that the call before left.
 pub data Course (input : List ℕ) : ℕ → Session → List ℕ → List ℕ → List ℕ → Type 0 where
   begun : (given left : Lent) (answer : Turn)
-      → 5696 ≤ length (given .siteMemory)
-      → 2024 ≤ length (given .coordinatorMemory)
-      → 8192 ≤ length (given .out)
+      → siteRoom ≤ length (given .siteMemory)
+      → coordinatorRoom ≤ length (given .coordinatorMemory)
+      → outRoom ≤ length (given .out)
       → BeginSays input given left answer
       → Course input 0 (answer .session) (left .siteMemory) (left .coordinatorMemory)
       (take (answer .written) (left .out))

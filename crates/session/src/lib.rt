@@ -35,6 +35,17 @@ pub const SESSION_SITE_NUMBERS: usize = 5696;
 
 pub const SESSION_COORDINATOR_NUMBERS: usize = 2024;
 
+// Room for what a call writes: 4 × (23 × 4 + 2) numbers of a log, 1000 places of a list, and the
+// bytes of the lines of either.
+pub const SESSION_LOG_NUMBERS: usize = 376;
+
+pub const SESSION_LIST_PLACES: usize = 1000;
+
+pub const SESSION_OUT_BYTES: usize = 8192;
+
+// The most bytes of an input that matter: 48 of a settings line, 8192 of a worklist and one more.
+pub const SESSION_INPUT_BYTES: usize = 8241;
+
 // Whether settings or worklist are beyond the program's limits.
 fn beyond_limits(settings: Settings, bytes: usize) -> bool
     ensures { λ r. ⌜ r ≡ beyondProgram settings bytes ⌝ }
@@ -152,7 +163,9 @@ pub fn begin(
     }
 }
 
-// Reads the next line of the worklist and takes it.
+// Reads the next line of the worklist and takes it. The reader stands at the place and line that
+// the session carries from call to call: a session holds no reference, so it cannot hold the
+// reader.
 pub fn advance(
     session: Session,
     input: &[u8],
@@ -168,7 +181,7 @@ pub fn advance(
         (now («coordinator_memory» .exit)) (now (log .exit)) (now (list .exit)) (now (out .exit)))
         r ⌝ }
 {
-    let step = reader::read_at(input, session.at, session.line);
+    let step = reader::read_line(input, session.at, session.line);
     if step.found {
         return session_steps::take_draw(session, step, site_memory, coordinator_memory, log, out);
     }

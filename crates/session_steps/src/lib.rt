@@ -16,7 +16,7 @@ use model::Sites;
 use reader::Step;
 
 // Where a session stands: whether it goes on, the settings, the records of the network, the place
-// in the input and the number of the line there.
+// of its reader in the input and the number of the line there.
 pub struct Session {
     pub going: bool,
     pub settings: Settings,

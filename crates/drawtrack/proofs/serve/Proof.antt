@@ -3,30 +3,35 @@ use Prim.Native.Nat.{_-_}
 use native.Mathlib.Omega.{arith}
 use borrow.Author.Needs.{needs}
 use borrow.Author.Tests.{ltb-true, ltb-false}
-use Rattle.drawtrack.specs.Serving.{Serving}
-use Rattle.drawtrack.proofs.ServingLaws.{serving-begins, serving-on, serving-ended}
+use Rattle.session_steps.specs.Outcome.{lent}
+use Rattle.session.specs.Limits.{inputRoom}
+use Rattle.drawtrack.specs.Serving.{situation, Serving}
+use Rattle.drawtrack.proofs.ServingLaws.{serving-begins, serving-on, serving-over, serves}
 use Rattle.drawtrack.proofs.serve.Statement.{statement}
 use Rattle.drawtrack.proofs.serve.Tie as tie
 
 abbrev Inv-loop : tie.InvT-loop
 Inv-loop input site-memory₀ coordinator-memory₀ log₀ list₀ out₀ session₀ turns₀ site-memory
     coordinator-memory log list out session turns =
-    Serving input site-memory₀ coordinator-memory₀ log₀ list₀ out₀ site-memory coordinator-memory
-    log list out session turns
+    Serving input
+    (situation session₀ (lent site-memory₀ coordinator-memory₀ log₀ list₀ out₀))
+    (situation session (lent site-memory coordinator-memory log list out))
+    turns
 
 abbrev μ-loop : tie.MeasureT-loop
 μ-loop input site-memory₀ coordinator-memory₀ log₀ list₀ out₀ session₀ turns₀ site-memory
     coordinator-memory log list out session turns =
-    8241 - turns
+    inputRoom - turns
 
 loop-holds : tie.Need-loop-holds Inv-loop μ-loop
 loop-holds c =
     let begun = c .before .before .before .before .before .before .before .before .before in
     let given = begun .before .before .before .before .before in
     let start = given .before .before .before .before .before in
-    serving-begins (start .args .input .now) (start .args .site-memory .now)
-    (start .args .coordinator-memory .now) (start .args .log .now) (start .args .list .now)
-    (start .args .out .now) _ _ _ (begun .begin .result) (start .pre) (begun .begin .ensures)
+    serving-begins (start .args .input .now)
+    (lent (start .args .site-memory .now) (start .args .coordinator-memory .now)
+    (start .args .log .now) (start .args .list .now) (start .args .out .now))
+    _ _ _ (begun .begin .result) (begun .begin .ensures) (start .pre)
 
 add-turns : tie.Need-add-turns Inv-loop μ-loop
 add-turns c =
@@ -52,17 +57,26 @@ loop-again c =
     .before .before .before .before in
     let inside = advanced .before .before .before .before .before .before .before in
     let loop = inside .before .loop in
-    serving-on _ _ _ _ _ _ _ _ _ _ _ _ (loop .turns) (loop .inv) _ _ _ _ _
-    (advanced .advance .result) (inside .loop-test .taken) (advanced .advance .ensures)
+    serving-on _ _ _ _ (loop .turns) (loop .inv) _ (advanced .advance .result)
+    (inside .loop-test .taken) (advanced .advance .ensures)
 
 returns : tie.Need-returns Inv-loop μ-loop
 returns c =
     let loop = c .before .before .loop in
-    serving-ended _ _ _ _ _ _ _ _ _ _ _ _ (loop .turns) (loop .inv)
-    (ltb-false (loop .turns) _ (c .if1 .left))
+    let begun = c .before .before .before .before .before .before .before .before .before .before
+    .before .before in
+    serves _ _ _ _ _ (begun .begin .result) (begun .begin .ensures) _ _
+    (loop .turns) (loop .inv)
+    (serving-over _ _ _ _ (loop .turns) (loop .inv) (ltb-false (loop .turns) _ (c .if1 .left)))
 
 returns-2 : tie.Need-returns-2 Inv-loop μ-loop
-returns-2 c = c .loop-test .left
+returns-2 c =
+    let loop = c .before .loop in
+    let begun = c .before .before .before .before .before .before .before .before .before .before
+    .before in
+    serves _ _ _ _ _ (begun .begin .result) (begun .begin .ensures) _ _
+    (loop .turns) (loop .inv)
+    (c .loop-test .left)
 
 pub serve-spec : {M : Type 1} → statement M
 serve-spec =

@@ -15,7 +15,7 @@ returns c =
     let given = lent (start .site-memory .now) (start .coordinator-memory .now) (start .log .now)
     (start .list .now) (start .out .now) in
     record {
-      line = line-draw (start .session) (read .read-at .result) _ (read .read-at .ensures) given
+      line = line-draw (start .session) (read .read-line .result) _ (read .read-line .ensures) given
           _ _ _ _ _ (found .if1 .taken) (taken .take-draw .ensures);
       lengths = record {
         site-memory = search needs;
@@ -35,7 +35,7 @@ returns-2 c =
     let given = lent (start .site-memory .now) (start .coordinator-memory .now) (start .log .now)
     (start .list .now) (start .out .now) in
     record {
-      line = line-malformed (start .session) (read .read-at .result) _ (read .read-at .ensures)
+      line = line-malformed (start .session) (read .read-line .result) _ (read .read-line .ensures)
           given _ _ (tested .if1 .left) (refused .before .before .if2 .taken)
           (refused .refuse .ensures);
       lengths = record {
@@ -56,7 +56,7 @@ returns-3 c =
     let given = lent (start .site-memory .now) (start .coordinator-memory .now) (start .log .now)
     (start .list .now) (start .out .now) in
     record {
-      line = line-end (start .session) (read .read-at .result) _ (read .read-at .ensures) given
+      line = line-end (start .session) (read .read-line .result) _ (read .read-line .ensures) given
           _ _ _ (tested .if1 .left) (finished .before .before .before .before .if2 .left)
           (finished .finish .ensures);
       lengths = record {

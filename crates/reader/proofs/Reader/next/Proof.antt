@@ -1,9 +1,9 @@
 -- The reader's next line: a walk of the function's steps by hand. The borrow is opened, the struct
 -- behind it is taken apart, `read_at` is called on its bytes and its two numbers, the numbers of
--- the
--- step are stored, and the borrow is closed. All that the walk knows of `read_at` is its contract.
+-- the step are stored, and the borrow is closed. All that the walk knows of `read_at` is its
+-- contract.
 -- What the struct owns can be copied: one copy goes to the callee, and one is kept.
-use mathlib.Core.Path.{_≡_, refl, ap, subst}
+use mathlib.Core.Path.{_≡_, refl, ap}
 use Prim.Native.Nat.{ℕ, _<_, _^_}
 use mathlib.Core.List.{List, [], _∷_}
 use lib.ListN.{length}
@@ -49,6 +49,7 @@ use denote.Triple.Walked.{says, Stays, stay-ref, walkOf, goes-ref, Walks, ends-a
 use Rattle.reader.specs.Walk.{stepAt}
 use Rattle.reader.specs.declared.Reader.{Reader}
 use Rattle.reader.specs.declared.Step.{Step}
+use Rattle.reader.proofs.StepValue.{stepVal, settled}
 use Rattle.reader.proofs.Reader as T
 use Rattle.reader.proofs.Reader.Laws as T′
 use Rattle.reader.proofs.Step as S
@@ -73,10 +74,6 @@ stayed = (stay-ref (0 ∷ []) tt behind, tt)
 abbrev ReadAt : {M : Type 1} (𝓤 : URA M) (H : Heap 𝓤) (A : Atoms 𝓤)
     (mem : Memory → SProp 𝓤) (run : Routine → Fun 𝓤) → Contract 𝓤
 ReadAt 𝓤 H A mem run = tripleOf 𝓤 H A read-at.signature (read-at.spec 𝓤 H A mem run)
-
--- A step as it lies in memory.
-abbrev stepVal : Step → Val
-stepVal step = LL.val S.the-type S′.the-laws step
 
 module _ {M : Type 1} (𝓤 : URA M) (H : Heap 𝓤) (A : Atoms 𝓤) (W : Given 𝓤 H A)
     (at-mem : Memory → SProp 𝓤) (run : Routine → Fun 𝓤) (κ κ′ : Lft) (q q′ : Share)
@@ -221,13 +218,6 @@ module _ {M : Type 1} (𝓤 : URA M) (H : Heap 𝓤) (A : Atoms 𝓤) (W : Given
       move ! (2 ∷ 3 ∷ []) $ join ! $ frame ! $ feqI ! (List Val) (vptr b o ∷ []) (vptr b o ∷ [])
       refl $ fjoin3 ! $ nothing ! $ move ! (1 ∷ 0 ∷ []) $ fjoin ! $ frame ! $
       owned ! S.the-row (Is S.the-row) (LL.makes S.the-type S′.the-plain 𝓤 H A) step _ is $ done !
-
-  -- The step that the callee answers, at the value that memory holds.
-  settled : (step : Step) (answered : Val)
-      → Is S.the-row step (answered ∷ [])
-      → Is S.the-row step (stepVal step ∷ [])
-  settled step answered is = subst (Is S.the-row step) (LL.tells S.the-type S′.the-laws step
-      (answered ∷ []) is) is
 
   module _ (C : Calls 𝓤 H) (Λ : Loops 𝓤 H) (fm : FmC 𝓤 H (W .laws) C) (known : Triple 𝓤 (C
       #reader·read-at) (ReadAt 𝓤 H A at-mem run)) where

@@ -1,0 +1,46 @@
+-- The program's limits, and the memory that they ask for, each named once (document 01's section
+-- "Worklist": "Its memory serves k up to 4, c up to 100, u up to 1000 and a worklist up to 8192
+-- bytes").
+--
+--   programSites, programCapacity, programUniverse, programBytes     4, 100, 1000, 8192
+--   siteRoom, coordinatorRoom      5696 and 2024 numbers of memory
+--   logRoom, listRoom, outRoom     376 numbers, 1000 places, 8192 bytes
+--   inputRoom                      8241 bytes, the most that matter of an input
+use Prim.Native.Nat.{ℕ, _+_, _*_}
+use Rattle.model.specs.Limits.{topValue, mostMessages}
+
+abbrev pub programSites : ℕ
+programSites = 4
+
+abbrev pub programCapacity : ℕ
+programCapacity = 100
+
+abbrev pub programUniverse : ℕ
+programUniverse = 1000
+
+abbrev pub programBytes : ℕ
+programBytes = 8192
+
+-- For each site four numbers a counter, and its class counts; for the coordinator a number for each
+-- item, and its class counts.
+abbrev pub siteRoom : ℕ
+siteRoom = programSites * (4 * programCapacity + (topValue + 1))
+
+abbrev pub coordinatorRoom : ℕ
+coordinatorRoom = programUniverse + (topValue + 1)
+
+-- Four numbers for each message that may follow one draw, and a place for each item.
+abbrev pub logRoom : ℕ
+logRoom = 4 * mostMessages programSites
+
+abbrev pub listRoom : ℕ
+listRoom = programUniverse
+
+-- The lines of those messages take at most 84 bytes each; the results take fewer than all of them.
+abbrev pub outRoom : ℕ
+outRoom = 8192
+
+-- A settings line of six numbers of seven digits, each with the byte that ends it; a worklist; and
+-- one byte more, by which a worklist is seen to be too long.
+abbrev pub inputRoom : ℕ
+inputRoom = 6 * (7 + 1) + programBytes + 1

@@ -37,6 +37,7 @@ pub mod NetworkClose
 pub mod EstimateBounds
 pub mod QuantileBounds
 pub mod ListLaws
+pub mod ListSize
 pub mod RunLaws
 pub mod RunInvariant
 pub mod Theorem

@@ -6,14 +6,14 @@
 --   below value, above value            the arrivals of a smaller, of a larger value
 --   Tracks settings run                 list and quantile are right ("demand 2, after each draw")
 --   ListLaw settings coordinator        which items the list holds, and in which order
+--   ListSize settings run               how many items the list holds at most
 --   FewMessages settings run            demand 3: the three bounds on messages
 --   Estimates settings run              how far estimates and total lag behind
 --   QuantilePromise settings run        all that is promised of the quantile
---   Cuts settings arrivals              a run cut into parts, and a run of what was accepted
 --   AfterEach settings arrivals n       the demands after the first n accepted arrivals
 use mathlib.Core.Path.{_≡_}
 use mathlib.Core.Bool.{Bool, true, false, _&&_, _||_}
-use mathlib.Core.List.{List, [], _∷_, _++_}
+use mathlib.Core.List.{List, [], _∷_}
 use Prim.Native.Nat.{ℕ, _+_, _-_, _*_, _≤_, _<_}
 use lib.Dec.{eqb, ltb}
 use lib.ListN.{length, getD, take}
@@ -25,8 +25,9 @@ use Rattle.model.specs.Refusals.{accepted}
 use Rattle.model.specs.Limits.{messagesPerArrival, allowanceFactor}
 use Rattle.model.specs.Settings.{settingsRefusal, digits, allowance}
 use Rattle.model.specs.Coordinator.{Coordinator}
-use Rattle.model.specs.Reading.{isListed, heavyHitters, quantileOf}
-use Rattle.model.specs.Runs.{Run, runFrom, runOf}
+use Rattle.model.specs.Reading.{neededSide, isListed, heavyHitters, mostListed, quantileOf}
+use Rattle.model.specs.Runs.{Run, runOf}
+use Rattle.model.specs.Cuts.{Cuts}
 
 -- ---- Arrivals counted
 
@@ -112,6 +113,24 @@ pub record ListLaw (settings : Settings) (coordinator : Coordinator) : Type 0 wh
   pub empty-at-start : coordinator .total ≡ 0
       → heavyHitters settings coordinator ≡ []
 
+-- ---- The list's length
+
+-- How many items the list holds after a run. The differences are true ones: settings that pass have
+-- 2 ≤ e ≤ 1000 and e ≤ p. Before the first arrival the list is empty.
+pub record ListSize (settings : Settings) (run : Run) : Type 0 where
+  -- "2000 × its number ≥ (2p - e) × total" of each, and all their numbers are at most n
+  pub shares : length (heavyHitters settings (run .network .coordinator))
+      * neededSide settings (run .network .coordinator)
+      ≤ 2000 * counted (run .accepted)
+  -- and the total is at least (3000 - e) / 3000 of n
+  pub shares-of-all : length (heavyHitters settings (run .network .coordinator))
+      * ((2 * settings .phi - settings .epsilon) * (3000 - settings .epsilon))
+      ≤ 6000000
+  -- so a list of `mostListed` places never has "fewer places than codes listed"
+  pub at-most : length (heavyHitters settings (run .network .coordinator)) ≤ mostListed settings
+  -- nor has one of a thousand places, whatever the settings
+  pub at-most-thousand : length (heavyHitters settings (run .network .coordinator)) ≤ 1000
+
 -- ---- Messages
 
 -- Demand 3: the messages are few.
@@ -148,29 +167,7 @@ pub record Estimates (settings : Settings) (run : Run) : Type 0 where
       → (6 * settings .phi - 5 * settings .epsilon) * counted (run .accepted)
       ≤ 6000 * countOf item (run .accepted)
 
--- ---- Runs cut into parts
-
--- How a run over a list hangs together with runs over its parts.
-pub record Cuts (settings : Settings) (arrivals : List Arrival) : Type 0 where
-  -- a run goes on where its front ended
-  pub in-parts : (later : List Arrival)
-      → runOf settings (arrivals ++ later) ≡ runFrom settings (runOf settings arrivals) later
-  -- what a front accepted and sent stays, as the front of what the whole accepted and sent
-  pub accepted-stay : (later : List Arrival)
-      → take (length (runOf settings arrivals .accepted))
-      (runOf settings (arrivals ++ later) .accepted)
-      ≡ runOf settings arrivals .accepted
-  pub messages-stay : (later : List Arrival)
-      → take (length (runOf settings arrivals .messages))
-      (runOf settings (arrivals ++ later) .messages)
-      ≡ runOf settings arrivals .messages
-  -- refused arrivals leave no trace: the run over the accepted ones is the same run
-  pub refused-change-nothing : runOf settings (runOf settings arrivals .accepted)
-      ≡ runOf settings arrivals
-  -- and every front of the accepted arrivals is itself accepted whole
-  pub fronts-accepted : (n : ℕ)
-      → runOf settings (take n (runOf settings arrivals .accepted)) .accepted
-      ≡ take n (runOf settings arrivals .accepted)
+-- ---- The whole
 
 -- Demands 2 and 3 "after each draw": of the run over the first n accepted arrivals, which are
 -- accepted again, one and all.
@@ -180,8 +177,6 @@ pub record AfterEach (settings : Settings) (arrivals : List Arrival) (n : ℕ) :
   pub tracks : Tracks settings (runOf settings (take n (runOf settings arrivals .accepted)))
   pub few-messages : FewMessages settings
       (runOf settings (take n (runOf settings arrivals .accepted)))
-
--- ---- The whole
 
 -- Demands 2 and 3 over runs: for all settings that pass their test and all lists of arrivals, each
 -- list from a fresh start.
@@ -201,6 +196,10 @@ pub record DemandsOverRuns : Type 0 where
   -- the list as it is handed out
   pub list-law : (settings : Settings) (coordinator : Coordinator)
       → ListLaw settings coordinator
+  -- how long a list must be
+  pub list-size : (settings : Settings) (arrivals : List Arrival)
+      → settingsRefusal settings ≡ accepted
+      → ListSize settings (runOf settings arrivals)
   -- parts of a list, and refused arrivals
   pub cuts : (settings : Settings) (arrivals : List Arrival)
       → Cuts settings arrivals

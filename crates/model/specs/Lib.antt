@@ -17,6 +17,7 @@ pub mod Reading
 pub mod Network
 pub mod NetworkMemory
 pub mod Runs
+pub mod Cuts
 pub mod Claims
 pub mod Transcript
 pub mod WorklistClaims

@@ -195,8 +195,8 @@ module _ {settings : Settings} {run : Run} (fit : Settled settings)
       let by-shares : l ≤ 6000000 / (share * others) =
       le-div-iff-mul-le {k = share * others} (omega (arith, shares-large)) .1 shares-of-all in
       record {
-        shares = shares;
-        shares-of-all = shares-of-all;
+        shares = omega (arith, shares);
+        shares-of-all = omega (arith, shares-of-all);
         at-most = omega (arith, by-shares, length-among settings c (settings .universe) 0);
         at-most-thousand =
             omega (arith, shares-of-all, mul-le-mul-left l shares-large);

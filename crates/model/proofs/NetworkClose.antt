@@ -158,7 +158,7 @@ module _ {settings : Settings} {network : Network}
       (λ (z : ℕ). LateQuantile (settings .rank) (quantileFound settings sites base) z accepted′)
       (sym base-is-counted)
       (late-of-halving (settings .rank) accepted′ (enoughAt settings sites base) test-is 10 topValue
-      (fit .rank .at-most) (omega arith) (then-ok .values-known))
+      (fit .rank .at-most) (omega arith) (omega arith) (then-ok .values-known))
 
   -- ---- The network after the close
 

@@ -10,6 +10,7 @@
 --   FewMessages settings run            demand 3: the three bounds on messages
 --   Estimates settings run              how far estimates and total lag behind
 --   QuantilePromise settings run        all that is promised of the quantile
+--   FirmQuantile settings run           the quantile is within 2e / 3, exact at first
 --   AfterEach settings arrivals n       the demands after the first n accepted arrivals
 use mathlib.Core.Path.{_≡_}
 use mathlib.Core.Bool.{Bool, true, false, _&&_, _||_}
@@ -22,7 +23,7 @@ use Rattle.model.specs.declared.Arrival.{Arrival}
 use Rattle.model.specs.declared.Phase.the-variants.{Idle}
 use Rattle.model.specs.declared.Quantile.the-variants.{Nothing, Value}
 use Rattle.model.specs.Refusals.{accepted}
-use Rattle.model.specs.Limits.{messagesPerArrival, allowanceFactor}
+use Rattle.model.specs.Limits.{topValue, messagesPerArrival, allowanceFactor}
 use Rattle.model.specs.Settings.{settingsRefusal, digits, allowance}
 use Rattle.model.specs.Coordinator.{Coordinator}
 use Rattle.model.specs.Reading.{neededSide, isListed, heavyHitters, mostListed, quantileOf}
@@ -73,6 +74,34 @@ pub record QuantilePromise (settings : Settings) (run : Run) : Type 0 where
       → quantileOf settings (run .network .coordinator) ≡ Value value
       → 1000 * above value (run .accepted)
       ≤ (1000 - settings .rank + settings .epsilon) * counted (run .accepted)
+
+-- The quantile is firmer than "within e" asks: two thirds of e do, and while the threshold is 1 it
+-- is exact. (q is at most 1000, so 1000 - q and 3000 - 3q are true differences.)
+pub record FirmQuantile (settings : Settings) (run : Run) : Type 0 where
+  -- "Volume classes run from 0 to 1023."
+  pub value-known : (value : ℕ)
+      → quantileOf settings (run .network .coordinator) ≡ Value value
+      → value ≤ topValue
+  -- 1000 × (draws below it) ≤ (q + 2e / 3) × n, times 3
+  pub few-below : (value : ℕ)
+      → quantileOf settings (run .network .coordinator) ≡ Value value
+      → 3000 * below value (run .accepted)
+      ≤ (3 * settings .rank + 2 * settings .epsilon) * counted (run .accepted)
+  -- 1000 × (draws above it) ≤ (1000 - q + 2e / 3) × n, times 3
+  pub few-above : (value : ℕ)
+      → quantileOf settings (run .network .coordinator) ≡ Value value
+      → 3000 * above value (run .accepted)
+      ≤ (3000 - 3 * settings .rank + 2 * settings .epsilon) * counted (run .accepted)
+  -- while the threshold is 1, the least value with 1000 × (draws at or below it) ≥ q × n
+  pub exact-below : (value : ℕ)
+      → quantileOf settings (run .network .coordinator) ≡ Value value
+      → run .network .coordinator .threshold ≡ 1
+      → 1000 * below value (run .accepted) < settings .rank * counted (run .accepted)
+  pub exact-above : (value : ℕ)
+      → quantileOf settings (run .network .coordinator) ≡ Value value
+      → run .network .coordinator .threshold ≡ 1
+      → 1000 * above value (run .accepted)
+      ≤ (1000 - settings .rank) * counted (run .accepted)
 
 -- Demand 2 over runs: the list and the quantile are right.
 pub record Tracks (settings : Settings) (run : Run) : Type 0 where
@@ -196,6 +225,10 @@ pub record DemandsOverRuns : Type 0 where
   -- the list as it is handed out
   pub list-law : (settings : Settings) (coordinator : Coordinator)
       → ListLaw settings coordinator
+  -- the class, firmer than "within e"
+  pub firm-quantile : (settings : Settings) (arrivals : List Arrival)
+      → settingsRefusal settings ≡ accepted
+      → FirmQuantile settings (runOf settings arrivals)
   -- how long a list must be
   pub list-size : (settings : Settings) (arrivals : List Arrival)
       → settingsRefusal settings ≡ accepted

@@ -8,6 +8,7 @@
 --   ListLaw settings coordinator        which items the list holds, and in which order
 --   ListSize settings run               how many items the list holds at most
 --   FewMessages settings run            demand 3: the three bounds on messages
+--   FirmMessages settings run           and one more, over the digits after the second
 --   Estimates settings run              how far estimates and total lag behind
 --   QuantilePromise settings run        all that is promised of the quantile
 --   FirmQuantile settings run           the quantile is within 2e / 3, exact at first
@@ -23,7 +24,7 @@ use Rattle.model.specs.declared.Arrival.{Arrival}
 use Rattle.model.specs.declared.Phase.the-variants.{Idle}
 use Rattle.model.specs.declared.Quantile.the-variants.{Nothing, Value}
 use Rattle.model.specs.Refusals.{accepted}
-use Rattle.model.specs.Limits.{topValue, messagesPerArrival, allowanceFactor}
+use Rattle.model.specs.Limits.{topValue, messagesPerArrival, allowanceFactor, firmMessages, firmMessagesPerDigit}
 use Rattle.model.specs.Settings.{settingsRefusal, digits, allowance}
 use Rattle.model.specs.Coordinator.{Coordinator}
 use Rattle.model.specs.Reading.{neededSide, isListed, heavyHitters, mostListed, quantileOf}
@@ -172,6 +173,13 @@ pub record FewMessages (settings : Settings) (run : Run) : Type 0 where
   -- the allowance is that bound, divided by e
   pub within-allowance : length (run .messages) ≤ allowance settings (counted (run .accepted))
 
+-- Firmer than demand 3's bound over the digits: only those after the second cost more messages. With
+-- two digits or fewer (at most three arrivals) the difference is 0, and the first part is enough.
+pub record FirmMessages (settings : Settings) (run : Run) : Type 0 where
+  pub within-later-digits : settings .epsilon * length (run .messages)
+      ≤ firmMessages * settings .sites
+      + firmMessagesPerDigit * (settings .sites * (digits (counted (run .accepted)) - 2))
+
 -- ---- Estimates
 
 -- How far the coordinator's numbers lag behind, for parts that lean on more than the list.
@@ -214,10 +222,18 @@ pub record DemandsOverRuns : Type 0 where
   pub tracks : (settings : Settings) (arrivals : List Arrival)
       → settingsRefusal settings ≡ accepted
       → Tracks settings (runOf settings arrivals)
+  -- the class, firmer than "within e"
+  pub firm-quantile : (settings : Settings) (arrivals : List Arrival)
+      → settingsRefusal settings ≡ accepted
+      → FirmQuantile settings (runOf settings arrivals)
   -- demand 3: the bounds on messages
   pub few-messages : (settings : Settings) (arrivals : List Arrival)
       → settingsRefusal settings ≡ accepted
       → FewMessages settings (runOf settings arrivals)
+  -- and firmer over the digits
+  pub firm-messages : (settings : Settings) (arrivals : List Arrival)
+      → settingsRefusal settings ≡ accepted
+      → FirmMessages settings (runOf settings arrivals)
   -- what both lean on
   pub estimates-near : (settings : Settings) (arrivals : List Arrival)
       → settingsRefusal settings ≡ accepted
@@ -225,10 +241,6 @@ pub record DemandsOverRuns : Type 0 where
   -- the list as it is handed out
   pub list-law : (settings : Settings) (coordinator : Coordinator)
       → ListLaw settings coordinator
-  -- the class, firmer than "within e"
-  pub firm-quantile : (settings : Settings) (arrivals : List Arrival)
-      → settingsRefusal settings ≡ accepted
-      → FirmQuantile settings (runOf settings arrivals)
   -- how long a list must be
   pub list-size : (settings : Settings) (arrivals : List Arrival)
       → settingsRefusal settings ≡ accepted

@@ -37,3 +37,15 @@ messagesPerArrival = 25
 
 abbrev pub allowanceFactor : ℕ
 allowanceFactor = 150000
+
+-- Firmer than demand 3's second bound, and proved beside it:
+-- e × messages ≤ 39,000 × k + (33,000 + 5500 × ρ) × k × (digits - 2), where ρ is what probing costs
+-- a site: "ten times", each with a kind 5 and its answer.
+abbrev pub probingMessages : ℕ
+probingMessages = 20
+
+abbrev pub firmMessages : ℕ
+firmMessages = 39000
+
+abbrev pub firmMessagesPerDigit : ℕ
+firmMessagesPerDigit = 33000 + 5500 * probingMessages

@@ -31,6 +31,11 @@ messageLimit = 100000000000000
 abbrev pub mostMessages : ℕ → ℕ
 mostMessages sites = 23 * sites + 2
 
+-- "Full delivery": no delivery takes more steps, be they messages handed over or kinds 7 asked for:
+-- 23 × k + 2 messages, and the k kinds 7 are asked for besides.
+abbrev pub mostSteps : ℕ → ℕ
+mostSteps sites = 24 * sites + 2
+
 -- Demand 3: "messages ≤ 25 × n", and the factor of "e × messages ≤ 150,000 × k × (digits + 1)".
 abbrev pub messagesPerArrival : ℕ
 messagesPerArrival = 25

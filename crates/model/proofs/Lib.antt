@@ -46,6 +46,7 @@ pub mod LineTaken
 pub mod WorklistLaws
 pub mod TranscriptLaws
 pub mod Instances
+pub mod Edges
 pub mod SoundCounters
 pub mod SoundSites
 pub mod CoordinatorSound

@@ -173,8 +173,8 @@ pub record FewMessages (settings : Settings) (run : Run) : Type 0 where
   -- the allowance is that bound, divided by e
   pub within-allowance : length (run .messages) ≤ allowance settings (counted (run .accepted))
 
--- Firmer than demand 3's bound over the digits: only those after the second cost more messages. With
--- two digits or fewer (at most three arrivals) the difference is 0, and the first part is enough.
+-- Firmer than demand 3's bound over the digits: only those after the second cost more messages.
+-- With two digits or fewer (at most three arrivals) the difference is 0 and the first part enough.
 pub record FirmMessages (settings : Settings) (run : Run) : Type 0 where
   pub within-later-digits : settings .epsilon * length (run .messages)
       ≤ firmMessages * settings .sites

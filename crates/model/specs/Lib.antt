@@ -27,3 +27,4 @@ pub mod SoundNetwork
 pub mod DeliveryClaims
 pub mod SoundClaims
 pub mod NumberClaims
+pub mod Edges

@@ -40,9 +40,9 @@ abbrev pub heavyHitters : Settings → Coordinator → List ℕ
 heavyHitters settings c = listedFrom (settings .universe) 0 settings c
 
 -- How many places a list needs so that it never has "fewer places than codes listed": an item is
--- listed only with its share of the arrivals, and there are no more items than u. A caller lends the
--- lesser of the two numbers: the first is below 1001 whatever the settings, the second may be less
--- still. Settings that pass have 2 ≤ e ≤ 1000 and e ≤ p, so both differences are true ones.
+-- listed only with its share of the arrivals, and there are no more items than u. Neither number is
+-- always the lesser (the first is at most 1000, u may be 1 or 65,536), so a caller lends the lesser
+-- of the two. Settings that pass have 2 ≤ e ≤ 1000 and e ≤ p: both differences are true ones.
 abbrev pub mostListed : Settings → ℕ
 mostListed settings =
     min (6000000 / ((2 * settings .phi - settings .epsilon) * (3000 - settings .epsilon)))

@@ -7,9 +7,10 @@ use Rattle.model.specs.declared.Settings.{Settings}
 use Rattle.model.specs.declared.Arrival.{Arrival}
 use Rattle.model.specs.declared.Message.{Message}
 use Rattle.model.specs.declared.Phase.the-variants.{Idle}
+use Rattle.model.specs.Refusals.{listTooShort}
 use Rattle.model.specs.Limits.{mostSites, topValue, valueCount, siteLimit, coordinatorLimit, messageLimit, mostMessages, mostSteps, messagesPerArrival, allowanceFactor, firmMessages, firmMessagesPerDigit}
 use Rattle.model.specs.Settings.{settingsWith, thresholdOf, digits, allowance}
-use Rattle.model.specs.Messages.{itemReport, countReport, poll, pollAnswer, probe, probeAnswer, announcement}
+use Rattle.model.specs.Messages.{noMessage, itemReport, countReport, poll, pollAnswer, probe, probeAnswer, announcement}
 use Rattle.model.specs.Network.{deliveryFuel}
 use Rattle.model.specs.Runs.{runOf}
 use Rattle.model.specs.DeliveryClaims.{Delivery, deliverySteps, deliveryOf}
@@ -59,6 +60,10 @@ pub record ConstantEdges : Type 0 where
   pub threshold-0 : thresholdOf settingsP6 0 ≡ 1
   pub threshold-119 : thresholdOf settingsP6 119 ≡ 1
   pub threshold-179 : thresholdOf settingsP6 179 ≡ 2
+  pub threshold-million : thresholdOf settingsA 3000000 ≡ 1000000
+  -- a list that is too short has a number, and no message is four zeros
+  pub list-too-short : listTooShort ≡ 12
+  pub no-message : noMessage ≡ record { kind = 0; site = 0; a = 0; b = 0 }
   -- "At most 23 × k + 2 messages follow one draw": reached with one site and with two
   pub most-messages-1 : mostMessages 1 ≡ 25
   pub most-messages-2 : mostMessages 2 ≡ 48

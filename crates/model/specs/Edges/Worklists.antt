@@ -6,7 +6,8 @@ use mathlib.Core.List.{List, [], _∷_, _++_}
 use Prim.Native.Nat.{ℕ}
 use lib.ListN.{replicate}
 use Rattle.model.specs.Settings.{settingsWith}
-use Rattle.model.specs.Lines.{Line, noLine, writeFields, readLine, readWorklist, ended, malformedAt, next}
+use Rattle.model.specs.Decimal.{number, readNumber}
+use Rattle.model.specs.Lines.{Line, noLine, settingsOf, writeFields, readLine, readWorklist, ended, malformedAt, next}
 use Rattle.model.specs.Transcript.{programRefusal, transcript}
 use Rattle.model.specs.Instances.{settingsA, arrivalWith, draw, inputP2, messageBytesP2}
 
@@ -29,6 +30,7 @@ pub record LineEdges : Type 0 where
   pub p2 : readLine lineP2 ≡ lineIs 3 6
   pub zero-itself : readLine (lineWith (48 ∷ [])) ≡ lineIs 0 6
   pub nine : readLine (lineWith (57 ∷ [])) ≡ lineIs 9 6
+  pub four-digits : readLine (lineWith (49 ∷ 48 ∷ 50 ∷ 51 ∷ [])) ≡ lineIs 1023 9
   pub seven-digits : readLine (lineWith (49 ∷ replicate 6 48)) ≡ lineIs 1000000 12
   pub eight-digits : readLine (lineWith (49 ∷ replicate 7 48)) ≡ noLine
   pub no-digit : readLine (lineWith []) ≡ noLine
@@ -43,6 +45,12 @@ pub record LineEdges : Type 0 where
   pub carriage-return : readLine (lineWith (51 ∷ 13 ∷ [])) ≡ noLine
   pub four-fields : readLine (lineWith (51 ∷ 59 ∷ 51 ∷ [])) ≡ noLine
   pub nothing : readLine [] ≡ noLine
+  -- a malformed line has no numbers and takes no byte; a number may end the bytes, a line may not
+  pub no-line : noLine ≡ record { wellFormed = false; arrival = arrivalWith 0 0 0; used = 0 }
+  pub zero-last : readNumber (48 ∷ []) ≡ number 0 []
+  -- the settings line's six fields, in its order; zeros for fields that are missing
+  pub settings-fields : settingsOf (1 ∷ 2 ∷ 3 ∷ 4 ∷ 5 ∷ 6 ∷ []) ≡ settingsWith 1 2 3 4 5 6
+  pub settings-missing : settingsOf [] ≡ settingsWith 0 0 0 0 0 0
   -- what follows a line is not its own
   pub followed : readLine (lineP2 ++ (120 ∷ [])) ≡ lineIs 3 6
   -- "An empty file is no draws"; "line from 0"

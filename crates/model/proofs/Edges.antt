@@ -4,6 +4,7 @@ pub mod Settings
 pub mod Sites
 pub mod Coordinators
 pub mod Networks
+pub mod Memories
 pub mod Readings
 pub mod Worklists
 use Rattle.model.specs.Edges.{Edges}
@@ -12,6 +13,7 @@ use Rattle.model.proofs.Edges.Settings.{settings}
 use Rattle.model.proofs.Edges.Sites.{site-memory, arrivals, site-messages, counters}
 use Rattle.model.proofs.Edges.Coordinators.{coordinator-memory, coordinator-messages}
 use Rattle.model.proofs.Edges.Networks.{network-memory, batches}
+use Rattle.model.proofs.Edges.Memories.{memories}
 use Rattle.model.proofs.Edges.Readings.{readings}
 use Rattle.model.proofs.Edges.Worklists.{lines, program}
 
@@ -27,6 +29,7 @@ edges = record {
   coordinator-messages = coordinator-messages;
   network-memory = network-memory;
   batches = batches;
+  memories = memories;
   readings = readings;
   lines = lines;
   program = program;

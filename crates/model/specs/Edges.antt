@@ -9,6 +9,7 @@ pub mod Settings
 pub mod Sites
 pub mod Coordinators
 pub mod Networks
+pub mod Memories
 pub mod Readings
 pub mod Worklists
 use Rattle.model.specs.Edges.Constants.{ConstantEdges}
@@ -16,6 +17,7 @@ use Rattle.model.specs.Edges.Settings.{SettingsEdges}
 use Rattle.model.specs.Edges.Sites.{SiteMemoryEdges, ArrivalEdges, SiteMessageEdges, CounterEdges}
 use Rattle.model.specs.Edges.Coordinators.{CoordinatorMemoryEdges, CoordinatorMessageEdges}
 use Rattle.model.specs.Edges.Networks.{NetworkEdges, BatchEdges}
+use Rattle.model.specs.Edges.Memories.{MemoryEdges}
 use Rattle.model.specs.Edges.Readings.{ReadingEdges}
 use Rattle.model.specs.Edges.Worklists.{LineEdges, ProgramEdges}
 
@@ -35,6 +37,8 @@ pub record Edges : Type 0 where
   -- 4, 11 of the batch call; 8 before 14; what was accepted
   pub network-memory : NetworkEdges
   pub batches : BatchEdges
+  -- what stands where in lent memory
+  pub memories : MemoryEdges
   -- list, margin and class
   pub readings : ReadingEdges
   -- 13; the program's limits

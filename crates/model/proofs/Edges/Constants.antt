@@ -43,6 +43,9 @@ constants = record {
   messages-29 = refl;
   two-sites-first = refl;
   two-sites-close = refl;
+  site-seventh = refl;
+  coordinator-seventh = refl;
+  coordinator-signalled = refl;
   two-sites-pending = refl;
   two-sites-base = refl;
 }

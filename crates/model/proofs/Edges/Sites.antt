@@ -87,9 +87,14 @@ counters = record {
   least-last = refl;
   least-count = refl;
   least-first = refl;
+  least-after = refl;
   then-holds = refl;
   own-gains = refl;
   unused-starts = refl;
   twice-found = refl;
   twice-least = refl;
+  not-found = refl;
+  no-slot = refl;
+  unsent = refl;
+  sent = refl;
 }

@@ -11,11 +11,13 @@ use Rattle.model.specs.Refusals.{listTooShort}
 use Rattle.model.specs.Limits.{mostSites, topValue, valueCount, siteLimit, coordinatorLimit, messageLimit, mostMessages, mostSteps, messagesPerArrival, allowanceFactor, firmMessages, firmMessagesPerDigit}
 use Rattle.model.specs.Settings.{settingsWith, thresholdOf, digits, allowance}
 use Rattle.model.specs.Messages.{noMessage, itemReport, countReport, poll, pollAnswer, probe, probeAnswer, announcement}
-use Rattle.model.specs.Network.{deliveryFuel}
+use Rattle.model.specs.SiteMemory.{siteRecord}
+use Rattle.model.specs.CoordinatorMemory.{coordinatorRecord}
+use Rattle.model.specs.Network.{siteAt, deliveryFuel}
 use Rattle.model.specs.Runs.{runOf}
 use Rattle.model.specs.DeliveryClaims.{Delivery, deliverySteps, deliveryOf}
 use Rattle.model.specs.Instances.{settingsA, settingsP6, draw, draws, coordinatorAfter, messagesOf}
-use Rattle.model.specs.Edges.Inputs.{settingsTwo, drawAt, twelve}
+use Rattle.model.specs.Edges.Inputs.{settingsTwo, drawAt, twelve, siteNumbers, coordinatorNumbers}
 
 -- The delivery of one more arrival after a list, so many steps on.
 abbrev pub stepsOf : Settings → List Arrival → Arrival → ℕ → Delivery
@@ -89,6 +91,14 @@ pub record ConstantEdges : Type 0 where
       ≡ itemReport 1 7 1 ∷ countReport 1 1 3
       ∷ poll 0 ∷ pollAnswer 0 0 ∷ poll 1 ∷ pollAnswer 1 0
       ∷ announcement 0 1 2 ∷ announcement 1 1 2 ∷ []
+  -- the records after P4's seventh draw, and with a signal at two sites
+  pub site-seventh : siteRecord (siteAt (runOf settingsA (draws 7) .network) 0)
+      ≡ siteNumbers 7 1 2 1
+  pub coordinator-seventh : coordinatorRecord (coordinatorAfter settingsA (draws 7))
+      ≡ coordinatorNumbers 6 6 2 0 3 Idle
+  pub coordinator-signalled : coordinatorRecord
+      (coordinatorAfter settingsTwo (twelve ++ (drawAt 0 ∷ drawAt 0 ∷ [])))
+      ≡ coordinatorNumbers 14 12 2 1 3 Idle
   -- at threshold 2: amounts of 2, no class, and what site 1 holds back is gained by the poll
   pub two-sites-pending : take 6 (messagesOf settingsTwo
       (twelve ++ (drawAt 1 ∷ drawAt 0 ∷ drawAt 0 ∷ drawAt 0 ∷ [])) (drawAt 0))

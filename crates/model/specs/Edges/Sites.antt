@@ -7,7 +7,7 @@ use lib.ListN.{replicate}
 use Rattle.model.specs.declared.SiteRecord.{SiteRecord}
 use Rattle.model.specs.Settings.{settingsWith}
 use Rattle.model.specs.Messages.{message, itemReport, countReport, poll, pollAnswer, probe, probeAnswer, announcement}
-use Rattle.model.specs.Counters.{Counter, find, leastPlace, placementFor, own, unused, replaced, countersAfter}
+use Rattle.model.specs.Counters.{Counter, unreported, find, leastPlace, placementFor, own, unused, replaced, countersAfter, afterReport}
 use Rattle.model.specs.Site.{Site, freshSite, arrivalRefusal, siteMessageRefusal, siteReceives}
 use Rattle.model.specs.SiteMemory.{siteMemoryRefusal}
 use Rattle.model.specs.Instances.{settingsA, settingsP6, arrivalWith, counterWith}
@@ -137,27 +137,34 @@ pub record SiteMessageEdges : Type 0 where
   pub announcement-sets : siteReceives freshSite (announcement 1 5 9) .site ≡ siteAtThreshold 5
   pub announcement-silent : siteReceives freshSite (announcement 1 5 9) .messages ≡ []
 
--- A counter that was reported as often as it was drawn.
-abbrev pub seen : ℕ → ℕ → Counter
-seen item count = counterWith item count 0 count
+-- A counter with overcount 2 and sent 3.
+abbrev pub held : ℕ → ℕ → Counter
+held item count = counterWith item count 2 3
 
 -- "A code in a slot gains one count (the lowest such slot ..). Otherwise it takes the next unused
 -- slot .. With none unused, it replaces the code of least count (of equals, the least code)".
 pub record CounterEdges : Type 0 where
-  pub own-slot : placementFor 3 (seen 4 2 ∷ seen 3 1 ∷ seen 1 1 ∷ []) 3 ≡ own 1
-  pub next-unused : placementFor 4 (seen 4 2 ∷ seen 3 1 ∷ seen 1 1 ∷ []) 9 ≡ unused
+  pub own-slot : placementFor 3 (held 4 7 ∷ held 3 6 ∷ held 1 6 ∷ []) 3 ≡ own 1
+  pub next-unused : placementFor 4 (held 4 7 ∷ held 3 6 ∷ held 1 6 ∷ []) 9 ≡ unused
   -- the least code is in the last of three slots
-  pub least-last : placementFor 3 (seen 4 2 ∷ seen 3 1 ∷ seen 1 1 ∷ []) 9 ≡ replaced 2
+  pub least-last : placementFor 3 (held 4 7 ∷ held 3 6 ∷ held 1 6 ∷ []) 9 ≡ replaced 2
   -- the least count comes first, whatever the codes
-  pub least-count : placementFor 3 (seen 4 2 ∷ seen 3 1 ∷ seen 1 2 ∷ []) 9 ≡ replaced 1
-  pub least-first : placementFor 3 (seen 1 1 ∷ seen 3 1 ∷ seen 4 2 ∷ []) 9 ≡ replaced 0
+  pub least-count : placementFor 3 (held 4 7 ∷ held 3 6 ∷ held 1 7 ∷ []) 9 ≡ replaced 1
+  pub least-first : placementFor 3 (held 1 6 ∷ held 3 6 ∷ held 4 7 ∷ []) 9 ≡ replaced 0
+  pub least-after : placementFor 3 (held 1 6 ∷ held 3 7 ∷ held 4 5 ∷ []) 9 ≡ replaced 2
   -- "count becomes that count plus one, overcount that count, sent 0"
-  pub then-holds : countersAfter (replaced 2) (seen 4 2 ∷ seen 3 1 ∷ seen 1 1 ∷ []) 9
-      ≡ seen 4 2 ∷ seen 3 1 ∷ counterWith 9 2 1 0 ∷ []
-  pub own-gains : countersAfter (own 1) (seen 4 2 ∷ seen 3 1 ∷ seen 1 1 ∷ []) 3
-      ≡ seen 4 2 ∷ counterWith 3 2 0 1 ∷ seen 1 1 ∷ []
-  pub unused-starts : countersAfter unused (seen 4 2 ∷ []) 9
-      ≡ seen 4 2 ∷ counterWith 9 1 0 0 ∷ []
+  pub then-holds : countersAfter (replaced 2) (held 4 7 ∷ held 3 6 ∷ held 1 6 ∷ []) 9
+      ≡ held 4 7 ∷ held 3 6 ∷ counterWith 9 7 6 0 ∷ []
+  pub own-gains : countersAfter (own 1) (held 4 7 ∷ held 3 6 ∷ held 1 6 ∷ []) 3
+      ≡ held 4 7 ∷ held 3 7 ∷ held 1 6 ∷ []
+  pub unused-starts : countersAfter unused (held 4 7 ∷ []) 9
+      ≡ held 4 7 ∷ counterWith 9 1 0 0 ∷ []
   -- "the lowest such slot, should memory hold it twice; likewise for equal codes below"
-  pub twice-found : find 3 (seen 4 2 ∷ seen 3 2 ∷ seen 3 1 ∷ []) ≡ 1
-  pub twice-least : leastPlace (seen 4 2 ∷ seen 3 1 ∷ seen 3 1 ∷ []) ≡ 1
+  pub twice-found : find 3 (held 4 7 ∷ held 3 7 ∷ held 3 6 ∷ []) ≡ 1
+  pub twice-least : leastPlace (held 4 7 ∷ held 3 6 ∷ held 3 6 ∷ []) ≡ 1
+  -- a code that no slot has; no slot
+  pub not-found : find 9 (held 4 7 ∷ held 3 7 ∷ held 3 6 ∷ []) ≡ 3
+  pub no-slot : leastPlace [] ≡ 0
+  -- "Unsent is count - overcount - sent."; "sent grows by it"
+  pub unsent : unreported (held 4 7) ≡ 2
+  pub sent : afterReport 2 (held 4 7) ≡ counterWith 4 7 2 5

@@ -85,6 +85,7 @@ coordinator-messages = record {
   poll-threshold = refl;
   poll-b = refl;
   probed-other = refl;
+  probed-1023 = refl;
   probed-limit = refl;
   probed-above = refl;
   five-before-nine = refl;

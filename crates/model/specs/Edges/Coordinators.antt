@@ -145,6 +145,7 @@ pub record CoordinatorMessageEdges : Type 0 where
   pub poll-b : refusalAt 2 (Collecting 1) (message 4 1 1 1) ≡ 10
   -- "6 for another class or above 1,000,000,000"
   pub probed-other : refusalAt 2 probingOne (probeAnswer 1 512 5) ≡ 10
+  pub probed-1023 : refusalAt 2 probingOne (probeAnswer 1 1023 5) ≡ 10
   pub probed-limit : refusalAt 2 probingOne (probeAnswer 1 511 1000000000) ≡ 0
   pub probed-above : refusalAt 2 probingOne (probeAnswer 1 511 1000000001) ≡ 10
   -- "for a message 5, 9, 6, 7, 10, with 6 and 7 only where the message table gives a code or a

@@ -51,7 +51,8 @@ module _ {settings : Settings} (passes : settingsRefusal settings ≡ accepted)
 
   -- ---- Memory
 
-  coordinator-accepted :
+  -- The coordinator's own record and memory.
+  pub coordinator-accepted :
       coordinatorMemoryRefusal settings (state .held .coordinator) (state .held .coordinatorMemory)
       ≡ accepted
   coordinator-accepted =
@@ -74,7 +75,8 @@ module _ {settings : Settings} (passes : settingsRefusal settings ≡ accepted)
         messages-within settings passes (state .accepted),
       )
 
-  network-accepted : AtRest state
+  -- All of it, at rest.
+  pub network-accepted : AtRest state
       → networkRefusal settings (state .held .sites) (state .held .coordinator)
       (state .held .siteMemory) (state .held .coordinatorMemory)
       ≡ accepted

@@ -13,8 +13,10 @@ use Rattle.model.specs.Refusals.{accepted}
 use Rattle.model.specs.Settings.{settingsRefusal}
 use Rattle.model.specs.CoordinatorMemory.{coordinatorMemory}
 use Rattle.model.specs.Network.{Network}
-use Rattle.history.specs.State.{Held, State, networkOf, afterSiteCall, afterCoordinatorCall, sending}
+use Rattle.coordinator.specs.Calls.{Announces}
+use Rattle.history.specs.State.{Held, State, networkOf, withPart, afterSiteCall, afterCoordinatorCall, sending}
 use Rattle.history.specs.Histories.{answeredOut, receivedOut, Delivers, to-coordinator, to-site, next-announcement}
+use Rattle.history.proofs.CoordinatorFronts.{receives-whole, announces-whole}
 use Rattle.history.proofs.Invariant.{StateOk, Resting, Standing, resting, delivering}
 use Rattle.history.proofs.ToCoordinator.{to-coordinator-ok}
 use Rattle.history.proofs.ToSite.{to-site-ok}
@@ -46,16 +48,22 @@ module _ {settings : Settings} (passes : settingsRefusal settings ≡ accepted)
   pub delivered-ok : (after : State)
       → Delivers settings before after
       → StateOk settings (suc n) after
-  delivered-ok after (to-coordinator m later memory answer waits way says accepts) =
+  delivered-ok after (to-coordinator m later words part answer waits way says accepts) =
       by-standing (ok .standing)
     where
+      memory : List ℕ
+      memory = withPart (held .coordinatorMemory) 0 words part
+
       by-standing : Standing settings n before
           → After
           (sending before (afterCoordinatorCall held (answer .coordinator) memory) later
           (receivedOut answer))
       by-standing (resting _ rest) = absurd (no-head m later waits rest)
       by-standing (delivering mid) =
-          to-coordinator-ok passes before ok mid m later memory answer waits way says accepts
+          to-coordinator-ok passes before ok mid m later memory answer waits way
+          (receives-whole settings (held .coordinator) m words (held .coordinatorMemory) part answer
+          says accepts)
+          accepts
   delivered-ok after (to-site m later words answer waits way says accepts) =
       by-standing (ok .standing)
     where
@@ -66,13 +74,18 @@ module _ {settings : Settings} (passes : settingsRefusal settings ≡ accepted)
       by-standing (resting _ rest) = absurd (no-head m later waits rest)
       by-standing (delivering mid) =
           to-site-ok passes before ok mid m later words answer waits way says accepts
-  delivered-ok after (next-announcement answer says accepts) = by-standing (ok .standing)
+  delivered-ok after (next-announcement words answer says accepts) = by-standing (ok .standing)
     where
+      all-lent : Announces settings (held .coordinator) (held .coordinatorMemory) answer
+      all-lent =
+          announces-whole settings (held .coordinator) words (held .coordinatorMemory) answer says
+          accepts
+
       by-standing : Standing settings n before
           → After
           (sending before
           (afterCoordinatorCall held (answer .coordinator) (held .coordinatorMemory))
           (before .waiting) (receivedOut answer))
       by-standing (resting _ rest) =
-          absurd (next-not-at-rest passes before ok answer says accepts rest)
-      by-standing (delivering mid) = next-ok passes before ok answer says accepts mid
+          absurd (next-not-at-rest passes before ok answer all-lent accepts rest)
+      by-standing (delivering mid) = next-ok passes before ok answer all-lent accepts mid

@@ -57,7 +57,7 @@ module _ {settings : Settings} (passes : settingsRefusal settings ≡ accepted)
   abbrev run : Run
   run = runOf settings (before .accepted)
 
-  rest : Resting settings before
+  pub rest : Resting settings before
   rest = resting-of passes ok at-rest
 
   none : SiteCalls.observeRefusal settings numbers arrival given ≡ accepted
@@ -153,7 +153,8 @@ module _ {settings : Settings} (passes : settingsRefusal settings ≡ accepted)
         logged = before .logged;
       }
 
-  network-then : networkOf settings (after .held) ≡ withSite (networkOf settings held) j site
+  -- The network then: the site with the arrival, and every other as it was.
+  pub network-then : networkOf settings (after .held) ≡ withSite (networkOf settings held) j site
   network-then =
       network-site-written passes held (ok .lengths) (held-sound passes ok .sites-sound) j known
       site site-fits words long

@@ -94,7 +94,8 @@ module _ {settings : Settings} (passes : settingsRefusal settings ≡ accepted)
         (suc n) (joining after later (mid .log)))
         over (handed-on before mid m later waits)
 
-    record-is : answer .site ≡ siteRecord (siteReceives (siteAt network j) m .site)
+    -- The record that the call answers.
+    pub record-is : answer .site ≡ siteRecord (siteReceives (siteAt network j) m .site)
     record-is =
         says .site ∙ accepted-choice _ _ _ none
         ∙ ap (λ (site : Site). siteRecord (siteReceives site m .site)) site-here

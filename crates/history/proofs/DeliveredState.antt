@@ -16,7 +16,7 @@ use Rattle.model.specs.Network.{Network}
 use Rattle.coordinator.specs.Calls.{Announces}
 use Rattle.history.specs.State.{Held, State, networkOf, withPart, afterSiteCall, afterCoordinatorCall, sending}
 use Rattle.history.specs.Histories.{answeredOut, receivedOut, Delivers, to-coordinator, to-site, next-announcement}
-use Rattle.history.proofs.CoordinatorFronts.{receives-whole, announces-whole}
+use Rattle.history.proofs.CallFronts.{receives-whole, announces-whole}
 use Rattle.history.proofs.Invariant.{StateOk, Resting, Standing, resting, delivering}
 use Rattle.history.proofs.ToCoordinator.{to-coordinator-ok}
 use Rattle.history.proofs.ToSite.{to-site-ok}

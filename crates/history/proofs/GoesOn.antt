@@ -19,14 +19,15 @@ use Rattle.model.specs.Messages.{toCoordinator}
 use Rattle.model.specs.Site.{siteMessageRefusal}
 use Rattle.model.specs.SiteMemory.{siteWords}
 use Rattle.model.specs.Coordinator.{isAnnouncing, coordinatorRefusal}
+use Rattle.model.specs.CoordinatorMemory.{coordinatorWords}
 use Rattle.model.specs.Network.{Network, siteAt, deliveryFuel}
 use Rattle.model.specs.DeliveryClaims.{messageRefusal}
 use Rattle.model.proofs.RefusalLaws.{passed}
 use Rattle.site.specs.Calls as SiteCalls
 use Rattle.coordinator.specs.Calls as CoordinatorCalls
-use Rattle.history.specs.State.{State, networkOf, recordAt, sitePart}
+use Rattle.history.specs.State.{State, networkOf, recordAt, sitePart, coordinatorPart}
 use Rattle.history.specs.Histories.{Deliveries, no-step, delivered, refused-between}
-use Rattle.history.specs.Demands.{DeliveryGoesOn}
+use Rattle.history.specs.First.{DeliveryGoesOn}
 use Rattle.history.proofs.RunSound.{sound-run}
 use Rattle.history.proofs.Invariant.{StateOk, rest-of-standing, head-of-standing, few-of-standing}
 use Rattle.history.proofs.Accepted.{refused-by-rules}
@@ -70,16 +71,17 @@ module _ {settings : Settings} (passes : settingsRefusal settings ≡ accepted)
   abbrev network : Network
   network = networkOf settings (state .held)
 
-  coordinator-accepts : (m : Message) (later : List Message)
+  coordinator-accepts : (m : Message) (later : List Message) (words : ℕ)
       → state .waiting ≡ m ∷ later
       → toCoordinator m ≡ true
+      → coordinatorWords settings ≤ words
       → CoordinatorCalls.receiveRefusal settings (state .held .coordinator) m
-      (state .held .coordinatorMemory)
+      (coordinatorPart (state .held) 0 words)
       ≡ accepted
-  coordinator-accepts m later waits way =
+  coordinator-accepts m later words waits way enough =
       let by : messageRefusal settings network m
       ≡ coordinatorRefusal settings (network .coordinator) m = rw way in
-      refused-by-rules passes ok .coordinator-message m
+      refused-by-rules passes ok .coordinator-message words m enough
       ∙ sym by
       ∙ head-of-standing passes (ok .standing) m later waits
 
@@ -100,12 +102,14 @@ module _ {settings : Settings} (passes : settingsRefusal settings ≡ accepted)
       (passed (leb (settings .sites) (m .site)) unknownSite _ (omega arith) none .test-failed) in
       refused-by-rules passes ok .site-message (m .site) words m known enough ∙ none
 
-  announcement-accepted : isAnnouncing (state .held .coordinator .phase) ≡ true
+  announcement-accepted : (words : ℕ)
+      → isAnnouncing (state .held .coordinator .phase) ≡ true
+      → coordinatorWords settings ≤ words
       → CoordinatorCalls.announceRefusal settings (state .held .coordinator)
-      (state .held .coordinatorMemory)
+      (coordinatorPart (state .held) 0 words)
       ≡ accepted
-  announcement-accepted announces =
-      refused-by-rules passes ok .next-announcement ∙ rw announces
+  announcement-accepted words announces enough =
+      refused-by-rules passes ok .next-announcement words enough ∙ rw announces
 
   rests-at-end : state .waiting ≡ []
       → isAnnouncing (state .held .coordinator .phase) ≡ false

@@ -7,12 +7,15 @@ pub mod NeverFewer
 pub mod WrittenAgain
 pub mod Answers
 pub mod CoordinatorFronts
+pub mod KeptLengths
+pub mod CallFronts
 pub mod SitesFronts
 pub mod RunSound
 pub mod BatchRuns
 pub mod HandedOut
 pub mod Decoded
 pub mod DecodedCoordinator
+pub mod NetworkFronts
 pub mod DeliveryLogs
 pub mod Invariant
 pub mod EmptyBatch

@@ -23,10 +23,10 @@ use Rattle.model.specs.NetworkMemory.{sitesWords, sitesMemory}
 use Rattle.model.specs.Runs.{runOf}
 use Rattle.model.specs.SoundNetwork.{Sound}
 use Rattle.model.proofs.SettingsLaws.{settled}
+use Rattle.model.proofs.NeverFewer.{counters-kept, values-kept, NoFewer, observed-grows, run-no-fewer}
 use Rattle.network_memory.proofs.SitesMemoryLaws.{sitesMemory-set, sitesMemory-kept}
 use Rattle.network_memory.proofs.SitesReading.{sitesMemory-sitesIn}
-use Rattle.delivery.proofs.ObservedLaws.{observed-grows}
-use Rattle.delivery.proofs.QuietSteps.{quiet-site}
+use Rattle.network_memory.proofs.SitesFronts.{sitesMemory-again}
 use Rattle.site_steps.specs.declared.Observed.{Observed}
 use Rattle.site.specs.Calls.{ObserveSays}
 use Rattle.tracker_steps.specs.declared.BatchAnswer.{BatchAnswer}
@@ -34,8 +34,7 @@ use Rattle.tracker.specs.Batch.{BatchLent, BatchSays, batchIn}
 use Rattle.history.specs.State.{Held, State, AtRest, networkOf, networkWritten, recordAt, siteStart, sitePart, afterSiteCall}
 use Rattle.history.specs.Histories.{batchCall, afterBatch, afterSingle, batch, single, Delivers, to-coordinator, to-site, next-announcement, Step, arrives, delivers, refuses}
 use Rattle.history.specs.Frame.{TailsKept}
-use Rattle.history.proofs.NeverFewer.{NoFewer, run-no-fewer}
-use Rattle.history.proofs.WrittenAgain.{sitesMemory-again, records-over, coordinator-over}
+use Rattle.history.proofs.WrittenAgain.{records-over, coordinator-over}
 use Rattle.history.proofs.RunSound.{sound-run}
 use Rattle.history.proofs.Decoded.{used-at, memory-then, network-site-told}
 use Rattle.history.proofs.Invariant.{StateOk, Resting, Standing, resting, delivering}
@@ -182,7 +181,6 @@ module _ {settings : Settings} (passes : settingsRefusal settings ≡ accepted)
           let j = m .site in
           let known = ToSite.known passes state ok mid m later words answer waits way says
           accepts in
-          let quiet = quiet-site (siteAt network j) m in
           let read = network-site-told passes held (ok .lengths)
           (held-sound passes ok .sites-sound) j known m in
           subst (λ (numbers : SiteRecord).
@@ -190,8 +188,9 @@ module _ {settings : Settings} (passes : settingsRefusal settings ≡ accepted)
           (sym (ToSite.record-is passes state ok mid m later words answer waits way says accepts))
           (from .site-memory
           ∙ sym (sitesMemory-kept settings (network .sites) (start .siteMemory) j
-          (siteReceives (siteAt network j) m .site) (quiet .counters-kept)
-          (quiet .histogram-kept))
+          (siteReceives (siteAt network j) m .site)
+          (counters-kept .by-message (siteAt network j) m)
+          (values-kept .by-message (siteAt network j) m))
           ∙ ap (λ (x : Network). sitesMemory settings (x .sites) (start .siteMemory)) (sym read))
 
   step-over : (after : State) → Step settings state after → Over (after .held)

@@ -3,13 +3,11 @@ pub mod SiteParts
 pub mod SitesMemory
 pub mod FreshSites
 pub mod FrameLaws
-pub mod NeverFewer
 pub mod WrittenAgain
 pub mod Answers
 pub mod CoordinatorFronts
 pub mod KeptLengths
 pub mod CallFronts
-pub mod SitesFronts
 pub mod RunSound
 pub mod BatchRuns
 pub mod HandedOut

@@ -13,7 +13,7 @@ use Rattle.model.specs.CoordinatorMemory.{coordinatorWords}
 use Rattle.model.specs.NetworkMemory.{sitesWords, sitesIn}
 use Rattle.history.specs.State.{Held, networkOf, fronts, lending}
 use Rattle.history.proofs.CoordinatorFronts.{coordinatorIn-front}
-use Rattle.history.proofs.SitesFronts.{sitesIn-front}
+use Rattle.network_memory.proofs.SitesFronts.{sitesIn-front}
 use Rattle.history.proofs.Decoded.{Lengths, SitesSound, used-at}
 
 -- Each site has its counters within its own part.

@@ -1,20 +1,23 @@
--- The sites in a front of their memory: only their own parts are read and written, so lent memory
--- "may be longer" (document 01, refusal 4), and what lies behind it stays.
+-- The sites in a longer memory, and sites written again. Only the sites' own parts are read and
+-- written (document 01: "longer is fine, the rest untouched"); and sites written over others with no
+-- more counters are as if written alone.
 --
---   sitesIn-front, sitesMemory-front   the sites read from a front, and written to it
+--   sitesIn-front, sitesMemory-front   read and written, whatever follows
+--   sitesMemory-again                  later sites, with no fewer counters, over earlier ones
 use mathlib.Core.Path.{_≡_, refl, sym, ap, _∙_}
 use mathlib.Core.List.{List, [], _∷_, _++_, append-assoc}
 use Prim.Native.Nat.{ℕ, zero, suc, _*_, _≤_, _<_}
 use native.Mathlib.Omega.{arith}
 use lib.ListN.{length, getD, take, drop}
-use lib.Seq.{take-append-le, drop-append-le}
+use lib.Seq.{take-append-le, drop-append-le, take-at, drop-at}
 use Rattle.model.specs.declared.Settings.{Settings}
 use Rattle.model.specs.declared.SiteRecord.{SiteRecord}
 use Rattle.model.specs.Site.{Site}
 use Rattle.model.specs.SiteMemory.{siteWords, siteIn, siteMemory}
 use Rattle.model.specs.NetworkMemory.{sitesIn, sitesMemory}
-use Rattle.network_memory.proofs.OneSite.{siteIn-front}
-use Rattle.network_memory.proofs.SitesMemoryLaws.{part-long, rest-long}
+use Rattle.model.proofs.NeverFewer.{NoFewer, no-fewer-later}
+use Rattle.network_memory.proofs.OneSite.{siteIn-front, siteMemory-again}
+use Rattle.network_memory.proofs.SitesMemoryLaws.{AllStorable, later, part-long, part-length, rest-long, written-length}
 
 -- ---- The sites read and written
 
@@ -52,3 +55,33 @@ module _ (settings : Settings) where
       (λ i. own i ++ others i)
       ∙ sym (append-assoc (siteMemory settings site (take words part))
       (sitesMemory settings sites (drop words part)) rest)
+
+  -- ---- Written again
+
+  -- Later sites over earlier ones: as if the later ones alone were written.
+  pub sitesMemory-again : (old new : List Site) (memory : List ℕ)
+      → AllStorable settings old
+      → AllStorable settings new
+      → length old ≡ length new
+      → NoFewer old new
+      → length new * siteWords settings ≤ length memory
+      → sitesMemory settings new (sitesMemory settings old memory)
+      ≡ sitesMemory settings new memory
+  sitesMemory-again [] [] memory old-fit new-fit same grows long = refl
+  sitesMemory-again [] (y ∷ ys) memory old-fit new-fit same grows long = absurd (omega arith)
+  sitesMemory-again (x ∷ xs) [] memory old-fit new-fit same grows long = absurd (omega arith)
+  sitesMemory-again (x ∷ xs) (y ∷ ys) memory old-fit new-fit same grows long =
+      let words = siteWords settings in
+      let part = siteMemory settings x (take words memory) in
+      let rest = sitesMemory settings xs (drop words memory) in
+      let width : length part ≡ words =
+      written-length settings (length ys) memory long x (old-fit .at 0 (omega arith)) in
+      let front = take-at part rest words width in
+      let behind = drop-at part rest words width in
+      let own = siteMemory-again settings x y (take words memory) (old-fit .at 0 (omega arith))
+      (new-fit .at 0 (omega arith)) (grows .at 0)
+      (omega (arith, part-length settings (length ys) memory long)) in
+      let others = sitesMemory-again xs ys (drop words memory) (later old-fit) (later new-fit)
+      (omega arith) (no-fewer-later grows) (rest-long settings (length ys) memory long) in
+      (λ i. siteMemory settings y (front i) ++ sitesMemory settings ys (behind i))
+      ∙ (λ i. own i ++ others i)

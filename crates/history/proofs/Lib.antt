@@ -10,6 +10,7 @@ pub mod HandedOut
 pub mod Decoded
 pub mod DecodedCoordinator
 pub mod DeliveryLogs
+pub mod Underway
 pub mod Invariant
 pub mod EmptyBatch
 pub mod Refused

@@ -22,7 +22,7 @@ use Rattle.history.specs.State.{State}
 use Rattle.history.specs.Histories.{batch, single, Step, arrives, delivers, refuses, Reachable, started, stepped}
 use Rattle.history.specs.Demands.{First, Second, Third, Demands}
 use Rattle.history.proofs.Invariant.{StateOk, BeginsRun, run-of-standing}
-use Rattle.history.proofs.Accepted.{memory-accepted, refused-by-rules, resting-of}
+use Rattle.history.proofs.Accepted.{memory-accepted, refused-by-rules, resting-of, sound-rest-of}
 use Rattle.history.proofs.Readings.{reads-right}
 use Rattle.history.proofs.StartedState.{start-ok}
 use Rattle.history.proofs.BatchedState.{batch-ok}
@@ -116,7 +116,8 @@ module _ (settings : Settings) (state : State) (passes : settingsRefusal setting
         demands-over-runs .estimates-near settings (take n (state .accepted)) passes;
     tails-kept = tails-kept passes state (there .ok);
     others-kept = λ arrival words part answer rest says accepts.
-        others-kept passes state (there .ok) arrival words part answer rest says accepts;
+        others-kept passes state (sound-rest-of passes (there .ok) rest) arrival words part answer
+        says accepts;
   }
 
   -- The messages so far are no more than those of the run.

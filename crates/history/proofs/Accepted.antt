@@ -127,7 +127,8 @@ module _ {settings : Settings} (passes : settingsRefusal settings ≡ accepted)
         messages-within settings passes (state .accepted),
       )
 
-  network-accepted : AtRest state
+  -- All of it, at rest.
+  pub network-accepted : AtRest state
       → networkRefusal settings (state .held .sites) (state .held .coordinator)
       (state .held .siteMemory) (state .held .coordinatorMemory)
       ≡ accepted

@@ -3,10 +3,11 @@
 --
 --   delivered-on             the delivery, one step further
 --   StepKeeps, step-keeps    what every step of delivery keeps
---   none-at-rest             no step of delivery from a state at rest
+--   none-when-quiet          no step of delivery where nothing waits and nothing is announced
+--   none-at-rest             none from a state at rest
 --   delivered-ok             the invariant of the state then
 use mathlib.Core.Path.{_≡_, refl, sym, ap, _∙_}
-use mathlib.Core.Bool.{false≢true}
+use mathlib.Core.Bool.{false, false≢true}
 use mathlib.Core.List.{List, [], _∷_}
 use Prim.Native.Nat.{ℕ, suc, _≤_}
 use native.Mathlib.Omega.{arith}
@@ -18,8 +19,9 @@ use Rattle.model.specs.Refusals.{accepted}
 use Rattle.model.specs.Settings.{settingsRefusal}
 use Rattle.model.specs.Coordinator.{isAnnouncing}
 use Rattle.model.specs.Network.{Network}
-use Rattle.history.specs.State.{State}
+use Rattle.history.specs.State.{State, withPart}
 use Rattle.history.specs.Histories.{answeredOut, receivedOut, Delivers, to-coordinator, to-site, next-announcement}
+use Rattle.history.proofs.CoordinatorFronts.{receives-whole, announces-whole}
 use Rattle.history.proofs.RunSound.{sound-run}
 use Rattle.history.proofs.Underway.{Underway}
 use Rattle.history.proofs.Invariant.{StateOk, Resting, Standing, resting, delivering}
@@ -36,13 +38,22 @@ pub delivered-on : {settings : Settings} (passes : settingsRefusal settings ≡ 
     → (after : State)
     → Delivers settings before after
     → Underway settings origin arrival past (suc n) after
-delivered-on passes before mid after
-    (to-coordinator m later memory answer waits way says accepts) =
-    to-coordinator-on passes before mid m later memory answer waits way says accepts
+delivered-on {settings} passes before mid after
+    (to-coordinator m later words part answer waits way says accepts) =
+    let held = before .held in
+    to-coordinator-on passes before mid m later
+    (withPart (held .coordinatorMemory) 0 words part) answer waits way
+    (receives-whole settings (held .coordinator) m words (held .coordinatorMemory) part answer says
+    accepts)
+    accepts
 delivered-on passes before mid after (to-site m later words answer waits way says accepts) =
     to-site-on passes before mid m later words answer waits way says accepts
-delivered-on {settings} passes before mid after (next-announcement answer says accepts) =
-    next-on settings before answer says accepts mid
+delivered-on {settings} passes before mid after (next-announcement words answer says accepts) =
+    let held = before .held in
+    next-on settings before answer
+    (announces-whole settings (held .coordinator) words (held .coordinatorMemory) answer says
+    accepts)
+    accepts mid
 
 -- It accepts no arrival, adds nothing to the network's own count, and only adds to the messages.
 pub record StepKeeps (before after : State) : Type 0 where
@@ -54,7 +65,7 @@ pub record StepKeeps (before after : State) : Type 0 where
 pub step-keeps : {settings : Settings} (before after : State)
     → Delivers settings before after
     → StepKeeps before after
-step-keeps before after (to-coordinator m later memory answer waits way says accepts) = record {
+step-keeps before after (to-coordinator m later words part answer waits way says accepts) = record {
   same-accepted = refl;
   same-logged = refl;
   same-count = refl;
@@ -66,40 +77,48 @@ step-keeps before after (to-site m later words answer waits way says accepts) = 
   same-count = refl;
   no-fewer = omega (arith, length-append (before .messages) (answeredOut answer));
 }
-step-keeps before after (next-announcement answer says accepts) = record {
+step-keeps before after (next-announcement words answer says accepts) = record {
   same-accepted = refl;
   same-logged = refl;
   same-count = refl;
   no-fewer = omega (arith, length-append (before .messages) (receivedOut answer));
 }
 
+-- Nothing waits and nothing is announced: no step of delivery.
+pub none-when-quiet : {settings : Settings} (before : State)
+    → before .waiting ≡ []
+    → isAnnouncing (before .held .coordinator .phase) ≡ false
+    → (after : State)
+    → Delivers settings before after
+    → ⊥
+none-when-quiet before none silent after
+    (to-coordinator m later words part answer waits way says accepts) =
+    let lengths : 0 ≡ suc (length later) = ap length (sym none ∙ waits) in
+    omega arith
+none-when-quiet before none silent after
+    (to-site m later words answer waits way says accepts) =
+    let lengths : 0 ≡ suc (length later) = ap length (sym none ∙ waits) in
+    omega arith
+none-when-quiet {settings} before none silent after
+    (next-announcement words answer says accepts) =
+    let held = before .held in
+    let all-lent = announces-whole settings (held .coordinator) words (held .coordinatorMemory)
+    answer says accepts in
+    false≢true (sym silent ∙ announces settings before answer all-lent accepts)
+
 -- ---- In a history
 
 module _ {settings : Settings} (passes : settingsRefusal settings ≡ accepted) (before : State)
   where
-    no-head : (m : Message) (later : List Message)
-        → before .waiting ≡ m ∷ later
-        → Resting settings before
-        → ⊥
-    no-head m later waits rest =
-        let impossible : [] ≡ m ∷ later = sym (rest .nothing-waits) ∙ waits in
-        let lengths : 0 ≡ suc (length later) = ap length impossible in
-        omega arith
-
     -- At rest nothing waits, and the model's run, at rest too, announces nothing.
     pub none-at-rest : Resting settings before
         → (after : State)
         → Delivers settings before after
         → ⊥
-    none-at-rest rest after (to-coordinator m later memory answer waits way says accepts) =
-        no-head m later waits rest
-    none-at-rest rest after (to-site m later words answer waits way says accepts) =
-        no-head m later waits rest
-    none-at-rest rest after (next-announcement answer says accepts) =
-        let idle = ap (λ (network : Network). isAnnouncing (network .coordinator .phase))
-        (rest .network-is)
-        ∙ ap isAnnouncing (sound-run settings passes (before .accepted) .sound .idle) in
-        false≢true (sym idle ∙ announces settings before answer says accepts)
+    none-at-rest rest =
+        none-when-quiet before (rest .nothing-waits)
+        (ap (λ (network : Network). isAnnouncing (network .coordinator .phase)) (rest .network-is)
+        ∙ ap isAnnouncing (sound-run settings passes (before .accepted) .sound .idle))
 
     -- The invariant, one step of delivery further.
     pub delivered-ok : {n : ℕ} (ok : StateOk settings n before) (after : State)

@@ -7,7 +7,7 @@ use mathlib.Core.Path.{_≡_, refl}
 use mathlib.Core.List.{[], _∷_, _++_}
 use Prim.Native.Nat.{ℕ, suc}
 use native.Mathlib.Omega.{arith}
-use lib.ListN.{replicate}
+use lib.ListN.{take, replicate}
 use Rattle.model.specs.declared.Phase.the-variants.{Idle, Collecting, Announcing}
 use Rattle.model.specs.declared.Quantile.the-variants.{Value}
 use Rattle.model.specs.Limits.{valueCount}
@@ -24,13 +24,14 @@ use Rattle.history.specs.Example.{siteAfter, siteNumbers, coordinatorWit
 refused-number : (n : ℕ) → suc n ≡ 0 → ⊥
 refused-number n impossible = omega arith
 
--- ---- The two start calls
+-- ---- The two start calls, on 1049 of 1050 numbers and 1034 of 1036
 
 begins : Reachable settingsA startedState
 unfolding valueCount
 begins =
-    started (replicate 1050 5) (siteNumbers 0) (replicate 1036 9) (coordinatorNumbers 0 0)
+    started (replicate 1050 5) 1049 (take 1049 (siteNumbers 0))
     (record { refusal = 0; sites = freshSites })
+    (replicate 1036 9) 1034 (take 1034 (coordinatorNumbers 0 0))
     (record { refusal = 0; coordinator = coordinatorWith 0 0 0 Idle })
     (record { refusal = refl; sites = refl; memory = refl }) refl
     (record { refusal = refl; coordinator = refl; memory = refl }) refl
@@ -87,7 +88,8 @@ draw-accepted =
 item-report : Delivers settingsA afterDraw afterItemReport
 unfolding valueCount
 item-report =
-    to-coordinator (itemReport 0 7 1) (countReport 0 1 3 ∷ []) (coordinatorNumbers 1 0)
+    to-coordinator (itemReport 0 7 1) (countReport 0 1 3 ∷ []) 1035
+    (take 1035 (coordinatorNumbers 1 0))
     (record { refusal = 0; coordinator = coordinatorWith 0 0 0 Idle; count = 0; out = noMessage })
     refl refl
     (record {
@@ -100,7 +102,8 @@ item-report =
 message-refused : Refuses afterItemReport afterItemReport
 unfolding valueCount
 message-refused =
-    coordinator-message-refused settingsA (pollAnswer 0 0) (coordinatorNumbers 1 0)
+    coordinator-message-refused settingsA (pollAnswer 0 0) 0 1034
+    (take 1034 (coordinatorNumbers 1 0))
     (record { refusal = 9; coordinator = coordinatorWith 0 0 0 Idle; count = 0; out = noMessage })
     (record {
       refusal = refl;
@@ -109,10 +112,23 @@ message-refused =
     })
     (refused-number 8)
 
+-- The head of the queue, on forty numbers from the tenth on: 4.
+slice-refused : Refuses afterItemReport afterItemReport
+unfolding valueCount
+slice-refused =
+    coordinator-message-refused settingsA (countReport 0 1 3) 10 40 (replicate 40 0)
+    (record { refusal = 4; coordinator = coordinatorWith 0 0 0 Idle; count = 0; out = noMessage })
+    (record {
+      refusal = refl;
+      answer = record { coordinator = refl; count = refl; out = refl };
+      memory = refl;
+    })
+    (refused-number 3)
+
 count-report : Delivers settingsA afterItemReport afterCountReport
 unfolding valueCount
 count-report =
-    to-coordinator (countReport 0 1 3) [] (coordinatorNumbers 1 1)
+    to-coordinator (countReport 0 1 3) [] 1036 (coordinatorNumbers 1 1)
     (record {
       refusal = 0;
       coordinator = coordinatorWith 1 0 1 (Collecting 0);
@@ -139,7 +155,7 @@ polled =
 poll-answered : Delivers settingsA afterPoll afterPollAnswer
 unfolding valueCount
 poll-answered =
-    to-coordinator (pollAnswer 0 0) [] (coordinatorNumbers 1 1)
+    to-coordinator (pollAnswer 0 0) [] 1034 (take 1034 (coordinatorNumbers 1 1))
     (record {
       refusal = 0;
       coordinator = coordinatorWith 1 1 1 (Announcing 0);
@@ -157,7 +173,7 @@ poll-answered =
 announced : Delivers settingsA afterPollAnswer afterAnnouncement
 unfolding valueCount
 announced =
-    next-announcement
+    next-announcement 1035
     (record {
       refusal = 0;
       coordinator = coordinatorWith 1 1 0 Idle;
@@ -181,10 +197,10 @@ told =
 batch-stopped : Arrives settingsA atRestAgain afterBatchOfTwo
 unfolding valueCount
 batch-stopped =
-    batch (draw ∷ (draw ∷ [])) (replicate 100 8)
+    batch 1048 1035 (draw ∷ (draw ∷ [])) (replicate 100 8)
     (record {
-      siteMemory = siteNumbers 2;
-      coordinatorMemory = coordinatorNumbers 2 2;
+      siteMemory = take 1048 (siteNumbers 2);
+      coordinatorMemory = take 1035 (coordinatorNumbers 2 2);
       log = messageNumbers (allMessages 2) ++ replicate 80 8;
     })
     (record {
@@ -214,7 +230,7 @@ then : {before : State} (after : State)
     → Reachable settingsA after
 then {before} after step earlier = stepped before after earlier step
 
--- Ten calls after the two starts.
+-- Eleven calls after the two starts.
 pub example : Reachable settingsA afterBatchOfTwo
 example =
     then afterBatchOfTwo (arrives batch-stopped)
@@ -223,10 +239,11 @@ example =
     (then afterPollAnswer (delivers poll-answered)
     (then afterPoll (delivers polled)
     (then afterCountReport (delivers count-report)
+    (then afterItemReport (refuses slice-refused)
     (then afterItemReport (refuses message-refused)
     (then afterItemReport (delivers item-report)
     (then afterDraw (arrives draw-accepted)
-    (then startedState (refuses draw-refused) begins)))))))))
+    (then startedState (refuses draw-refused) begins))))))))))
 
 -- ---- A reading: "listed 7", "class 3"
 

@@ -26,24 +26,26 @@ use Rattle.site_steps.specs.declared.Observed.{Observed}
 use Rattle.site.specs.Calls.{ObserveSays}
 use Rattle.tracker_steps.specs.declared.BatchAnswer.{BatchAnswer}
 use Rattle.tracker.specs.Batch.{BatchLent, BatchSays, batchIn}
-use Rattle.history.specs.State.{Held, State, AtRest, networkOf, recordAt, siteStart, sitePart}
+use Rattle.history.specs.State.{Held, State, AtRest, networkOf, networkWritten, recordAt, siteStart, sitePart, withPart}
 use Rattle.history.specs.Histories.{batchCall, afterBatch, afterSingle, batch, single, Delivers, to-coordinator, to-site, next-announcement, Step, arrives, delivers, refuses}
 use Rattle.history.specs.Frame.{TailsKept, OthersKept}
 use Rattle.history.proofs.SitesMemory.{offset, offset-is, written}
 use Rattle.history.proofs.FrameLaws.{drop-later, take-written, drop-written, tail-siteRecords, tail-sitesMemory, tail-coordinatorMemory}
+use Rattle.history.proofs.CoordinatorFronts.{receives-whole}
 use Rattle.history.proofs.Decoded.{Lengths, in-memory, memory-then}
 use Rattle.history.proofs.Underway.{SoundRest, Underway}
 use Rattle.history.proofs.Invariant.{StateOk, Standing, resting, delivering}
 use Rattle.history.proofs.Accepted.{sound-rest-of}
-use Rattle.history.proofs.BatchedState.{networkWritten, storable}
+use Rattle.history.proofs.BatchedState.{storable}
 use Rattle.history.proofs.BatchedState as Batched
+use Rattle.history.proofs.LentBatch.{of-lent-batch}
 use Rattle.history.proofs.SingleState as Single
 use Rattle.history.proofs.ToCoordinator as ToCoordinator
 use Rattle.history.proofs.ToSite as ToSite
 use Rattle.history.proofs.DeliveredState.{none-at-rest}
 use Rattle.history.proofs.Refused.{refused-same}
 
-kept-self : (settings : Settings) (held : Held) → TailsKept settings held held
+pub kept-self : (settings : Settings) (held : Held) → TailsKept settings held held
 kept-self settings held = record { records = refl; site-memory = refl; coordinator-memory = refl }
 
 -- A whole network written over what is held.
@@ -172,11 +174,15 @@ module _ {settings : Settings} (passes : settingsRefusal settings ≡ accepted) 
     -- What lies past the network.
     pub delivery-kept : (after : State) → Delivers settings state after
         → TailsKept settings (state .held) (after .held)
-    delivery-kept after (to-coordinator m later memory answer waits way says accepts) =
-        let sound = ToCoordinator.sound-then passes state mid m later memory answer waits way says
-        accepts in
+    delivery-kept after (to-coordinator m later words part answer waits way says accepts) =
+        let memory = withPart (state .held .coordinatorMemory) 0 words part in
+        let all-lent = receives-whole settings (state .held .coordinator) m words
+        (state .held .coordinatorMemory) part answer says accepts in
+        let sound = ToCoordinator.sound-then passes state mid m later memory answer waits way
+        all-lent accepts in
         subst (TailsKept settings (state .held))
-        (sym (ToCoordinator.held-is passes state mid m later memory answer waits way says accepts))
+        (sym (ToCoordinator.held-is passes state mid m later memory answer waits way all-lent
+        accepts))
         (record {
           records = refl;
           site-memory = refl;
@@ -194,7 +200,7 @@ module _ {settings : Settings} (passes : settingsRefusal settings ≡ accepted) 
       site-memory = refl;
       coordinator-memory = refl;
     }
-    delivery-kept after (next-announcement answer says accepts) =
+    delivery-kept after (next-announcement words answer says accepts) =
         record { records = refl; site-memory = refl; coordinator-memory = refl }
 
 -- ---- In a history
@@ -207,8 +213,8 @@ module _ {settings : Settings} (passes : settingsRefusal settings ≡ accepted)
       → BatchSays (batchCall settings (state .held) arrivals log) lent answer
       → TailsKept settings (state .held) (afterBatch state arrivals lent answer .held)
   batch-kept arrivals log lent answer at-rest says =
-      let after = Batched.after passes state ok at-rest arrivals log lent answer says in
-      let sound = Batched.sound-then passes state ok at-rest arrivals log lent answer says in
+      let after = Batched.after passes state ok at-rest arrivals log in
+      let sound = Batched.sound-then passes state ok at-rest arrivals log in
       let network = batchIn (batchCall settings (state .held) arrivals log) .network in
       subst (λ (then : State). TailsKept settings (state .held) (then .held))
       (sym (Batched.after-is passes state ok at-rest arrivals log lent answer says))
@@ -220,8 +226,12 @@ module _ {settings : Settings} (passes : settingsRefusal settings ≡ accepted)
   -- The claim on what lies past the network.
   pub tails-kept : (after : State) → Step settings state after
       → TailsKept settings (state .held) (after .held)
-  tails-kept after (arrives (batch arrivals log lent answer rest says)) =
-      batch-kept arrivals log lent answer rest says
+  tails-kept after
+      (arrives (batch siteCount coordinatorCount arrivals log lent answer rest says)) =
+      of-lent-batch passes state ok rest siteCount coordinatorCount arrivals log lent answer says
+      (λ (after : State). TailsKept settings (state .held) (after .held))
+      (kept-self settings (state .held))
+      (batch-kept arrivals log _ answer rest)
   tails-kept after (arrives (single arrival words part answer rest says accepts)) =
       single-kept passes state (sound-rest-of passes ok rest) arrival words part answer says
       accepts

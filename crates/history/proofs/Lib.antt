@@ -3,7 +3,11 @@ pub mod SiteParts
 pub mod SitesMemory
 pub mod FreshSites
 pub mod FrameLaws
+pub mod NeverFewer
+pub mod WrittenAgain
 pub mod Answers
+pub mod CoordinatorFronts
+pub mod SitesFronts
 pub mod RunSound
 pub mod BatchRuns
 pub mod HandedOut
@@ -17,6 +21,7 @@ pub mod Refused
 pub mod Accepted
 pub mod StartedState
 pub mod BatchedState
+pub mod LentBatch
 pub mod SingleState
 pub mod DeliveredStep
 pub mod ToCoordinator
@@ -25,6 +30,7 @@ pub mod NextAnnouncement
 pub mod DeliveredState
 pub mod GoesOn
 pub mod Kept
+pub mod FromStart
 pub mod Readings
 pub mod Theorem
 pub mod Example

@@ -153,7 +153,7 @@ module _ {settings : Settings} (passes : settingsRefusal settings ≡ accepted)
         logged = before .logged;
       }
 
-  -- One site has changed.
+  -- The network then: the site with the arrival, and every other as it was.
   pub network-then : networkOf settings (after .held) ≡ withSite (networkOf settings held) j site
   network-then =
       network-site-written passes held (rest .lengths) sites-sound j known

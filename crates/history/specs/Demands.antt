@@ -13,7 +13,7 @@ use mathlib.Core.Bool.{true, false}
 use mathlib.Core.List.{List, [], _∷_}
 use Prim.Native.Nat.{ℕ, _+_, _*_, _≤_, _<_}
 use lib.Dec.{leb, ltb}
-use lib.ListN.{length, take}
+use lib.ListN.{length, take, replicate}
 use Rattle.model.specs.declared.Settings.{Settings}
 use Rattle.model.specs.declared.Arrival.{Arrival}
 use Rattle.model.specs.declared.Message.{Message}
@@ -24,13 +24,13 @@ use Rattle.model.specs.Settings.{settingsRefusal, digits, allowance}
 use Rattle.model.specs.Messages.{toCoordinator}
 use Rattle.model.specs.Site.{arrivalRefusal, siteMessageRefusal}
 use Rattle.model.specs.SiteMemory.{siteWords, siteMemoryRefusal}
-use Rattle.model.specs.Coordinator.{isAnnouncing, coordinatorRefusal, announcementRefusal}
-use Rattle.model.specs.CoordinatorMemory.{coordinatorMemoryRefusal}
+use Rattle.model.specs.Coordinator.{freshCoordinator, isAnnouncing, coordinatorRefusal, announcementRefusal}
+use Rattle.model.specs.CoordinatorMemory.{coordinatorWords, coordinatorRecord, coordinatorMemoryRefusal}
 use Rattle.model.specs.Network.{siteAt, deliveryFuel}
-use Rattle.model.specs.NetworkMemory.{networkRefusal}
+use Rattle.model.specs.NetworkMemory.{sitesWords, freshSites, networkRefusal}
 use Rattle.model.specs.Reading.{heavyHitters}
 use Rattle.model.specs.Runs.{Run, runOf, batchOf}
-use Rattle.model.specs.Claims.{counted, Tracks, Estimates}
+use Rattle.model.specs.Claims.{counted, Tracks, Estimates, FewMessages}
 use Rattle.site_steps.specs.declared.Observed.{Observed}
 use Rattle.site.specs.Calls.{ObserveSays}
 use Rattle.site.specs.Calls as SiteCalls
@@ -39,10 +39,10 @@ use Rattle.reading.specs.Contracts.{marginRefusal}
 use Rattle.listing.specs.Contracts.{listRefusal}
 use Rattle.tracker_steps.specs.declared.BatchAnswer.{BatchAnswer}
 use Rattle.tracker.specs.Batch.{BatchLent, BatchSays, logRoom}
-use Rattle.history.specs.State.{State, AtRest, networkOf, recordAt, sitePart}
+use Rattle.history.specs.State.{Held, State, AtRest, networkOf, networkWritten, recordAt, sitePart}
 use Rattle.history.specs.Reading.{ReadsRight}
 use Rattle.history.specs.Frame.{TailsKept, OthersKept}
-use Rattle.history.specs.Histories.{batchCall, afterSingle, Refuses, Step, Reachable, Deliveries}
+use Rattle.history.specs.Histories.{batchCall, afterSingle, Refuses, Step, Reachable, heldAtStart, Deliveries}
 
 -- ---- First
 
@@ -173,6 +173,13 @@ pub record Second (settings : Settings) (state : State) : Type 0 where
       ≡ take (length (state .messages)) (rulesRun settings state .messages)
   -- the rules accept what the calls accepted
   pub accepted-are : rulesRun settings state .accepted ≡ state .accepted
+  -- and each front of it whole; its messages are the first of them all
+  pub fronts-accepted : (n : ℕ)
+      → runOf settings (take n (state .accepted)) .accepted ≡ take n (state .accepted)
+  pub messages-after-each : (n : ℕ)
+      → take (length (runOf settings (take n (state .accepted)) .messages))
+      (rulesRun settings state .messages)
+      ≡ runOf settings (take n (state .accepted)) .messages
   -- "demand 2, after each draw": list and class are right after each of the accepted arrivals,
   -- inside a batch as well
   pub tracks-after-each : (n : ℕ) → Tracks settings (runOf settings (take n (state .accepted)))
@@ -192,6 +199,26 @@ pub record Second (settings : Settings) (state : State) : Type 0 where
       → OthersKept settings (arrival .site) (state .held)
       (afterSingle settings state arrival words part answer .held)
 
+-- "Started fresh, every number is 0 (unused slots too), every threshold 1 and the desk idle".
+pub record StartedFresh (settings : Settings) (start : Held) : Type 0 where
+  pub sites : start .sites ≡ freshSites
+  pub coordinator : start .coordinator ≡ coordinatorRecord (freshCoordinator settings)
+  pub site-memory : take (sitesWords settings) (start .siteMemory)
+      ≡ replicate (sitesWords settings) 0
+  pub coordinator-memory : take (coordinatorWords settings) (start .coordinatorMemory)
+      ≡ replicate (coordinatorWords settings) 0
+
+-- Every number of records and lent memory, in use or not, with what the start calls left.
+pub record Whole (settings : Settings) (start : Held) (state : State) : Type 0 where
+  pub start-fresh : StartedFresh settings start
+  -- at any time: the start, with the network that is held and the sum of answers written over it
+  pub nothing-else : state .held
+      ≡ networkWritten settings start (networkOf settings (state .held)) (state .logged)
+  -- at rest: the start, with the rules' network written over it
+  pub whole-at-rest : AtRest state
+      → state .held
+      ≡ networkWritten settings start (rulesRun settings state .network) (state .logged)
+
 -- ---- Third
 
 -- At rest and in mid-delivery.
@@ -203,6 +230,10 @@ pub record Third (settings : Settings) (state : State) : Type 0 where
   pub per-arrival : length (state .messages) ≤ messagesPerArrival * counted (state .accepted)
   -- the allowance is what its call answers
   pub within-allowance : length (state .messages) ≤ allowance settings (counted (state .accepted))
+  -- the same three after each of the accepted arrivals, inside a batch as well: of the messages
+  -- of the first n arrivals (`messages-after-each`), which are accepted whole (`fronts-accepted`)
+  pub few-messages-after-each : (n : ℕ)
+      → FewMessages settings (runOf settings (take n (state .accepted)))
   -- "the bench's count is the sum of these answers"
   pub count-is-sum : state .held .sites .messages ≡ state .logged
 
@@ -218,6 +249,10 @@ pub record Demands : Type 0 where
       → settingsRefusal settings ≡ accepted
       → Reachable settings state
       → Second settings state
+  pub whole : (settings : Settings) (state : State)
+      → settingsRefusal settings ≡ accepted
+      → (reachable : Reachable settings state)
+      → Whole settings (heldAtStart reachable) state
   pub third : (settings : Settings) (state : State)
       → settingsRefusal settings ≡ accepted
       → Reachable settings state

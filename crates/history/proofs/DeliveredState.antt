@@ -8,7 +8,7 @@
 --   delivered-ok             the invariant of the state then
 use mathlib.Core.Path.{_≡_, refl, sym, ap, _∙_}
 use mathlib.Core.Bool.{false, false≢true}
-use mathlib.Core.List.{List, [], _∷_}
+use mathlib.Core.List.{List, []}
 use Prim.Native.Nat.{ℕ, suc, _≤_}
 use native.Mathlib.Omega.{arith}
 use lib.ListN.{length, length-append}
@@ -21,7 +21,7 @@ use Rattle.model.specs.Coordinator.{isAnnouncing}
 use Rattle.model.specs.Network.{Network}
 use Rattle.history.specs.State.{State, withPart}
 use Rattle.history.specs.Histories.{answeredOut, receivedOut, Delivers, to-coordinator, to-site, next-announcement}
-use Rattle.history.proofs.CoordinatorFronts.{receives-whole, announces-whole}
+use Rattle.history.proofs.CallFronts.{receives-whole, announces-whole}
 use Rattle.history.proofs.RunSound.{sound-run}
 use Rattle.history.proofs.Underway.{Underway}
 use Rattle.history.proofs.Invariant.{StateOk, Resting, Standing, resting, delivering}

@@ -22,7 +22,6 @@ use Rattle.model.specs.SiteMemory.{siteWords, siteRecord, siteMemory}
 use Rattle.model.specs.Network.{Network, siteAt}
 use Rattle.model.specs.NetworkMemory.{sitesWords, sitesMemory}
 use Rattle.model.specs.Runs.{runOf}
-use Rattle.model.specs.SoundNetwork.{Sound}
 use Rattle.model.proofs.SettingsLaws.{settled}
 use Rattle.network_memory.proofs.SitesMemoryLaws.{sitesMemory-set, sitesMemory-kept}
 use Rattle.network_memory.proofs.SitesReading.{sitesMemory-sitesIn}
@@ -37,7 +36,6 @@ use Rattle.history.specs.Histories.{batchCall, afterBatch, afterSingle, 
 use Rattle.history.specs.Frame.{TailsKept}
 use Rattle.history.proofs.NeverFewer.{NoFewer, run-no-fewer}
 use Rattle.history.proofs.WrittenAgain.{sitesMemory-again, records-over, coordinator-over}
-use Rattle.history.proofs.RunSound.{sound-run}
 use Rattle.history.proofs.Decoded.{Lengths, SitesSound, used-at, memory-then, network-site-told}
 use Rattle.history.proofs.Underway.{SoundRest, Underway, in-mid}
 use Rattle.history.proofs.Invariant.{StateOk, Standing, resting, delivering}

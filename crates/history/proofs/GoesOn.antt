@@ -17,12 +17,13 @@ use Rattle.model.specs.declared.Settings.{Settings}
 use Rattle.model.specs.declared.Arrival.{Arrival}
 use Rattle.model.specs.declared.Message.{Message}
 use Rattle.model.specs.declared.Phase.the-variants.{Idle}
-use Rattle.model.specs.Refusals.{accepted, unknownSite}
+use Rattle.model.specs.Refusals.{_orElse_, accepted, unknownSite}
 use Rattle.model.specs.Settings.{settingsRefusal}
 use Rattle.model.specs.Messages.{toCoordinator}
 use Rattle.model.specs.Site.{siteMessageRefusal}
 use Rattle.model.specs.SiteMemory.{siteWords}
-use Rattle.model.specs.Coordinator.{isAnnouncing, coordinatorRefusal}
+use Rattle.model.specs.Coordinator.{Coordinator, isAnnouncing, coordinatorRefusal, announcementRefusal}
+use Rattle.model.specs.CoordinatorMemory.{coordinatorWords}
 use Rattle.model.specs.Network.{Network, Delivered, siteAt, afterArrival}
 use Rattle.model.specs.DeliveryClaims.{messageRefusal}
 use Rattle.model.proofs.RefusalLaws.{passed}
@@ -30,14 +31,15 @@ use Rattle.model.proofs.SoundTheorem.{sound-claims}
 use Rattle.model.proofs.ConsistentCoordinator.{CoordinatorWithin}
 use Rattle.site.specs.Calls as SiteCalls
 use Rattle.coordinator.specs.Calls as CoordinatorCalls
-use Rattle.history.specs.State.{State, networkOf, recordAt, sitePart}
+use Rattle.history.specs.State.{State, networkOf, recordAt, sitePart, coordinatorPart}
 use Rattle.history.specs.Histories.{Delivers, Deliveries, no-step, delivered, refused-between}
-use Rattle.history.specs.Demands.{DeliveryGoesOn}
+use Rattle.history.specs.First.{DeliveryGoesOn}
 use Rattle.history.proofs.RunSound.{sound-run}
 use Rattle.history.proofs.Decoded.{Lengths}
 use Rattle.history.proofs.Underway.{SoundParts, Underway, in-mid, parts-underway}
 use Rattle.history.proofs.Invariant.{StateOk, rest-of-standing, head-of-standing, few-of-standing}
-use Rattle.history.proofs.Accepted.{coordinator-accepted, site-message-by-rules, held-sound}
+use Rattle.history.proofs.SoundMemory.{coordinator-front, site-message-by-rules}
+use Rattle.history.proofs.Accepted.{held-sound}
 use Rattle.history.proofs.Refused.{refused-same}
 use Rattle.history.proofs.DeliveredState.{delivered-on, delivered-ok}
 
@@ -84,16 +86,20 @@ module _ {settings : Settings} (passes : settingsRefusal settings ≡ accepted) 
   network = networkOf settings (state .held)
 
   -- What the rules say of the head of the queue, the coordinator or the site says.
-  pub coordinator-accepts : (m : Message)
+  pub coordinator-accepts : (m : Message) (words : ℕ)
       → messageRefusal settings network m ≡ accepted
       → toCoordinator m ≡ true
+      → coordinatorWords settings ≤ words
       → CoordinatorCalls.receiveRefusal settings (state .held .coordinator) m
-      (state .held .coordinatorMemory)
+      (coordinatorPart (state .held) 0 words)
       ≡ accepted
-  coordinator-accepts m none way =
+  coordinator-accepts m words none way enough =
       let by : messageRefusal settings network m
       ≡ coordinatorRefusal settings (network .coordinator) m = rw way in
-      rw (coordinator-accepted passes (state .held) lengths parts) (sym by ∙ none)
+      coordinator-front passes (state .held) lengths parts words
+      (λ (refusal : ℕ) (c : Coordinator). refusal orElse coordinatorRefusal settings c m) enough
+      ∙ sym by
+      ∙ none
 
   pub site-accepts : (m : Message) (words : ℕ)
       → messageRefusal settings network m ≡ accepted
@@ -113,12 +119,16 @@ module _ {settings : Settings} (passes : settingsRefusal settings ≡ accepted) 
       site-message-by-rules passes (state .held) lengths parts (m .site) words known enough m
       ∙ none
 
-  pub announcement-accepted : isAnnouncing (state .held .coordinator .phase) ≡ true
+  pub announcement-accepted : (words : ℕ)
+      → isAnnouncing (state .held .coordinator .phase) ≡ true
+      → coordinatorWords settings ≤ words
       → CoordinatorCalls.announceRefusal settings (state .held .coordinator)
-      (state .held .coordinatorMemory)
+      (coordinatorPart (state .held) 0 words)
       ≡ accepted
-  announcement-accepted announces =
-      rw (coordinator-accepted passes (state .held) lengths parts, announces)
+  announcement-accepted words announces enough =
+      coordinator-front passes (state .held) lengths parts words
+      (λ (refusal : ℕ) (c : Coordinator). refusal orElse announcementRefusal c) enough
+      ∙ rw announces
 
 -- ---- From any sound network
 
@@ -144,8 +154,8 @@ module _ {settings : Settings} (passes : settingsRefusal settings ≡ accepted)
         let here = in-mid passes mid in
         let parts = parts-underway passes mid within in
         record {
-          coordinator-accepts = λ m later waits.
-              coordinator-accepts passes state (mid .lengths) parts m
+          coordinator-accepts = λ m later words waits.
+              coordinator-accepts passes state (mid .lengths) parts m words
               (here .head-accepted m later waits);
           site-accepts = λ m later words waits.
               site-accepts passes state (mid .lengths) parts m words
@@ -188,8 +198,8 @@ module _ {settings : Settings} (passes : settingsRefusal settings ≡ accepted)
       let parts = held-sound passes ok in
       let head = head-of-standing passes (ok .standing) in
       record {
-        coordinator-accepts = λ m later waits.
-            coordinator-accepts passes state (ok .lengths) parts m (head m later waits);
+        coordinator-accepts = λ m later words waits.
+            coordinator-accepts passes state (ok .lengths) parts m words (head m later waits);
         site-accepts = λ m later words waits.
             site-accepts passes state (ok .lengths) parts m words (head m later waits);
         announcement-accepted = announcement-accepted passes state (ok .lengths) parts;

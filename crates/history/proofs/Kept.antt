@@ -31,7 +31,7 @@ use Rattle.history.specs.Histories.{batchCall, afterBatch, afterSingle, 
 use Rattle.history.specs.Frame.{TailsKept, OthersKept}
 use Rattle.history.proofs.SitesMemory.{offset, offset-is, written}
 use Rattle.history.proofs.FrameLaws.{drop-later, take-written, drop-written, tail-siteRecords, tail-sitesMemory, tail-coordinatorMemory}
-use Rattle.history.proofs.CoordinatorFronts.{receives-whole}
+use Rattle.history.proofs.CallFronts.{receives-whole}
 use Rattle.history.proofs.Decoded.{Lengths, in-memory, memory-then}
 use Rattle.history.proofs.Underway.{SoundRest, Underway}
 use Rattle.history.proofs.Invariant.{StateOk, Standing, resting, delivering}

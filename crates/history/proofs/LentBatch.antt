@@ -4,7 +4,7 @@
 --   LentBatch, lent-batch     one or the other
 --   of-lent-batch             so what holds in both cases holds of the state then
 use mathlib.Core.Path.{_≡_, refl, sym, ap, _∙_, subst}
-use mathlib.Core.Bool.{Bool, true, false, not, _||_}
+use mathlib.Core.Bool.{Bool, true, false}
 use mathlib.Core.List.{List, _++_}
 use Prim.Native.Nat.{ℕ, _+_, _*_, _≤_}
 use native.Mathlib.Omega.{arith}
@@ -14,27 +14,24 @@ use borrow.Author.Tests.{eqb-true, eqb-false, ltb-false}
 use Rattle.laws.proofs.Tests.{neither-of-or}
 use Rattle.model.specs.declared.Settings.{Settings}
 use Rattle.model.specs.declared.Arrival.{Arrival}
-use Rattle.model.specs.declared.Sites.{Sites}
 use Rattle.model.specs.Choice.{isZero}
 use Rattle.model.specs.Refusals.{accepted}
 use Rattle.model.specs.Settings.{settingsRefusal}
-use Rattle.model.specs.Site.{freshSite}
-use Rattle.model.specs.SiteMemory.{siteWords, siteRecord, overwrite}
-use Rattle.model.specs.Coordinator.{Coordinator}
+use Rattle.model.specs.SiteMemory.{siteWords, overwrite}
 use Rattle.model.specs.CoordinatorMemory.{coordinatorWords, coordinatorRecord, coordinatorMemory}
 use Rattle.model.specs.Network.{Network}
-use Rattle.model.specs.NetworkMemory.{sitesWords, sitesIn, siteRecords, sitesMemory, networkTooShort}
+use Rattle.model.specs.NetworkMemory.{sitesWords, siteRecords, sitesMemory, networkTooShort}
 use Rattle.model.specs.Runs.{Batch, batchOf}
 use Rattle.model.specs.SoundNetwork.{Sound}
 use Rattle.model.proofs.RefusalLaws.{both-accepted, passed}
 use Rattle.tracker_steps.specs.declared.BatchAnswer.{BatchAnswer}
-use Rattle.tracker.specs.Batch.{BatchCall, BatchLent, BatchSays, startRefusal, batchIn, sitesAfter, unlessRefused, logRoom, messageNumbers}
-use Rattle.history.specs.State.{Held, State, AtRest, networkOf, fronts, lending, withPart, putBack}
+use Rattle.tracker.specs.Batch.{BatchCall, BatchLent, BatchSays, startRefusal, batchIn, unlessRefused, logRoom, messageNumbers}
+use Rattle.history.specs.State.{Held, State, AtRest, fronts, lending, withPart, putBack}
 use Rattle.history.specs.Histories.{batchCall, afterBatch, batch-accepts-nothing}
 use Rattle.history.proofs.Answers.{accepted-choice, refused-choice}
-use Rattle.history.proofs.CoordinatorFronts.{front-then, overwrite-front, coordinatorIn-front}
-use Rattle.history.proofs.SitesFronts.{sitesIn-front, sitesMemory-front}
-use Rattle.history.proofs.Decoded.{used-at}
+use Rattle.history.proofs.CoordinatorFronts.{front-then, overwrite-front}
+use Rattle.history.proofs.SitesFronts.{sitesMemory-front}
+use Rattle.history.proofs.NetworkFronts.{network-front}
 use Rattle.history.proofs.Invariant.{StateOk}
 use Rattle.history.proofs.Accepted.{held-sound}
 use Rattle.history.proofs.BatchedState as Batched
@@ -101,26 +98,11 @@ module _ {settings : Settings} (passes : settingsRefusal settings ≡ accepted)
         ltb-false (length coordinatorFront) (coordinatorWords settings)
         (neither-of-or (ltb (length sitesFront) (sitesWords settings)) _ short .second-false)
 
-    -- The network that the fronts hold is the one that is held.
-    network-same : networkOf settings (lending held (fronts siteCount coordinatorCount))
-        ≡ networkOf settings held
-    network-same =
-        let sites : sitesIn (settings .sites) settings (held .sites .records) sitesFront
-        ≡ sitesIn (settings .sites) settings (held .sites .records) (held .siteMemory) =
-        sym (sitesIn-front settings (siteRecord freshSite) (settings .sites)
-        (held .sites .records) sitesFront (drop siteCount (held .siteMemory))
-        (λ j known.
-        used-at passes held (ok .lengths) (held-sound passes ok .sites-sound) j known)
-        sites-long)
-        ∙ ap (sitesIn (settings .sites) settings (held .sites .records))
-        (take-append-drop siteCount (held .siteMemory)) in
-        let coordinator = coordinatorIn-front settings (held .coordinator) coordinatorCount
-        (held .coordinatorMemory) coordinator-long in
-        λ i. record { sites = sites i; coordinator = coordinator i }
-
     batch-same : batchIn onFronts ≡ batchIn onAll
     batch-same =
-        ap (λ (network : Network). batchOf settings (logRoom log) network arrivals) network-same
+        ap (λ (network : Network). batchOf settings (logRoom log) network arrivals)
+        (network-front passes held (ok .lengths) (held-sound passes ok .sites-sound) siteCount
+        coordinatorCount sites-long coordinator-long)
 
     -- The network that the batch comes to is sound.
     sound : Sound settings (batchIn onAll .network)

@@ -16,7 +16,7 @@ use Rattle.model.specs.declared.Arrival.{Arrival}
 use Rattle.model.specs.Refusals.{when, accepted, listTooShort}
 use Rattle.model.specs.Settings.{settingsRefusal}
 use Rattle.model.specs.Coordinator.{Coordinator}
-use Rattle.model.specs.CoordinatorMemory.{coordinatorMemoryRefusal}
+use Rattle.model.specs.CoordinatorMemory.{coordinatorWords, coordinatorIn, coordinatorMemoryRefusal}
 use Rattle.model.specs.Reading.{isListed, heavyHitters, margin, quantileOf}
 use Rattle.model.specs.Network.{Network}
 use Rattle.model.specs.Runs.{Run, runOf}
@@ -27,10 +27,10 @@ use Rattle.reading.specs.declared.QuantileRead.{QuantileRead}
 use Rattle.reading.specs.Contracts.{ReadsMargin, ReadsQuantile}
 use Rattle.listing.specs.declared.Listed.{Listed}
 use Rattle.listing.specs.Contracts.{Lists, listRefusal}
-use Rattle.history.specs.State.{State, networkOf}
+use Rattle.history.specs.State.{State, networkOf, coordinatorPart}
 use Rattle.history.specs.Reading.{rulesCoordinator, listedIn, ListRight, MarginRight, QuantileRight, ReadsRight}
 use Rattle.history.proofs.Invariant.{StateOk, Resting}
-use Rattle.history.proofs.Accepted.{memory-accepted, refused-by-rules}
+use Rattle.history.proofs.Accepted.{coordinator-front, memory-accepted, refused-by-rules}
 use Rattle.history.proofs.Answers.{accepted-choice}
 
 module _ {settings : Settings} (passes : settingsRefusal settings ≡ accepted)
@@ -42,9 +42,17 @@ module _ {settings : Settings} (passes : settingsRefusal settings ≡ accepted)
   abbrev run : Run
   run = runOf settings (state .accepted)
 
-  -- The coordinator that is held is the run's.
-  coordinator-is : networkOf settings (state .held) .coordinator ≡ c
-  coordinator-is = ap (λ (network : Network). network .coordinator) (rest .network-is)
+  -- The coordinator that is held is the run's, also in a front of its memory.
+  held-is : networkOf settings (state .held) .coordinator ≡ c
+  held-is = ap (λ (network : Network). network .coordinator) (rest .network-is)
+
+  coordinator-is : (words : ℕ)
+      → coordinatorWords settings ≤ words
+      → coordinatorIn settings (state .held .coordinator) (coordinatorPart (state .held) 0 words)
+      ≡ c
+  coordinator-is words enough =
+      coordinator-front passes ok words (λ (refusal : ℕ) (there : Coordinator). there) enough
+      ∙ held-is
 
   tracks : Tracks settings run
   tracks = demands-over-runs .tracks settings (state .accepted) passes
@@ -61,35 +69,34 @@ module _ {settings : Settings} (passes : settingsRefusal settings ≡ accepted)
 
   -- ---- The list
 
-  module _ (before after : List ℕ) (answer : Listed)
-      (says : Lists settings (state .held .coordinator) (state .held .coordinatorMemory) before
-      after answer) where
+  module _ (words : ℕ) (before after : List ℕ) (answer : Listed)
+      (enough : coordinatorWords settings ≤ words)
+      (says : Lists settings (state .held .coordinator) (coordinatorPart (state .held) 0 words)
+      before after answer) where
     abbrev listed : List ℕ
     listed = heavyHitters settings c
-
-    same-list : heavyHitters settings (networkOf settings (state .held) .coordinator) ≡ listed
-    same-list = ap (heavyHitters settings) coordinator-is
 
     refusal-is : answer .refusal ≡ when (ltb (length before) (length listed)) listTooShort
     refusal-is =
         says .refusal
-        ∙ refused-by-rules passes ok .list (length before)
-        ∙ ap (λ (items : List ℕ).
-        when (ltb (length before) (length items)) listTooShort)
-        same-list
+        ∙ refused-by-rules passes ok .list words (length before) enough
+        ∙ ap (λ (there : Coordinator).
+        when (ltb (length before) (length (heavyHitters settings there))) listTooShort)
+        held-is
 
     -- An accepted call has written the list over the front of the lent one.
     list-is : answer .refusal ≡ accepted → listedIn answer after ≡ listed
     list-is accepts =
-        let none : listRefusal settings (state .held .coordinator) (state .held .coordinatorMemory)
-        (length before)
+        let part = coordinatorPart (state .held) 0 words in
+        let none : listRefusal settings (state .held .coordinator) part (length before)
         ≡ accepted = sym (says .refusal) ∙ accepts in
-        let held-list = heavyHitters settings (networkOf settings (state .held) .coordinator) in
+        let held-list = heavyHitters settings
+        (coordinatorIn settings (state .held .coordinator) part) in
         let count = says .count ∙ accepted-choice _ _ _ none in
         let list = says .list ∙ accepted-choice _ _ _ none in
         (λ i. take (count i) (list i))
         ∙ take-append-seam held-list (drop (length held-list) before)
-        ∙ same-list
+        ∙ ap (heavyHitters settings) (coordinator-is words enough)
 
     -- What holds of the rules' list holds of the answered one.
     of-list : (P : List ℕ → Type 0) → answer .refusal ≡ accepted → P listed
@@ -121,8 +128,8 @@ module _ {settings : Settings} (passes : settingsRefusal settings ≡ accepted)
 
     list-right : ListRight settings state before after answer
     list-right = record {
-      enough-places = λ enough.
-          refusal-is ∙ rw (le-ltb (length before) (length listed) enough);
+      enough-places = λ places.
+          refusal-is ∙ rw (le-ltb (length before) (length listed) places);
       too-few-places = λ few.
           refusal-is ∙ rw (lt-ltb (length before) (length listed) few);
       list-is = list-is;
@@ -140,38 +147,41 @@ module _ {settings : Settings} (passes : settingsRefusal settings ≡ accepted)
 
   -- ---- The margin
 
-  module _ (item : ℕ) (answer : Margin)
-      (says : ReadsMargin settings (state .held .coordinator) item (state .held .coordinatorMemory)
-      answer) where
+  module _ (words item : ℕ) (answer : Margin)
+      (enough : coordinatorWords settings ≤ words)
+      (says : ReadsMargin settings (state .held .coordinator) item
+      (coordinatorPart (state .held) 0 words) answer) where
     margin-right : MarginRight settings state item answer
     margin-right = record {
       item-known = λ known.
-          says .refusal ∙ refused-by-rules passes ok .margin item
+          says .refusal ∙ refused-by-rules passes ok .margin words item enough
           ∙ rw (lt-leb (settings .universe) item known);
       item-unknown = λ unknown.
-          says .refusal ∙ refused-by-rules passes ok .margin item
+          says .refusal ∙ refused-by-rules passes ok .margin words item enough
           ∙ rw (le-leb (settings .universe) item unknown);
       margin-is = λ accepts.
           says .margin-is
           ∙ accepted-choice _ _ _ (sym (says .refusal) ∙ accepts)
-          ∙ ap (λ (there : Coordinator). margin settings there item) coordinator-is;
+          ∙ ap (λ (there : Coordinator). margin settings there item)
+          (coordinator-is words enough);
     }
 
   -- ---- The quantile
 
-  module _ (answer : QuantileRead)
-      (says : ReadsQuantile settings (state .held .coordinator) (state .held .coordinatorMemory)
-      answer) where
+  module _ (words : ℕ) (answer : QuantileRead)
+      (enough : coordinatorWords settings ≤ words)
+      (says : ReadsQuantile settings (state .held .coordinator)
+      (coordinatorPart (state .held) 0 words) answer) where
     none-refused : coordinatorMemoryRefusal settings (state .held .coordinator)
-        (state .held .coordinatorMemory)
+        (coordinatorPart (state .held) 0 words)
         ≡ accepted
-    none-refused = memory-accepted passes ok .of-coordinator
+    none-refused = memory-accepted passes ok .of-coordinator words enough
 
     quantile-is : answer .quantile ≡ quantileOf settings c
     quantile-is =
         says .quantile
         ∙ accepted-choice _ _ _ none-refused
-        ∙ ap (quantileOf settings) coordinator-is
+        ∙ ap (quantileOf settings) (coordinator-is words enough)
 
     promise : QuantilePromise settings run
     promise = tracks .quantile-within

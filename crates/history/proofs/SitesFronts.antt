@@ -2,30 +2,19 @@
 -- "may be longer" (document 01, refusal 4), and what lies behind it stays.
 --
 --   sitesIn-front, sitesMemory-front   the sites read from a front, and written to it
---   start-says-whole                   the start's contract kept on a front is kept on the whole
 use mathlib.Core.Path.{_≡_, refl, sym, ap, _∙_}
 use mathlib.Core.List.{List, [], _∷_, _++_, append-assoc}
 use Prim.Native.Nat.{ℕ, zero, suc, _*_, _≤_, _<_}
 use native.Mathlib.Omega.{arith}
-use lib.Dec.{ltb}
-use lib.ListN.{length, getD, take, drop, length-drop, length-replicate, replicate, take-append-drop}
+use lib.ListN.{length, getD, take, drop}
 use lib.Seq.{take-append-le, drop-append-le}
-use borrow.Author.Tests.{le-ltb, ltb-false}
 use Rattle.model.specs.declared.Settings.{Settings}
 use Rattle.model.specs.declared.SiteRecord.{SiteRecord}
-use Rattle.model.specs.Refusals.{when, _orElse_, accepted, memoryTooShort}
-use Rattle.model.specs.Settings.{settingsRefusal}
 use Rattle.model.specs.Site.{Site}
 use Rattle.model.specs.SiteMemory.{siteWords, siteIn, siteMemory}
-use Rattle.model.specs.NetworkMemory.{sitesWords, sitesIn, sitesMemory}
-use Rattle.model.proofs.RefusalLaws.{both-accepted, passed}
+use Rattle.model.specs.NetworkMemory.{sitesIn, sitesMemory}
 use Rattle.network_memory.proofs.OneSite.{siteIn-front}
-use Rattle.network_memory.proofs.SitesMemoryLaws.{AllStorable, later, part-long, rest-long}
-use Rattle.site.specs.declared.StartedSites.{StartedSites}
-use Rattle.site.specs.Calls.{StartSays, startRefusal}
-use Rattle.history.specs.State.{withPart}
-use Rattle.history.proofs.Answers.{accepted-choice}
-use Rattle.history.proofs.CoordinatorFronts.{whole-long, front-then, overwrite-front}
+use Rattle.network_memory.proofs.SitesMemoryLaws.{part-long, rest-long}
 
 -- ---- The sites read and written
 
@@ -63,36 +52,3 @@ module _ (settings : Settings) where
       (λ i. own i ++ others i)
       ∙ sym (append-assoc (siteMemory settings site (take words part))
       (sitesMemory settings sites (drop words part)) rest)
-
--- ---- The start on a front
-
-module _ (settings : Settings) (n : ℕ) (memory part : List ℕ) (answer : StartedSites)
-    (says : StartSays settings (take n memory) part answer)
-    (accepts : answer .refusal ≡ accepted) where
-  -- The contract of the whole memory lent.
-  pub start-says-whole : StartSays settings memory (withPart memory 0 n part) answer
-  start-says-whole =
-      let words = sitesWords settings in
-      let none : startRefusal settings (take n memory) ≡ accepted =
-      sym (says .refusal) ∙ accepts in
-      let rows = both-accepted (settingsRefusal settings) _ none in
-      let long = ltb-false (length (take n memory)) words
-      (passed (ltb (length (take n memory)) words) 4 _ (omega arith)
-      (rows .later-accepted) .test-failed) in
-      let longer = whole-long words n memory long in
-      let same : startRefusal settings (take n memory) ≡ startRefusal settings memory =
-      λ i.
-      settingsRefusal settings
-      orElse when
-      ((le-ltb (length (take n memory)) words long ∙ sym (le-ltb (length memory) words longer)) i)
-      memoryTooShort
-      orElse accepted in
-      record {
-        refusal = says .refusal ∙ same;
-        sites = says .sites;
-        memory =
-            ap (withPart memory 0 n) (says .memory ∙ accepted-choice _ _ _ none)
-            ∙ overwrite-front (replicate words 0) n memory
-            (omega (arith, length-replicate {A = ℕ} words 0, long))
-            ∙ sym (accepted-choice _ _ _ (sym same ∙ none));
-      }

@@ -21,12 +21,15 @@ use Rattle.model.specs.Claims.{counted, FewMessages}
 use Rattle.model.proofs.Theorem.{demands-over-runs}
 use Rattle.history.specs.State.{Held, State, networkWritten, withPart}
 use Rattle.history.specs.Histories.{batch, single, Step, arrives, delivers, refuses, startState, Reachable, started, stepped, heldAtStart}
-use Rattle.history.specs.Demands.{First, Second, StartedFresh, Whole, Third, Demands}
+use Rattle.history.specs.First.{First}
+use Rattle.history.specs.Second.{Second}
+use Rattle.history.specs.Whole.{StartedFresh, Whole}
+use Rattle.history.specs.Third.{Third}
+use Rattle.history.specs.Demands.{Demands}
 use Rattle.history.proofs.Invariant.{StateOk, BeginsRun, run-of-standing}
 use Rattle.history.proofs.Accepted.{memory-accepted, refused-by-rules, held-sound, resting-of, sound-rest-of}
 use Rattle.history.proofs.Readings.{reads-right}
-use Rattle.history.proofs.CoordinatorFronts.{starts-whole}
-use Rattle.history.proofs.SitesFronts.{start-says-whole}
+use Rattle.history.proofs.CallFronts.{start-says-whole, starts-whole}
 use Rattle.history.proofs.StartedState.{start-ok, start-fresh}
 use Rattle.history.proofs.BatchedState.{batch-ok}
 use Rattle.history.proofs.LentBatch.{of-lent-batch}

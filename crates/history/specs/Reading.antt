@@ -15,6 +15,7 @@ use Rattle.model.specs.declared.Settings.{Settings}
 use Rattle.model.specs.declared.Quantile.the-variants.{Nothing, Value}
 use Rattle.model.specs.Refusals.{accepted, unknownItem, listTooShort}
 use Rattle.model.specs.Coordinator.{Coordinator}
+use Rattle.model.specs.CoordinatorMemory.{coordinatorWords}
 use Rattle.model.specs.Reading.{heavyHitters, margin, quantileOf}
 use Rattle.model.specs.Runs.{runOf}
 use Rattle.model.specs.Claims.{counted, countOf, below, above, contains}
@@ -23,7 +24,7 @@ use Rattle.reading.specs.declared.QuantileRead.{QuantileRead}
 use Rattle.reading.specs.Contracts.{ReadsMargin, ReadsQuantile}
 use Rattle.listing.specs.declared.Listed.{Listed}
 use Rattle.listing.specs.Contracts.{Lists}
-use Rattle.history.specs.State.{State}
+use Rattle.history.specs.State.{State, coordinatorPart}
 
 -- The coordinator that document 01's rules give for the arrivals accepted so far.
 abbrev pub rulesCoordinator : Settings → State → Coordinator
@@ -105,15 +106,21 @@ pub record QuantileRight (settings : Settings) (state : State) (answer : Quantil
 
 -- ---- All three
 
--- Whatever the calls answer, if they keep their contracts.
+-- Whatever the calls answer, if they keep their contracts. They are lent the first so many numbers
+-- of the coordinator's memory: as many as its own, or more.
 pub record ReadsRight (settings : Settings) (state : State) : Type 0 where
-  pub list : (before after : List ℕ) (answer : Listed)
-      → Lists settings (state .held .coordinator) (state .held .coordinatorMemory) before after
-      answer
+  pub list : (words : ℕ) (before after : List ℕ) (answer : Listed)
+      → coordinatorWords settings ≤ words
+      → Lists settings (state .held .coordinator) (coordinatorPart (state .held) 0 words) before
+      after answer
       → ListRight settings state before after answer
-  pub margins : (item : ℕ) (answer : Margin)
-      → ReadsMargin settings (state .held .coordinator) item (state .held .coordinatorMemory) answer
+  pub margins : (words item : ℕ) (answer : Margin)
+      → coordinatorWords settings ≤ words
+      → ReadsMargin settings (state .held .coordinator) item
+      (coordinatorPart (state .held) 0 words) answer
       → MarginRight settings state item answer
-  pub quantile : (answer : QuantileRead)
-      → ReadsQuantile settings (state .held .coordinator) (state .held .coordinatorMemory) answer
+  pub quantile : (words : ℕ) (answer : QuantileRead)
+      → coordinatorWords settings ≤ words
+      → ReadsQuantile settings (state .held .coordinator) (coordinatorPart (state .held) 0 words)
+      answer
       → QuantileRight settings state answer

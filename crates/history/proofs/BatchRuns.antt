@@ -53,7 +53,8 @@ module _ (settings : Settings) (room : ℕ) where
     run-messages = sym (append-nil (run .messages));
   }
 
-  abbrev nextBatch : Batch → Arrival → Batch
+  -- The batch with one arrival more.
+  abbrev pub nextBatch : Batch → Arrival → Batch
   nextBatch batch arrival = record {
     network = afterArrival settings (batch .network) arrival .network;
     accepted = batch .accepted + 1;

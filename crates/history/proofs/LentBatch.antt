@@ -8,22 +8,19 @@ use mathlib.Core.Bool.{Bool, true, false}
 use mathlib.Core.List.{List, _++_}
 use Prim.Native.Nat.{ℕ, _+_, _*_, _≤_}
 use native.Mathlib.Omega.{arith}
-use lib.Dec.{ltb}
 use lib.ListN.{length, take, drop, length-append, take-append-drop}
-use borrow.Author.Tests.{eqb-true, eqb-false, ltb-false}
-use Rattle.laws.proofs.Tests.{neither-of-or}
+use borrow.Author.Tests.{eqb-true, eqb-false}
 use Rattle.model.specs.declared.Settings.{Settings}
 use Rattle.model.specs.declared.Arrival.{Arrival}
 use Rattle.model.specs.Choice.{isZero}
 use Rattle.model.specs.Refusals.{accepted}
 use Rattle.model.specs.Settings.{settingsRefusal}
 use Rattle.model.specs.SiteMemory.{siteWords, overwrite}
-use Rattle.model.specs.CoordinatorMemory.{coordinatorWords, coordinatorRecord, coordinatorMemory}
+use Rattle.model.specs.CoordinatorMemory.{coordinatorRecord, coordinatorMemory}
 use Rattle.model.specs.Network.{Network}
-use Rattle.model.specs.NetworkMemory.{sitesWords, siteRecords, sitesMemory, networkTooShort}
+use Rattle.model.specs.NetworkMemory.{siteRecords, sitesMemory}
 use Rattle.model.specs.Runs.{Batch, batchOf}
 use Rattle.model.specs.SoundNetwork.{Sound}
-use Rattle.model.proofs.RefusalLaws.{both-accepted, passed}
 use Rattle.tracker_steps.specs.declared.BatchAnswer.{BatchAnswer}
 use Rattle.tracker.specs.Batch.{BatchCall, BatchLent, BatchSays, startRefusal, batchIn, unlessRefused, logRoom, messageNumbers}
 use Rattle.history.specs.State.{Held, State, AtRest, fronts, lending, withPart, putBack}
@@ -31,7 +28,7 @@ use Rattle.history.specs.Histories.{batchCall, afterBatch, batch-accepts
 use Rattle.history.proofs.Answers.{accepted-choice, refused-choice}
 use Rattle.history.proofs.CoordinatorFronts.{front-then, overwrite-front}
 use Rattle.network_memory.proofs.SitesFronts.{sitesMemory-front}
-use Rattle.history.proofs.NetworkFronts.{network-front}
+use Rattle.history.proofs.NetworkFronts.{LongEnough, long-enough, network-front}
 use Rattle.history.proofs.Invariant.{StateOk}
 use Rattle.history.proofs.Accepted.{held-sound}
 use Rattle.history.proofs.BatchedState as Batched
@@ -82,27 +79,15 @@ module _ {settings : Settings} (passes : settingsRefusal settings ≡ accepted)
     abbrev coordinatorFront : List ℕ
     coordinatorFront = take coordinatorCount (held .coordinatorMemory)
 
-    -- Not too short.
-    short : networkTooShort settings sitesFront coordinatorFront ≡ false
-    short =
-        passed (networkTooShort settings sitesFront coordinatorFront) 4 _ (omega arith)
-        (both-accepted (settingsRefusal settings) _ none .later-accepted) .test-failed
-
-    sites-long : sitesWords settings ≤ length sitesFront
-    sites-long =
-        ltb-false (length sitesFront) (sitesWords settings)
-        (neither-of-or (ltb (length sitesFront) (sitesWords settings)) _ short .first-false)
-
-    coordinator-long : coordinatorWords settings ≤ length coordinatorFront
-    coordinator-long =
-        ltb-false (length coordinatorFront) (coordinatorWords settings)
-        (neither-of-or (ltb (length sitesFront) (sitesWords settings)) _ short .second-false)
+    long : LongEnough settings sitesFront coordinatorFront
+    long =
+        long-enough settings (held .sites) (held .coordinator) sitesFront coordinatorFront none
 
     batch-same : batchIn onFronts ≡ batchIn onAll
     batch-same =
         ap (λ (network : Network). batchOf settings (logRoom log) network arrivals)
         (network-front passes held (ok .lengths) (held-sound passes ok .sites-sound) siteCount
-        coordinatorCount sites-long coordinator-long)
+        coordinatorCount (long .sites-long) (long .coordinator-long))
 
     -- The network that the batch comes to is sound.
     sound : Sound settings (batchIn onAll .network)
@@ -124,7 +109,7 @@ module _ {settings : Settings} (passes : settingsRefusal settings ≡ accepted)
     sites-then =
         let sites = batchIn onAll .network .sites in
         let room : length sites * siteWords settings ≤ length sitesFront =
-        rw (sound .all-sites) sites-long in
+        rw (sound .all-sites) (long .sites-long) in
         ap (withPart (held .siteMemory) 0 siteCount)
         (says .site-memory
         ∙ accepted-choice (startRefusal onFronts) _ _ none
@@ -145,7 +130,7 @@ module _ {settings : Settings} (passes : settingsRefusal settings ≡ accepted)
           length-append (c .estimates) (c .histogram),
           numbers .estimates-length,
           numbers .histogram-length,
-          coordinator-long,
+          long .coordinator-long,
         ) in
         ap (withPart (held .coordinatorMemory) 0 coordinatorCount)
         (says .coordinator-memory

@@ -10,11 +10,14 @@ pub mod KeptLengths
 pub mod CallFronts
 pub mod RunSound
 pub mod BatchRuns
+pub mod BatchStops
 pub mod HandedOut
 pub mod Decoded
 pub mod DecodedCoordinator
 pub mod NetworkFronts
 pub mod DeliveryLogs
+pub mod Underway
+pub mod SoundMemory
 pub mod Invariant
 pub mod EmptyBatch
 pub mod Refused
@@ -32,5 +35,10 @@ pub mod GoesOn
 pub mod Kept
 pub mod FromStart
 pub mod Readings
+pub mod SiteArrivals
+pub mod Arisen
+pub mod RefusedDraws
+pub mod GivenDraws
+pub mod KeptOut
 pub mod Theorem
 pub mod Example

@@ -1,11 +1,10 @@
--- The three demands hold of every history of calls: the invariant holds after the two start calls
--- and is kept by every step, and each demand follows from it. PROOF.md section 7.
+-- The three demands hold of every history of calls: each follows from the invariant, which every
+-- reachable state has (Arisen.antt), and from the claims over runs. PROOF.md section 9.
 --
---   Arisen, arisen    the invariant of every reachable state
---   demands           the theorem
+--   demands     the theorem
 use mathlib.Core.Path.{_≡_, sym, ap, _∙_, subst}
 use mathlib.Core.List.{List}
-use Prim.Native.Nat.{ℕ, suc, _+_, _*_, _≤_}
+use Prim.Native.Nat.{_+_, _*_, _≤_}
 use native.Mathlib.Nat.{mul-le-mul-left}
 use native.Mathlib.Omega.{arith}
 use lib.ListN.{length, take, drop, length-append, take-append-drop}
@@ -19,111 +18,24 @@ use Rattle.model.specs.Network.{Network}
 use Rattle.model.specs.Runs.{Run, runOf}
 use Rattle.model.specs.Claims.{counted, FewMessages}
 use Rattle.model.proofs.Theorem.{demands-over-runs}
-use Rattle.history.specs.State.{Held, State, networkWritten, withPart}
-use Rattle.history.specs.Histories.{batch, single, Step, arrives, delivers, refuses, startState, Reachable, started, stepped, heldAtStart}
+use Rattle.history.specs.State.{State, networkWritten}
+use Rattle.history.specs.Histories.{Reachable, heldAtStart}
 use Rattle.history.specs.First.{First}
 use Rattle.history.specs.Second.{Second}
-use Rattle.history.specs.Whole.{StartedFresh, Whole}
+use Rattle.history.specs.Whole.{Whole}
 use Rattle.history.specs.Third.{Third}
 use Rattle.history.specs.Demands.{Demands}
-use Rattle.history.proofs.Invariant.{StateOk, BeginsRun, run-of-standing}
-use Rattle.history.proofs.Accepted.{memory-accepted, refused-by-rules, resting-of}
+use Rattle.history.proofs.Invariant.{BeginsRun, run-of-standing}
+use Rattle.history.proofs.Accepted.{memory-accepted, refused-by-rules, resting-of, sound-rest-of}
 use Rattle.history.proofs.Readings.{reads-right}
-use Rattle.history.proofs.CallFronts.{start-says-whole, starts-whole}
-use Rattle.history.proofs.StartedState.{start-ok, start-fresh}
-use Rattle.history.proofs.BatchedState.{batch-ok}
-use Rattle.history.proofs.LentBatch.{of-lent-batch}
-use Rattle.history.proofs.SingleState.{single-ok}
-use Rattle.history.proofs.DeliveredState.{delivered-ok}
 use Rattle.history.proofs.Refused.{refused-same}
 use Rattle.history.proofs.GoesOn.{delivery-goes-on}
 use Rattle.history.proofs.Kept.{tails-kept, others-kept}
-use Rattle.history.proofs.FromStart.{FromStart, from-self, from-step, held-whole}
-
--- ---- The invariant of every reachable state
-
--- The invariant, some steps after the last arrival.
-pub record Arisen (settings : Settings) (state : State) : Type 0 where
-  pub steps : ℕ
-  pub ok : StateOk settings steps state
-
-module _ {settings : Settings} (passes : settingsRefusal settings ≡ accepted) where
-  arisen-step : (before after : State)
-      → Arisen settings before
-      → Step settings before after
-      → Arisen settings after
-  arisen-step before after there
-      (arrives (batch siteCount coordinatorCount arrivals log lent answer rest says)) =
-      of-lent-batch passes before (there .ok) rest siteCount coordinatorCount arrivals log lent
-      answer says (Arisen settings) there
-      (λ all. record {
-        steps = 0;
-        ok = batch-ok passes before (there .ok) rest arrivals log _ answer all;
-      })
-  arisen-step before after there (arrives (single arrival words part answer rest says accepts)) =
-      record {
-        steps = 0;
-        ok = single-ok passes before (there .ok) rest arrival words part answer says accepts;
-      }
-  arisen-step before after there (delivers step) =
-      record { steps = suc (there .steps); ok = delivered-ok passes before (there .ok) after step }
-  arisen-step before after there (refuses step) =
-      record {
-        steps = there .steps;
-        ok = subst (StateOk settings (there .steps)) (sym (refused-same before after step))
-            (there .ok);
-      }
-
-  -- By recursion on the history.
-  pub arisen : (state : State) → Reachable settings state → Arisen settings state
-  arisen state
-      (started siteMemory siteCount sitePart sites memory count part coordinator
-      sites-say sites-accepted coordinator-says coordinator-accepted) =
-      record {
-        steps = 0;
-        ok = start-ok settings siteMemory (withPart siteMemory 0 siteCount sitePart) memory
-            (withPart memory 0 count part) sites coordinator
-            (start-says-whole settings siteCount siteMemory sitePart sites sites-say sites-accepted)
-            sites-accepted
-            (starts-whole settings count memory part coordinator coordinator-says
-            coordinator-accepted)
-            coordinator-accepted;
-      }
-  arisen state (stepped before after earlier step) =
-      arisen-step before after (arisen before earlier) step
-
--- What was held at the start of a history is fresh, and what is held now comes of it.
-record Kept (settings : Settings) (start held : Held) : Type 0 where
-  fresh : StartedFresh settings start
-  from : FromStart settings start held
-
-kept-from : {settings : Settings} (passes : settingsRefusal settings ≡ accepted) (state : State)
-    (reachable : Reachable settings state)
-    → Kept settings (heldAtStart reachable) (state .held)
-kept-from {settings} passes state
-    (started siteMemory siteCount sitePart sites memory count part coordinator
-    sites-say sites-accepted coordinator-says coordinator-accepted) =
-    let sitesThen = withPart siteMemory 0 siteCount sitePart in
-    let coordinatorThen = withPart memory 0 count part in
-    let sites-whole = start-says-whole settings siteCount siteMemory sitePart sites sites-say
-    sites-accepted in
-    let coordinator-whole = starts-whole settings count memory part coordinator coordinator-says
-    coordinator-accepted in
-    record {
-      fresh = start-fresh settings siteMemory sitesThen memory coordinatorThen sites
-          coordinator sites-whole sites-accepted coordinator-whole coordinator-accepted;
-      from = from-self passes
-          (startState (sites .sites) (coordinator .coordinator) sitesThen coordinatorThen)
-          (start-ok settings siteMemory sitesThen memory coordinatorThen sites coordinator
-          sites-whole sites-accepted coordinator-whole coordinator-accepted);
-    }
-kept-from passes state (stepped before after earlier step) =
-    let kept = kept-from passes before earlier in
-    record {
-      fresh = kept .fresh;
-      from = from-step passes before (arisen passes before earlier .ok) (heldAtStart earlier)
-          (kept .from) after step;
-    }
+use Rattle.history.proofs.FromStart.{held-whole}
+pub use Rattle.history.proofs.Arisen.{Arisen, arisen}
+use Rattle.history.proofs.Arisen.{kept-from}
+use Rattle.history.proofs.GivenDraws.{as-given}
+use Rattle.history.proofs.KeptOut.{nothing-lost}
 
 -- ---- Each demand
 
@@ -176,7 +88,8 @@ module _ (settings : Settings) (state : State) (passes : settingsRefusal setting
         demands-over-runs .estimates-near settings (take n (state .accepted)) passes;
     tails-kept = tails-kept passes state (there .ok);
     others-kept = λ arrival words part answer rest says accepts.
-        others-kept passes state (there .ok) arrival words part answer rest says accepts;
+        others-kept passes state (sound-rest-of passes (there .ok) rest) arrival words part answer
+        says accepts;
   }
 
   whole : Whole settings (heldAtStart reachable) state
@@ -229,4 +142,11 @@ module _ (settings : Settings) (state : State) (passes : settingsRefusal setting
 
 -- The three demands.
 pub demands : Demands
-demands = record { first = first; second = second; whole = whole; third = third }
+demands = record {
+  first = first;
+  second = second;
+  whole = whole;
+  third = third;
+  given = λ settings state passes reachable. as-given passes state reachable;
+  nothing-lost = λ settings before after step. nothing-lost step;
+}

@@ -8,17 +8,20 @@
 --             class are right after each arrival
 --   Whole     every number of records and lent memory, from what the start calls left
 --   Third     the bounds on messages
+--   AsGiven   of all draws that were given, the rules accept exactly what the calls accepted;
+--             NothingLost: a call decides on what it is handed, or keeps it out
 -- In all of them n is `counted (state .accepted)`: the arrivals accepted so far.
 use mathlib.Core.Path.{_≡_}
 use Rattle.model.specs.declared.Settings.{Settings}
 use Rattle.model.specs.Refusals.{accepted}
 use Rattle.model.specs.Settings.{settingsRefusal}
 use Rattle.history.specs.State.{State}
-use Rattle.history.specs.Histories.{Reachable, heldAtStart}
+use Rattle.history.specs.Histories.{Step, Reachable, heldAtStart}
 pub use Rattle.history.specs.First.{DeliveryGoesOn, First}
 pub use Rattle.history.specs.Second.{Second}
 pub use Rattle.history.specs.Whole.{Whole}
 pub use Rattle.history.specs.Third.{Third}
+pub use Rattle.history.specs.Given.{givenIn, AsGiven, NothingLost}
 
 -- For all settings that pass their test and all states that a history reaches.
 pub record Demands : Type 0 where
@@ -38,3 +41,11 @@ pub record Demands : Type 0 where
       → settingsRefusal settings ≡ accepted
       → Reachable settings state
       → Third settings state
+  -- of the draws given in a history, refused ones too
+  pub given : (settings : Settings) (state : State)
+      → settingsRefusal settings ≡ accepted
+      → (history : Reachable settings state)
+      → AsGiven settings (givenIn history) state
+  pub nothing-lost : (settings : Settings) (before after : State)
+      → (step : Step settings before after)
+      → NothingLost step

@@ -3,6 +3,7 @@ pub mod State
 pub mod Histories
 pub mod Frame
 pub mod Reading
+pub mod Given
 pub mod First
 pub mod Second
 pub mod Whole

@@ -47,11 +47,13 @@ withNumbers site pending threshold = record {
 kept-of : {A : Type 0} (of : Site → A)
     → ((site : Site) (pending threshold : ℕ) → of (withNumbers site pending threshold) ≡ of site)
     → Kept of
-kept-of {A} of same = record { by-message = λ site m.
-    either (λ (after : SiteStep). of (after .site) ≡ of site) (isPoll m) _ _
-    (same site 0 (site .threshold))
-    (either (λ (after : SiteStep). of (after .site) ≡ of site) (isProbe m) _ _ refl
-    (same site (site .pending) (m .a))) }
+kept-of {A} of same = record {
+  by-message = λ site m.
+      either (λ (after : SiteStep). of (after .site) ≡ of site) (isPoll m) _ _
+      (same site 0 (site .threshold))
+      (either (λ (after : SiteStep). of (after .site) ≡ of site) (isProbe m) _ _ refl
+      (same site (site .pending) (m .a)));
+}
 
 pub counters-kept : Kept (λ (site : Site). site .counters)
 counters-kept = kept-of (λ (site : Site). site .counters) (λ site pending threshold. refl)

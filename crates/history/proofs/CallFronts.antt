@@ -1,6 +1,6 @@
 -- A call's contract kept on a front of the memory is the contract kept on all of it, with the rest
--- as it was: so what is proved of calls that are lent a whole memory holds of calls that are lent as
--- much as is enough (document 01: "longer is fine, the rest untouched").
+-- as it was: so what is proved of calls that are lent a whole memory holds of calls that are lent
+-- as much as is enough (document 01: "longer is fine, the rest untouched").
 --
 --   start-says-whole, starts-whole     the two start calls
 --   receives-whole, announces-whole    a message at the coordinator, and the next kind 7
@@ -68,7 +68,8 @@ module _ (settings : Settings) (n : ℕ) (memory part : List ℕ) (answer : Star
       let none : SiteCalls.startRefusal settings (take n memory) ≡ accepted =
       sym (says .refusal) ∙ accepts in
       let long = started-long settings words (length (take n memory)) none in
-      let same : SiteCalls.startRefusal settings (take n memory) ≡ SiteCalls.startRefusal settings memory =
+      let same : SiteCalls.startRefusal settings (take n memory)
+      ≡ SiteCalls.startRefusal settings memory =
       started-same settings words n memory long in
       record {
         refusal = says .refusal ∙ same;
@@ -121,8 +122,10 @@ hands-same : {one two : ℕ} {given done : CoordinatorStep} {numbers : Coordinat
     → CoordinatorCalls.Hands (isZero one) given numbers answer
     → CoordinatorCalls.Hands (isZero two) done numbers answer
 hands-same {one} {two} {given} {done} {numbers} {answer} refusals steps hands =
-    subst (λ (step : CoordinatorStep). CoordinatorCalls.Hands (isZero two) step numbers answer) steps
-    (subst (λ (refusal : ℕ). CoordinatorCalls.Hands (isZero refusal) given numbers answer) refusals hands)
+    subst (λ (step : CoordinatorStep). CoordinatorCalls.Hands (isZero two) step numbers answer)
+    steps
+    (subst (λ (refusal : ℕ). CoordinatorCalls.Hands (isZero refusal) given numbers answer)
+    refusals hands)
 
 module _ (settings : Settings) (numbers : CoordinatorRecord) (m : Message) (n : ℕ)
     (memory part : List ℕ) (answer : Received)
@@ -177,7 +180,8 @@ module _ (settings : Settings) (numbers : CoordinatorRecord) (m : Message) (n : 
       coordinatorMemory (coordinatorReceives settings c m .coordinator) memory) read
 
   -- The contract of the whole memory lent.
-  pub receives-whole : CoordinatorCalls.Receives settings numbers m memory (withPart memory 0 n part) answer
+  pub receives-whole : CoordinatorCalls.Receives settings numbers m memory
+      (withPart memory 0 n part) answer
   receives-whole = record {
     refusal = says .refusal ∙ same;
     answer = hands-same same (ap (λ (c : Coordinator). coordinatorReceives settings c m) read)

@@ -1,5 +1,5 @@
--- A message at the coordinator changes numbers, never how many estimates and value counts there are:
--- of any kind, in any phase, whatever the coordinator.
+-- A message at the coordinator changes numbers, never how many estimates and value counts there
+-- are: of any kind, in any phase, whatever the coordinator.
 --
 --   SameLengths, length-received
 use mathlib.Core.Path.{_≡_, refl, ap}

@@ -18,7 +18,7 @@ use Rattle.tracker_steps.specs.declared.BatchAnswer.{BatchAnswer}
 use Rattle.tracker.specs.Batch.{BatchCall, BatchLent, BatchSays, startRefusal, logRoom}
 use Rattle.history.specs.State.{State}
 use Rattle.history.specs.Histories.{batch, single, Refuses, arrival-refused, site-message-refused, coordinator-message-refused, announcement-refused, batch-accepts-nothing, Step, arrives, delivers, refuses}
-use Rattle.history.specs.Given.{ofArrival, decidedCount, keptOut, Handed, noDraw, batchHanded, ownDraw, ownBatch, handedRefused, refusalOfRefused, keptOutBy, refusalBy, NothingLost}
+use Rattle.history.specs.Given.{ofArrival, decidedCount, keptOut, Handed, noDraw, batchHanded, ownDraw, ownBatch, handedRefused, handedBy, refusalOfRefused, keptOutBy, refusalBy, NothingLost}
 use Rattle.history.proofs.Answers.{accepted-choice, refused-choice}
 use Rattle.history.proofs.BatchStops.{runAt, batch-stops}
 
@@ -84,6 +84,6 @@ pub nothing-lost : {settings : Settings} {before after : State}
     (step : Step settings before after)
     → NothingLost step
 nothing-lost step = record {
-  all-named = take-append-drop _ _;
+  all-named = take-append-drop (handedBy step .count) (handedBy step .arrivals);
   none-kept-out = none-kept-out step;
 }

@@ -1,6 +1,6 @@
 -- How many arrivals a site has had, of every state that arose: as many as the rules say of the
--- arrivals accepted, in mid-delivery too, since no message changes that. So in mid-delivery, too, an
--- arrival is refused exactly where the rules refuse it.
+-- arrivals accepted, in mid-delivery too, since no message changes that. So at any time an arrival
+-- is refused exactly where the rules refuse it.
 --
 --   arrivals-same, refusal-same
 use mathlib.Core.Path.{_≡_, sym, ap, _∙_}

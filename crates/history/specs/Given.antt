@@ -1,5 +1,5 @@
--- The draws given in a history, single and in batches, refused ones too: the rules over these accept
--- exactly what the calls accepted, in the order given (document 01, "Whole lists of draws").
+-- The draws given in a history, single and in batches, refused ones too: the rules over these
+-- accept exactly what the calls accepted, in the order given (document 01, "Whole lists of draws").
 --
 --   ofArrival refusal               whether a refusal says something of the arrival: 5, 6, 7, 8
 --   decided, keptOut arrivals answer    a batch's arrivals: those that it decided on, and the rest
@@ -26,8 +26,8 @@ use Rattle.history.specs.Histories.{Arrives, batch, single, Refuses, arr
 
 -- ---- What a call decides on
 
--- "deck ≥ k", "code ≥ u", "class > 1023", "deck full". 1, 2, 3, 4 and 11 refuse the call, and 14 its
--- log: an arrival that they stop is not decided, and may be given again.
+-- "deck ≥ k", "code ≥ u", "class > 1023", "deck full". 1, 2, 3, 4 and 11 refuse the call, and 14
+-- its log: an arrival that they stop is not decided, and may be given again.
 abbrev pub ofArrival : ℕ → Bool
 ofArrival refusal = between unknownSite refusal siteFull
 
@@ -74,8 +74,8 @@ sameSettings one other =
     && eqb (one .capacity) (other .capacity)
     && eqb (one .universe) (other .universe)
 
--- Whether a refused draw is one of the list: under its settings, at the site that it names, with the
--- memory from where that site's starts; at any site, where it names none.
+-- Whether a refused draw is one of the list: under its settings, at the site that it names, with
+-- the memory from where that site's starts; at any site, where it names none.
 abbrev pub ownDraw : Settings → Settings → ℕ → Arrival → ℕ → Bool
 ownDraw settings given which arrival start =
     sameSettings given settings

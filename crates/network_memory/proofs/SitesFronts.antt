@@ -1,6 +1,6 @@
 -- The sites in a longer memory, and sites written again. Only the sites' own parts are read and
--- written (document 01: "longer is fine, the rest untouched"); and sites written over others with no
--- more counters are as if written alone.
+-- written (document 01: "longer is fine, the rest untouched"); and sites written over others with
+-- no more counters are as if written alone.
 --
 --   sitesIn-front, sitesMemory-front   read and written, whatever follows
 --   sitesMemory-again                  later sites, with no fewer counters, over earlier ones

@@ -1,2 +1,3 @@
 -- The laws behind the calls on the coordinator.
 pub mod CallLaws
+pub mod Edges

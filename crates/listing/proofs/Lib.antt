@@ -2,3 +2,4 @@
 pub mod CallLaws
 pub mod ListLaws
 pub mod WriteLaws
+pub mod Edges

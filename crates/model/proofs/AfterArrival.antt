@@ -2,7 +2,8 @@
 -- network whose coordinator is idle, arisen or not, with any list of sites. PROOF.md section 4.
 --
 --   after-arrival     the network and the messages, in each of the four cases
---   delivers-after    the same as a delivery: it comes to rest there, and more fuel changes nothing
+--   delivers-after    the same as a delivery: it comes to rest there within `mostSteps`, and more
+--                     fuel changes nothing
 -- The cases and the names of their parts are in ArrivalParts.antt.
 use mathlib.Core.Path.{_≡_, refl, sym, ap, subst}
 use mathlib.Core.Bool.{Bool, true, false}
@@ -16,6 +17,7 @@ use Rattle.model.specs.declared.Arrival.{Arrival}
 use Rattle.model.specs.declared.Message.{Message}
 use Rattle.model.specs.declared.Phase.the-variants.{Idle, Collecting}
 use Rattle.model.specs.Choice.{if_then_else_}
+use Rattle.model.specs.Limits.{mostSteps}
 use Rattle.model.specs.Messages.{itemReport, countReport, poll}
 use Rattle.model.specs.Site.{Site, reportsItem, reportsCount, reportedValue}
 use Rattle.model.specs.Coordinator.{Coordinator, withPhase}
@@ -67,7 +69,7 @@ module _ (settings : Settings) (sites : List Site) (c : Coordinator) (j amount :
 -- The delivery that an arrival sets off ends at this network, with these messages in all.
 abbrev pub DeliversAfter : Settings → Network → Arrival → Network → List Message → Type 0
 DeliversAfter settings network arrival final sent =
-    Delivers settings final (deliveryFuel settings) sent
+    Delivers settings final (mostSteps (settings .sites)) sent
     (networkOf (observedSites settings network arrival) (network .coordinator))
     (firstMessages settings network arrival)
 
@@ -103,16 +105,16 @@ module _ (settings : Settings) (network : Network) (arrival : Arrival)
   abbrev report : Message
   report = countReport (arrival .site) (site .threshold) (reportedValue site arrival)
 
-  -- A delivery from the idle coordinator, as the network has it, with the fuel of the model.
+  -- A delivery from the idle coordinator, as the network has it, in no more than the most steps.
   from-idle : (final : Network) (n : ℕ) (sent : List Message)
-      → n ≤ deliveryFuel settings
+      → n ≤ mostSteps (settings .sites)
       → Delivers settings final n sent
       (networkOf sites (withPhase (network .coordinator) Idle))
       (firstMessages settings network arrival)
       → DeliversAfter settings network arrival final sent
   from-idle final n sent fits there =
       subst
-      (λ (c : Coordinator). Delivers settings final (deliveryFuel settings) sent
+      (λ (c : Coordinator). Delivers settings final (mostSteps (settings .sites)) sent
       (networkOf sites c) (firstMessages settings network arrival))
       (sym (ap (withPhase (network .coordinator)) idle)) (more-steps fits there)
 
@@ -151,7 +153,7 @@ module _ (settings : Settings) (network : Network) (arrival : Arrival)
 
   -- The count report is the k-th signal; the close that follows it is known.
   delivers-close : (final : Network) (n : ℕ) (sent : List Message)
-      → n + 2 ≤ deliveryFuel settings
+      → n + 2 ≤ mostSteps (settings .sites)
       → reportsCount site ≡ true
       → network .coordinator .signals + 1 ≡ settings .sites
       → Delivers settings final n sent

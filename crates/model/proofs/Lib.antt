@@ -37,6 +37,7 @@ pub mod NetworkClose
 pub mod EstimateBounds
 pub mod QuantileBounds
 pub mod ListLaws
+pub mod ListSize
 pub mod RunLaws
 pub mod RunInvariant
 pub mod Theorem
@@ -45,6 +46,7 @@ pub mod LineTaken
 pub mod WorklistLaws
 pub mod TranscriptLaws
 pub mod Instances
+pub mod Edges
 pub mod SoundCounters
 pub mod SoundSites
 pub mod CoordinatorSound

@@ -20,7 +20,7 @@ use Rattle.model.specs.declared.Message.{Message}
 use Rattle.model.specs.declared.Phase.the-variants.{Idle}
 use Rattle.model.specs.Choice.{if_then_else_}
 use Rattle.model.specs.Refusals.{when}
-use Rattle.model.specs.Limits.{valueCount}
+use Rattle.model.specs.Limits.{valueCount, probingMessages}
 use Rattle.model.specs.Counters.{lostBy}
 use Rattle.model.specs.Site.{Site, placementIn, reportsItem, reportsCount, observed}
 use Rattle.model.specs.Network.{Network, siteAt}
@@ -35,7 +35,7 @@ use Rattle.model.proofs.ArrivalParts.{observedSites, firstMessages, aft
 use Rattle.model.proofs.SitesInvariant.{growAt, sum-growAt, SitesOk, unreportedAt, sites-arrival, unreported-arrival, pending-arrival}
 use Rattle.model.proofs.QuantileLaws.{EarlyValues, early-arrival, late-arrival}
 use Rattle.model.proofs.Rounds.{Figures, Account, account-arrival}
-use Rattle.model.proofs.NetworkInvariant.{probingMessages, NetworkOk, ArrivalKnown}
+use Rattle.model.proofs.NetworkInvariant.{NetworkOk, ArrivalKnown}
 
 -- ---- The arrival observed
 

@@ -16,7 +16,7 @@ use Rattle.model.specs.declared.Settings.{Settings}
 use Rattle.model.specs.declared.Arrival.{Arrival}
 use Rattle.model.specs.declared.Message.{Message}
 use Rattle.model.specs.declared.Phase.the-variants.{Idle}
-use Rattle.model.specs.Limits.{topValue}
+use Rattle.model.specs.Limits.{topValue, probingMessages}
 use Rattle.model.specs.Settings.{thresholdOf}
 use Rattle.model.specs.Counters.{unreported}
 use Rattle.model.specs.Site.{Site, reportsCount}
@@ -34,7 +34,7 @@ use Rattle.model.proofs.ArrivalParts.{observedSites, firstMessages, aft
 use Rattle.model.proofs.AfterArrival.{after-arrival}
 use Rattle.model.proofs.SitesInvariant.{SitesOk, unreportedAt, few-pending, sum-closed, sites-close}
 use Rattle.model.proofs.QuantileLaws.{LateQuantile, late-of-halving}
-use Rattle.model.proofs.NetworkInvariant.{probingMessages, NetworkOk, ArrivalKnown}
+use Rattle.model.proofs.NetworkInvariant.{NetworkOk, ArrivalKnown}
 use Rattle.model.proofs.NetworkArrival.{arrivedWith, reportedWith, figuresWith, sites-then, estimates-then, estimates-long-then, account-then, early-then, total-then, kept-silent, kept-signal}
 
 module _ {settings : Settings} {network : Network}
@@ -158,7 +158,7 @@ module _ {settings : Settings} {network : Network}
       (λ (z : ℕ). LateQuantile (settings .rank) (quantileFound settings sites base) z accepted′)
       (sym base-is-counted)
       (late-of-halving (settings .rank) accepted′ (enoughAt settings sites base) test-is 10 topValue
-      (fit .rank .at-most) (omega arith) (then-ok .values-known))
+      (fit .rank .at-most) (omega arith) (omega arith) (then-ok .values-known))
 
   -- ---- The network after the close
 

@@ -19,7 +19,7 @@ use Rattle.model.specs.declared.Arrival.{Arrival}
 use Rattle.model.specs.declared.Message.{Message}
 use Rattle.model.specs.declared.Phase.the-variants.{Idle}
 use Rattle.model.specs.Refusals.{accepted, unknownSite, unknownItem, valueTooLarge}
-use Rattle.model.specs.Limits.{topValue, valueCount}
+use Rattle.model.specs.Limits.{topValue, valueCount, probingMessages}
 use Rattle.model.specs.Settings.{thresholdOf}
 use Rattle.model.specs.Counters.{unreported}
 use Rattle.model.specs.Site.{Site, freshSite, addressRefusal, arrivalRefusal, upTo}
@@ -36,10 +36,6 @@ use Rattle.model.proofs.SitesInvariant.{SitesOk, unreportedAt}
 use Rattle.model.proofs.QuantileLaws.{EarlyValues, early-fresh, LateQuantile}
 
 -- ---- What holds
-
--- ρ of the account: ten halvings, each with a probe to a site and its answer.
-abbrev pub probingMessages : ℕ
-probingMessages = 20
 
 -- The numbers of a network that the account speaks of.
 abbrev pub figuresOf : Settings → Network → List Arrival → List Message → Figures

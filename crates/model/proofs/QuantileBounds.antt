@@ -2,8 +2,9 @@
 --
 -- Letters: k sites, e epsilon, q rank, n all arrivals, t the threshold.
 --
---   quantile-of-ok     the whole promise
-use mathlib.Core.Path.{_≡_, ap}
+--   quantile-of-ok          the whole promise
+--   firm-quantile-of-ok     within 2e / 3, and exact while the threshold is 1
+use mathlib.Core.Path.{_≡_, ap, subst}
 use Prim.Native.Nat.{ℕ, _+_, _-_, _*_, _≤_, _<_}
 use native.Mathlib.Nat.{mul-le-mul-left, mul-le-mul-right, mul-le-mul}
 use native.Mathlib.Omega.{arith}
@@ -16,9 +17,9 @@ use Rattle.model.specs.declared.Quantile.the-variants.{Nothing, Value}
 use Rattle.model.specs.Limits.{topValue}
 use Rattle.model.specs.Reading.{quantileOf}
 use Rattle.model.specs.Runs.{Run}
-use Rattle.model.specs.Claims.{counted, below, above, QuantilePromise}
+use Rattle.model.specs.Claims.{counted, below, above, QuantilePromise, FirmQuantile}
 use Rattle.model.proofs.SettingsLaws.{Settled}
-use Rattle.model.proofs.ArrivalLaws.{below-above}
+use Rattle.model.proofs.ArrivalLaws.{below-mono, below-above}
 use Rattle.model.proofs.QuantileLaws.{QuantileIs, leastValue-is, LateQuantile}
 use Rattle.model.proofs.EstimateBounds.{RunOk, times-threshold, pending-few, all-counted, base-le-total, threshold-paid}
 
@@ -83,7 +84,7 @@ module _ {settings : Settings} {run : Run} (fit : Settled settings) (ok : RunOk 
   late-answer two = rw (ne-eqb t 1 (λ one. omega arith))
 
   -- Few arrivals came since the close: n - base < 2 × k × t, and 3000 × k × t ≤ e × base.
-  few-since : 2 ≤ t → 1000 * n ≤ 1000 * base + e * n
+  few-since : 2 ≤ t → 3000 * n ≤ 3000 * base + 2 * (e * base)
   few-since two =
       omega (
         arith,
@@ -93,7 +94,6 @@ module _ {settings : Settings} {run : Run} (fit : Settled settings) (ok : RunOk 
         all-counted fit ok,
         ok .total-is,
         mul-le-mul-right t (ok .few-signals),
-        mul-le-mul-left e base-le,
       )
 
   some-arrival : 2 ≤ t → 1 ≤ n
@@ -112,29 +112,69 @@ module _ {settings : Settings} {run : Run} (fit : Settled settings) (ok : RunOk 
 
   -- ---- Both
 
-  -- The value that the answer gives, and the two bounds of "within e".
+  -- What a value that is answered is worth.
+  record ValueOk (value : ℕ) : Type 0 where
+    value-known : value ≤ topValue
+    few-below : 3000 * below value (run .accepted) ≤ (3 * q + 2 * e) * n
+    few-above : 3000 * above value (run .accepted) ≤ (3000 - 3 * q + 2 * e) * n
+    exact-below : t ≡ 1 → 1000 * below value (run .accepted) < q * n
+    exact-above : t ≡ 1 → 1000 * above value (run .accepted) ≤ (1000 - q) * n
+
+  -- The value that the answer gives.
   record AnswerOk : Type 0 where
     value : ℕ
     is-value : answer ≡ Value value
-    few-below : 1000 * below value (run .accepted) ≤ (q + e) * n
-    few-above : 1000 * above value (run .accepted) ≤ (1000 - q + e) * n
+    value-ok : ValueOk value
 
   complement : (1000 - q) * n + q * n ≡ 1000 * n
   complement =
       let split : (1000 - q) + q ≡ 1000 = omega (arith, fit .rank .at-most) in
       omega (arith, ap (λ (z : ℕ). z * n) split)
 
+  thrice-complement : (3000 - 3 * q) * n ≡ 3 * ((1000 - q) * n)
+  thrice-complement =
+      let split : 3000 - 3 * q ≡ 3 * (1000 - q) = omega (arith, fit .rank .at-most) in
+      omega (arith, ap (λ (z : ℕ). z * n) split)
+
+  -- All values are at most 1023, so a value with fewer than n arrivals below it is one of them.
+  value-of-few-below : (value : ℕ) → 1000 * below value (run .accepted) < q * n → value ≤ topValue
+  value-of-few-below value few = by-value (decLt topValue value)
+    where
+      by-value : Dec (topValue < value) → value ≤ topValue
+      by-value (yes beyond) =
+          absurd (omega (
+            arith,
+            few,
+            below-mono (topValue + 1) value (run .accepted) (omega arith),
+            below-above topValue (run .accepted),
+            ok .sites-ok .values-known,
+            mul-le-mul-right n (fit .rank .at-most),
+          ))
+      by-value (no within) = omega arith
+
   answer-ok : 1 ≤ n → AnswerOk
   answer-ok some = by-threshold (decLt t 2)
     where
       early : QuantileIs (q * n) (run .accepted) answer → AnswerOk
-      early found = record {
-        value = found .value;
-        is-value = found .is-value;
-        few-below = omega (arith, found .below-low);
-        few-above =
-            omega (arith, found .upTo-high, below-above (found .value) (run .accepted), complement);
-      }
+      early found =
+          let exact : 1000 * above (found .value) (run .accepted) ≤ (1000 - q) * n =
+          omega (
+            arith,
+            found .upTo-high,
+            below-above (found .value) (run .accepted),
+            complement,
+          ) in
+          record {
+            value = found .value;
+            is-value = found .is-value;
+            value-ok = record {
+              value-known = value-of-few-below (found .value) (found .below-low);
+              few-below = omega (arith, found .below-low);
+              few-above = omega (arith, exact, thrice-complement);
+              exact-below = λ one. found .below-low;
+              exact-above = λ one. exact;
+            };
+          }
 
       late : 2 ≤ t
           → LateQuantile q (run .network .coordinator .quantile) base (run .accepted)
@@ -142,15 +182,29 @@ module _ {settings : Settings} {run : Run} (fit : Settled settings) (ok : RunOk 
       late two right = record {
         value = run .network .coordinator .quantile;
         is-value = late-answer two;
-        few-below = omega (arith, right .few-below, few-since two, mul-le-mul-left q base-le);
-        few-above =
-            omega (
-              arith,
-              right .few-above,
-              few-since two,
-              complement,
-              mul-gap (fit .rank .at-most) base-le,
-            );
+        value-ok = record {
+          value-known = right .value-known;
+          few-below =
+              omega (
+                arith,
+                right .few-below,
+                few-since two,
+                mul-le-mul-left q base-le,
+                mul-le-mul-left e base-le,
+              );
+          few-above =
+              omega (
+                arith,
+                right .few-above,
+                few-since two,
+                complement,
+                thrice-complement,
+                mul-le-mul-left e base-le,
+                mul-gap (fit .rank .at-most) base-le,
+              );
+          exact-below = λ one. absurd (omega arith);
+          exact-above = λ one. absurd (omega arith);
+        };
       }
 
       by-threshold : Dec (t < 2) → AnswerOk
@@ -169,29 +223,35 @@ module _ {settings : Settings} {run : Run} (fit : Settled settings) (ok : RunOk 
           by-threshold (no more) = absurd (omega (arith, some-arrival (omega arith)))
 
   -- An answer, or none, by whether there is an arrival.
-  answered : (value : ℕ) → answer ≡ Value value → AnswerOk
+  answered : (value : ℕ) → answer ≡ Value value → ValueOk value
   answered value is-value = by-count (decLt 0 n)
     where
-      by-count : Dec (0 < n) → AnswerOk
-      by-count (yes some) = answer-ok some
+      by-count : Dec (0 < n) → ValueOk value
+      by-count (yes some) =
+          let found : AnswerOk = answer-ok some in
+          subst ValueOk
+          (same-value answer (found .value) value (found .is-value) is-value) (found .value-ok)
       by-count (no none) =
           absurd (value-or-nothing answer value is-value (no-answer (omega arith)))
+
+  -- Firmer than the promise: two thirds of e, and exact at first.
+  pub firm-quantile-of-ok : FirmQuantile settings run
+  firm-quantile-of-ok = record {
+    value-known = λ value is-value. omega (arith, answered value is-value .value-known);
+    few-below = λ value is-value. omega (arith, answered value is-value .few-below);
+    few-above = λ value is-value. omega (arith, answered value is-value .few-above);
+    exact-below = λ value is-value one. omega (arith, answered value is-value .exact-below one);
+    exact-above = λ value is-value one. omega (arith, answered value is-value .exact-above one);
+  }
 
   -- The promise: nothing exactly at the start, and few below and above.
   pub quantile-of-ok : QuantilePromise settings run
   quantile-of-ok = record {
     nothing-at-start = no-answer;
     nothing-only-at-start = λ is-nothing. by-count is-nothing (decLt 0 n);
-    few-below = λ value is-value.
-        let found : AnswerOk = answered value is-value in
-        let same : found .value ≡ value =
-        same-value answer (found .value) value (found .is-value) is-value in
-        rw same at (found .few-below);
+    few-below = λ value is-value. omega (arith, answered value is-value .few-below);
     few-above = λ value is-value.
-        let found : AnswerOk = answered value is-value in
-        let same : found .value ≡ value =
-        same-value answer (found .value) value (found .is-value) is-value in
-        rw same at (found .few-above);
+        omega (arith, answered value is-value .few-above, thrice-complement);
   }
     where
       by-count : answer ≡ Nothing → Dec (0 < n) → n ≡ 0

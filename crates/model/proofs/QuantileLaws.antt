@@ -6,18 +6,19 @@
 --   LateQuantile, late-arrival                a value that was right at the base
 --   late-of-halving                           what halving finds is right, for a free number h
 use mathlib.Core.Path.{_≡_, refl, sym, ap, _∙_}
-use mathlib.Core.Bool.{Bool, true, false}
+use mathlib.Core.Bool.{Bool, true, false, false≢true}
 use mathlib.Core.List.{List, [], _∷_, _++_}
 use Prim.Native.Nat.{ℕ, zero, suc, _+_, _*_, _^_, _≤_, _<_}
 use native.Mathlib.Nat.{mul-le-mul-right}
 use native.Mathlib.Omega.{arith}
+use native.Mathlib.Decide.{decLt}
 use lib.Dec.{ltb}
 use lib.ListN.{length, length-set, replicate, length-replicate}
 use borrow.Author.Tests.{leb-true, leb-false, le-leb}
 use Rattle.model.specs.declared.Arrival.{Arrival}
 use Rattle.model.specs.declared.Quantile.{Quantile}
 use Rattle.model.specs.declared.Quantile.the-variants.{Value}
-use Rattle.model.specs.Limits.{valueCount}
+use Rattle.model.specs.Limits.{topValue, valueCount}
 use Rattle.model.specs.Site.{oneMoreAt, upTo}
 use Rattle.model.specs.Coordinator.{enough}
 use Rattle.model.specs.Reading.{leastValueFrom, leastValue}
@@ -59,7 +60,7 @@ early-arrival histogram accepted arrival value-known early = record {
 pub record QuantileIs (goal : ℕ) (accepted : List Arrival) (answer : Quantile) : Type 0 where
   pub value : ℕ
   pub is-value : answer ≡ Value value
-  pub below-low : 1000 * below value accepted ≤ goal
+  pub below-low : 1000 * below value accepted < goal
   pub upTo-high : goal ≤ 1000 * below (value + 1) accepted
 
 module _ (rank total top : ℕ) (accepted : List Arrival)
@@ -124,6 +125,7 @@ module _ (rank total top : ℕ) (accepted : List Arrival)
 
 -- N5: a value that was right at the base, when the arrivals were as many as the base.
 pub record LateQuantile (rank quantile base : ℕ) (accepted : List Arrival) : Type 0 where
+  pub value-known : quantile ≤ topValue
   pub few-below : 1000 * below quantile accepted + 1000 * base
       ≤ rank * base + 1000 * counted accepted
   pub few-above : 1000 * above quantile accepted + rank * base ≤ 1000 * counted accepted
@@ -133,6 +135,7 @@ pub late-arrival : {rank quantile base : ℕ} {accepted : List Arrival} (arrival
     → LateQuantile rank quantile base accepted
     → LateQuantile rank quantile base (accepted ++ (arrival ∷ []))
 late-arrival {rank} {quantile} {base} {accepted} arrival late = record {
+  value-known = late .value-known;
   few-below =
       omega (
         arith,
@@ -166,8 +169,10 @@ module _ (rank : ℕ) (accepted : List Arrival) (test : ℕ → Bool)
   -- The least value with enough at or below it: too few are below it, and above it are the others.
   late-of-least : (value : ℕ)
       → Least test value
+      → value ≤ topValue
       → LateQuantile rank value (counted accepted) accepted
-  late-of-least value least = record {
+  late-of-least value least known = record {
+    value-known = known;
     few-below = omega (arith, too-few value (least .fails-below));
     few-above =
         omega (
@@ -194,14 +199,24 @@ module _ (rank : ℕ) (accepted : List Arrival) (test : ℕ → Bool)
   pub late-of-halving : (h top : ℕ)
       → rank ≤ 1000
       → top < 2 ^ h
+      → top ≤ topValue
       → above top accepted ≡ 0
       → LateQuantile rank (halve test h 0 top) (counted accepted) accepted
-  late-of-halving h top rank-le wide none-above =
-      late-of-least (halve test h 0 top)
-      (halve-is-least test rising h 0 top (omega arith) (omega arith) at-top
-      (λ lower below-zero. absurd (omega arith)))
+  late-of-halving h top rank-le wide known none-above =
+      late-of-least (halve test h 0 top) found (by-top (decLt top (halve test h 0 top)))
     where
       at-top : test top ≡ true
       at-top =
           test-is top ∙ le-leb (rank * n) (1000 * below (top + 1) accepted)
           (omega (arith, below-above top accepted, mul-le-mul-right (counted accepted) rank-le))
+
+      found : Least test (halve test h 0 top)
+      found =
+          halve-is-least test rising h 0 top (omega arith) (omega arith) at-top
+          (λ lower below-zero. absurd (omega arith))
+
+      -- The test holds at the top, and at nothing below the value found.
+      by-top : Dec (top < halve test h 0 top) → halve test h 0 top ≤ topValue
+      by-top (yes beyond) =
+          absurd (false≢true (sym (found .fails-below top beyond) ∙ at-top))
+      by-top (no within) = omega arith

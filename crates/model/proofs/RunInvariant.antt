@@ -1,8 +1,9 @@
 -- What holds between arrivals holds after every run from a fresh start; and its messages are few
 -- (PROOF.md section 6, "Conclusion").
 --
---   run-ok            after every list of arrivals
---   messages-of-ok    demand 3's three bounds on messages
+--   run-ok                after every list of arrivals
+--   messages-of-ok        demand 3's three bounds on messages
+--   firm-messages-of-ok   and the firmer one
 use mathlib.Core.Path.{_≡_, refl}
 use mathlib.Core.Bool.{Bool, true, false}
 use mathlib.Core.List.{List, [], _∷_}
@@ -18,9 +19,9 @@ use Rattle.model.specs.Limits.{allowanceFactor}
 use Rattle.model.specs.Settings.{digits}
 use Rattle.model.specs.Network.{siteAt}
 use Rattle.model.specs.Runs.{refusalIn, Run, freshRun, runOne, runFrom, runOf}
-use Rattle.model.specs.Claims.{counted, FewMessages}
+use Rattle.model.specs.Claims.{counted, FewMessages, FirmMessages}
 use Rattle.model.proofs.SettingsLaws.{Settled}
-use Rattle.model.proofs.RoundBounds.{messages-few, messages-per-arrival}
+use Rattle.model.proofs.RoundBounds.{messages-firm, messages-few, messages-per-arrival}
 use Rattle.model.proofs.SitesInvariant.{few-pending}
 use Rattle.model.proofs.NetworkInvariant.{network-fresh, known-of-no-refusal}
 use Rattle.model.proofs.NetworkClose.{network-ok-arrival}
@@ -79,4 +80,15 @@ module _ {settings : Settings} {run : Run} (fit : Settled settings) (ok : RunOk 
     within-allowance =
         le-div-iff-mul-le {k = settings .epsilon} (omega (arith, fit .epsilon .at-least)) .1
         (omega (arith, times-epsilon));
+  }
+
+  -- The firmer bound over the digits.
+  pub firm-messages-of-ok : FirmMessages settings run
+  firm-messages-of-ok = record {
+    within-later-digits =
+        omega (
+          arith,
+          messages-firm (fit .epsilon .at-most) (ok .account) signals-le
+              (few-pending (ok .sites-ok)),
+        );
   }

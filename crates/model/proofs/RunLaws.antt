@@ -17,7 +17,7 @@ use Rattle.model.specs.declared.Message.{Message}
 use Rattle.model.specs.Choice.{if_then_else_, isZero}
 use Rattle.model.specs.Network.{afterArrival}
 use Rattle.model.specs.Runs.{refusalIn, Run, freshRun, runOne, runFrom, runOf}
-use Rattle.model.specs.Claims.{Cuts}
+use Rattle.model.specs.Cuts.{Cuts}
 
 -- Whether a run accepts an arrival.
 abbrev accepts : Settings → Run → Arrival → Bool

@@ -15,10 +15,10 @@ use Rattle.model.specs.declared.Settings.{Settings}
 use Rattle.model.specs.declared.Arrival.{Arrival}
 use Rattle.model.specs.declared.Phase.the-variants.{Idle, Announcing}
 use Rattle.model.specs.Choice.{if_then_else_}
-use Rattle.model.specs.Limits.{topValue}
+use Rattle.model.specs.Limits.{topValue, mostSteps}
 use Rattle.model.specs.Site.{Site, observed, reportsItem, reportsCount, reportedValue}
 use Rattle.model.specs.Coordinator.{isAnnouncing}
-use Rattle.model.specs.Network.{Network, siteAt, withSite, deliveryFuel}
+use Rattle.model.specs.Network.{Network, siteAt, withSite}
 use Rattle.model.specs.SoundNetwork.{SoundSite, Sound}
 use Rattle.model.proofs.SettingsLaws.{Settled}
 use Rattle.model.proofs.ClosedSites.{sumBelow-allPending, sumBelow-allArrivals}
@@ -128,7 +128,7 @@ module _ {settings : Settings} {network : Network} {arrival : Arrival}
 
   steps-enough : (itemDue countDue : Bool)
       → (if itemDue then 1 else 0) + (if countDue then 24 * settings .sites + 1 else 0)
-      ≤ deliveryFuel settings
+      ≤ mostSteps (settings .sites)
   steps-enough true true = omega arith
   steps-enough true false = omega arith
   steps-enough false true = omega arith
@@ -137,7 +137,7 @@ module _ {settings : Settings} {network : Network} {arrival : Arrival}
   -- The arrival is observed, and its own messages wait.
   pub start-stage : Stage settings
       (withSite network (arrival .site) (observed settings site arrival .site))
-      (firstMessages settings network arrival) (deliveryFuel settings)
+      (firstMessages settings network arrival) (mostSteps (settings .sites))
   start-stage = reporting (record {
     itemDue = reportsItem settings site arrival;
     countDue = reportsCount site;

@@ -12,6 +12,7 @@ use Rattle.model.specs.declared.Arrival.{Arrival}
 use Rattle.model.specs.declared.Message.{Message}
 use Rattle.model.specs.declared.Phase.the-variants.{Idle}
 use Rattle.model.specs.Refusals.{accepted}
+use Rattle.model.specs.Limits.{mostSteps}
 use Rattle.model.specs.Settings.{settingsRefusal}
 use Rattle.model.specs.Site.{Site, freshSite}
 use Rattle.model.specs.Coordinator.{isAnnouncing}
@@ -115,7 +116,7 @@ module _ (settings : Settings) (network : Network) (arrival : Arrival)
   start = deliveryOf settings network arrival
 
   -- The delivery that an arrival sets off ends where the model's does.
-  start-finishes : Finishes settings final all (deliveryFuel settings) start
+  start-finishes : Finishes settings final all (mostSteps (settings .sites)) start
   start-finishes =
       let which : ArrivalCase settings network arrival = arrival-case settings network arrival in
       record {
@@ -125,14 +126,14 @@ module _ (settings : Settings) (network : Network) (arrival : Arrival)
             (sym (after-arrival settings network arrival (sound .idle) which));
       }
 
-  mid-start : MidDelivery settings final all (deliveryFuel settings) start
+  mid-start : MidDelivery settings final all (mostSteps (settings .sites)) start
   mid-start = record { stage = start-stage fit sound taken; finishes = start-finishes }
 
   -- The network that the model's delivery comes to is sound.
   sound-after : Sound settings final
   sound-after =
       let there = somewhere-steps settings final all fit (deliveryFuel settings) start
-      (record { left = deliveryFuel settings; mid = mid-start }) in
+      (record { left = mostSteps (settings .sites); mid = mid-start }) in
       let ended : deliverySteps (deliveryFuel settings) settings start ≡ delivery final [] all =
       start-finishes .ends (deliveryFuel settings) (omega arith) in
       let stage : Stage settings final [] (there .left) = rw ended at (there .mid .stage) in
@@ -143,12 +144,12 @@ module _ (settings : Settings) (network : Network) (arrival : Arrival)
   -- A delivery that was reached, with the steps that are left.
   pub record StillLeft (n : ℕ) (d : Delivery) : Type 0 where
     pub left : ℕ
-    pub in-all : n + left ≡ deliveryFuel settings
+    pub in-all : n + left ≡ mostSteps (settings .sites)
     pub mid : MidDelivery settings final all left d
 
   pub reached-left : (n : ℕ) (d : Delivery) → Reached settings start n d → StillLeft n d
   reached-left n d begun =
-      record { left = deliveryFuel settings; in-all = omega arith; mid = mid-start }
+      record { left = mostSteps (settings .sites); in-all = omega arith; mid = mid-start }
   reached-left n d (handed before now m waiting log earlier) =
       let there = reached-left before (delivery now (m ∷ waiting) log) earlier in
       let some : 1 ≤ there .left = hand-on fit (there .mid .stage) .some-left in
@@ -212,6 +213,7 @@ module _ (settings : Settings) (network : Network) (arrival : Arrival)
         estimates-below = no-less-here (there .left) d (there .mid) .estimates;
         values-below = no-less-here (there .left) d (there .mid) .values;
         few-steps = omega (arith, there .in-all);
+        firm-steps = omega (arith, there .in-all);
         finishes = ap outcome
             (there .mid .finishes .ends (deliveryFuel settings) (omega (arith, there .in-all)));
         ends = ends-there (there .left) d (there .mid);

@@ -8,13 +8,14 @@ use Rattle.model.specs.declared.Arrival.{Arrival}
 use Rattle.model.specs.Refusals.{accepted}
 use Rattle.model.specs.Settings.{settingsRefusal}
 use Rattle.model.specs.Runs.{runOf}
-use Rattle.model.specs.Claims.{Estimates, Tracks, FewMessages, AfterEach, DemandsOverRuns}
+use Rattle.model.specs.Claims.{Estimates, Tracks, FirmQuantile, ListSize, FewMessages, FirmMessages, AfterEach, DemandsOverRuns}
 use Rattle.model.proofs.SettingsLaws.{Settled, settled}
 use Rattle.model.proofs.EstimateBounds.{RunOk, estimates-of-ok}
 use Rattle.model.proofs.HeavyHitters.{heavy-of-estimates, light-of-estimates}
-use Rattle.model.proofs.QuantileBounds.{quantile-of-ok}
-use Rattle.model.proofs.RunInvariant.{run-ok, messages-of-ok}
+use Rattle.model.proofs.QuantileBounds.{quantile-of-ok, firm-quantile-of-ok}
+use Rattle.model.proofs.RunInvariant.{run-ok, messages-of-ok, firm-messages-of-ok}
 use Rattle.model.proofs.ListLaws.{list-law}
+use Rattle.model.proofs.ListSize.{list-size-of-estimates}
 use Rattle.model.proofs.RunLaws.{runs-cut}
 
 module _ (settings : Settings) (arrivals : List Arrival)
@@ -39,6 +40,15 @@ module _ (settings : Settings) (arrivals : List Arrival)
   few-messages : FewMessages settings (runOf settings arrivals)
   few-messages = messages-of-ok fit holds
 
+  firm-messages : FirmMessages settings (runOf settings arrivals)
+  firm-messages = firm-messages-of-ok fit holds
+
+  firm-quantile : FirmQuantile settings (runOf settings arrivals)
+  firm-quantile = firm-quantile-of-ok fit holds
+
+  list-size : ListSize settings (runOf settings arrivals)
+  list-size = list-size-of-estimates fit near
+
 after-each : (settings : Settings) (arrivals : List Arrival) (n : ℕ)
     → settingsRefusal settings ≡ accepted
     → AfterEach settings arrivals n
@@ -52,9 +62,12 @@ after-each settings arrivals n passes = record {
 pub demands-over-runs : DemandsOverRuns
 demands-over-runs = record {
   tracks = tracks;
+  firm-quantile = firm-quantile;
   few-messages = few-messages;
+  firm-messages = firm-messages;
   estimates-near = near;
   list-law = list-law;
+  list-size = list-size;
   cuts = runs-cut;
   after-each = after-each;
 }

@@ -6,14 +6,16 @@
 --   below value, above value            the arrivals of a smaller, of a larger value
 --   Tracks settings run                 list and quantile are right ("demand 2, after each draw")
 --   ListLaw settings coordinator        which items the list holds, and in which order
+--   ListSize settings run               how many items the list holds at most
 --   FewMessages settings run            demand 3: the three bounds on messages
+--   FirmMessages settings run           and one more, over the digits after the second
 --   Estimates settings run              how far estimates and total lag behind
 --   QuantilePromise settings run        all that is promised of the quantile
---   Cuts settings arrivals              a run cut into parts, and a run of what was accepted
+--   FirmQuantile settings run           the quantile is within 2e / 3, exact at first
 --   AfterEach settings arrivals n       the demands after the first n accepted arrivals
 use mathlib.Core.Path.{_≡_}
 use mathlib.Core.Bool.{Bool, true, false, _&&_, _||_}
-use mathlib.Core.List.{List, [], _∷_, _++_}
+use mathlib.Core.List.{List, [], _∷_}
 use Prim.Native.Nat.{ℕ, _+_, _-_, _*_, _≤_, _<_}
 use lib.Dec.{eqb, ltb}
 use lib.ListN.{length, getD, take}
@@ -22,11 +24,12 @@ use Rattle.model.specs.declared.Arrival.{Arrival}
 use Rattle.model.specs.declared.Phase.the-variants.{Idle}
 use Rattle.model.specs.declared.Quantile.the-variants.{Nothing, Value}
 use Rattle.model.specs.Refusals.{accepted}
-use Rattle.model.specs.Limits.{messagesPerArrival, allowanceFactor}
+use Rattle.model.specs.Limits.{topValue, messagesPerArrival, allowanceFactor, firmMessages, firmMessagesPerDigit}
 use Rattle.model.specs.Settings.{settingsRefusal, digits, allowance}
 use Rattle.model.specs.Coordinator.{Coordinator}
-use Rattle.model.specs.Reading.{isListed, heavyHitters, quantileOf}
-use Rattle.model.specs.Runs.{Run, runFrom, runOf}
+use Rattle.model.specs.Reading.{neededSide, isListed, heavyHitters, mostListed, quantileOf}
+use Rattle.model.specs.Runs.{Run, runOf}
+use Rattle.model.specs.Cuts.{Cuts}
 
 -- ---- Arrivals counted
 
@@ -73,6 +76,34 @@ pub record QuantilePromise (settings : Settings) (run : Run) : Type 0 where
       → 1000 * above value (run .accepted)
       ≤ (1000 - settings .rank + settings .epsilon) * counted (run .accepted)
 
+-- The quantile is firmer than "within e" asks: two thirds of e do, and while the threshold is 1 it
+-- is exact. (q is at most 1000, so 1000 - q and 3000 - 3q are true differences.)
+pub record FirmQuantile (settings : Settings) (run : Run) : Type 0 where
+  -- "Volume classes run from 0 to 1023."
+  pub value-known : (value : ℕ)
+      → quantileOf settings (run .network .coordinator) ≡ Value value
+      → value ≤ topValue
+  -- 1000 × (draws below it) ≤ (q + 2e / 3) × n, times 3
+  pub few-below : (value : ℕ)
+      → quantileOf settings (run .network .coordinator) ≡ Value value
+      → 3000 * below value (run .accepted)
+      ≤ (3 * settings .rank + 2 * settings .epsilon) * counted (run .accepted)
+  -- 1000 × (draws above it) ≤ (1000 - q + 2e / 3) × n, times 3
+  pub few-above : (value : ℕ)
+      → quantileOf settings (run .network .coordinator) ≡ Value value
+      → 3000 * above value (run .accepted)
+      ≤ (3000 - 3 * settings .rank + 2 * settings .epsilon) * counted (run .accepted)
+  -- while the threshold is 1, the least value with 1000 × (draws at or below it) ≥ q × n
+  pub exact-below : (value : ℕ)
+      → quantileOf settings (run .network .coordinator) ≡ Value value
+      → run .network .coordinator .threshold ≡ 1
+      → 1000 * below value (run .accepted) < settings .rank * counted (run .accepted)
+  pub exact-above : (value : ℕ)
+      → quantileOf settings (run .network .coordinator) ≡ Value value
+      → run .network .coordinator .threshold ≡ 1
+      → 1000 * above value (run .accepted)
+      ≤ (1000 - settings .rank) * counted (run .accepted)
+
 -- Demand 2 over runs: the list and the quantile are right.
 pub record Tracks (settings : Settings) (run : Run) : Type 0 where
   -- once there is a draw, a code with p thousandths of all draws, or more, is listed
@@ -112,6 +143,24 @@ pub record ListLaw (settings : Settings) (coordinator : Coordinator) : Type 0 wh
   pub empty-at-start : coordinator .total ≡ 0
       → heavyHitters settings coordinator ≡ []
 
+-- ---- The list's length
+
+-- How many items the list holds after a run. The differences are true ones: settings that pass have
+-- 2 ≤ e ≤ 1000 and e ≤ p. Before the first arrival the list is empty.
+pub record ListSize (settings : Settings) (run : Run) : Type 0 where
+  -- "2000 × its number ≥ (2p - e) × total" of each, and all their numbers are at most n
+  pub shares : length (heavyHitters settings (run .network .coordinator))
+      * neededSide settings (run .network .coordinator)
+      ≤ 2000 * counted (run .accepted)
+  -- and the total is at least (3000 - e) / 3000 of n
+  pub shares-of-all : length (heavyHitters settings (run .network .coordinator))
+      * ((2 * settings .phi - settings .epsilon) * (3000 - settings .epsilon))
+      ≤ 6000000
+  -- so a list of `mostListed` places never has "fewer places than codes listed"
+  pub at-most : length (heavyHitters settings (run .network .coordinator)) ≤ mostListed settings
+  -- nor has one of a thousand places, whatever the settings
+  pub at-most-thousand : length (heavyHitters settings (run .network .coordinator)) ≤ 1000
+
 -- ---- Messages
 
 -- Demand 3: the messages are few.
@@ -123,6 +172,13 @@ pub record FewMessages (settings : Settings) (run : Run) : Type 0 where
   pub per-arrival : length (run .messages) ≤ messagesPerArrival * counted (run .accepted)
   -- the allowance is that bound, divided by e
   pub within-allowance : length (run .messages) ≤ allowance settings (counted (run .accepted))
+
+-- Firmer than demand 3's bound over the digits: only those after the second cost more messages.
+-- With two digits or fewer (at most three arrivals) the difference is 0 and the first part enough.
+pub record FirmMessages (settings : Settings) (run : Run) : Type 0 where
+  pub within-later-digits : settings .epsilon * length (run .messages)
+      ≤ firmMessages * settings .sites
+      + firmMessagesPerDigit * (settings .sites * (digits (counted (run .accepted)) - 2))
 
 -- ---- Estimates
 
@@ -148,29 +204,7 @@ pub record Estimates (settings : Settings) (run : Run) : Type 0 where
       → (6 * settings .phi - 5 * settings .epsilon) * counted (run .accepted)
       ≤ 6000 * countOf item (run .accepted)
 
--- ---- Runs cut into parts
-
--- How a run over a list hangs together with runs over its parts.
-pub record Cuts (settings : Settings) (arrivals : List Arrival) : Type 0 where
-  -- a run goes on where its front ended
-  pub in-parts : (later : List Arrival)
-      → runOf settings (arrivals ++ later) ≡ runFrom settings (runOf settings arrivals) later
-  -- what a front accepted and sent stays, as the front of what the whole accepted and sent
-  pub accepted-stay : (later : List Arrival)
-      → take (length (runOf settings arrivals .accepted))
-      (runOf settings (arrivals ++ later) .accepted)
-      ≡ runOf settings arrivals .accepted
-  pub messages-stay : (later : List Arrival)
-      → take (length (runOf settings arrivals .messages))
-      (runOf settings (arrivals ++ later) .messages)
-      ≡ runOf settings arrivals .messages
-  -- refused arrivals leave no trace: the run over the accepted ones is the same run
-  pub refused-change-nothing : runOf settings (runOf settings arrivals .accepted)
-      ≡ runOf settings arrivals
-  -- and every front of the accepted arrivals is itself accepted whole
-  pub fronts-accepted : (n : ℕ)
-      → runOf settings (take n (runOf settings arrivals .accepted)) .accepted
-      ≡ take n (runOf settings arrivals .accepted)
+-- ---- The whole
 
 -- Demands 2 and 3 "after each draw": of the run over the first n accepted arrivals, which are
 -- accepted again, one and all.
@@ -181,8 +215,6 @@ pub record AfterEach (settings : Settings) (arrivals : List Arrival) (n : ℕ) :
   pub few-messages : FewMessages settings
       (runOf settings (take n (runOf settings arrivals .accepted)))
 
--- ---- The whole
-
 -- Demands 2 and 3 over runs: for all settings that pass their test and all lists of arrivals, each
 -- list from a fresh start.
 pub record DemandsOverRuns : Type 0 where
@@ -190,10 +222,18 @@ pub record DemandsOverRuns : Type 0 where
   pub tracks : (settings : Settings) (arrivals : List Arrival)
       → settingsRefusal settings ≡ accepted
       → Tracks settings (runOf settings arrivals)
+  -- the class, firmer than "within e"
+  pub firm-quantile : (settings : Settings) (arrivals : List Arrival)
+      → settingsRefusal settings ≡ accepted
+      → FirmQuantile settings (runOf settings arrivals)
   -- demand 3: the bounds on messages
   pub few-messages : (settings : Settings) (arrivals : List Arrival)
       → settingsRefusal settings ≡ accepted
       → FewMessages settings (runOf settings arrivals)
+  -- and firmer over the digits
+  pub firm-messages : (settings : Settings) (arrivals : List Arrival)
+      → settingsRefusal settings ≡ accepted
+      → FirmMessages settings (runOf settings arrivals)
   -- what both lean on
   pub estimates-near : (settings : Settings) (arrivals : List Arrival)
       → settingsRefusal settings ≡ accepted
@@ -201,6 +241,10 @@ pub record DemandsOverRuns : Type 0 where
   -- the list as it is handed out
   pub list-law : (settings : Settings) (coordinator : Coordinator)
       → ListLaw settings coordinator
+  -- how long a list must be
+  pub list-size : (settings : Settings) (arrivals : List Arrival)
+      → settingsRefusal settings ≡ accepted
+      → ListSize settings (runOf settings arrivals)
   -- parts of a list, and refused arrivals
   pub cuts : (settings : Settings) (arrivals : List Arrival)
       → Cuts settings arrivals

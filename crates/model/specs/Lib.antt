@@ -17,6 +17,7 @@ pub mod Reading
 pub mod Network
 pub mod NetworkMemory
 pub mod Runs
+pub mod Cuts
 pub mod Claims
 pub mod Transcript
 pub mod WorklistClaims
@@ -26,3 +27,4 @@ pub mod SoundNetwork
 pub mod DeliveryClaims
 pub mod SoundClaims
 pub mod NumberClaims
+pub mod Edges

@@ -31,9 +31,26 @@ messageLimit = 100000000000000
 abbrev pub mostMessages : ℕ → ℕ
 mostMessages sites = 23 * sites + 2
 
+-- "Full delivery": no delivery takes more steps, be they messages handed over or kinds 7 asked for:
+-- 23 × k + 2 messages, and the k kinds 7 are asked for besides.
+abbrev pub mostSteps : ℕ → ℕ
+mostSteps sites = 24 * sites + 2
+
 -- Demand 3: "messages ≤ 25 × n", and the factor of "e × messages ≤ 150,000 × k × (digits + 1)".
 abbrev pub messagesPerArrival : ℕ
 messagesPerArrival = 25
 
 abbrev pub allowanceFactor : ℕ
 allowanceFactor = 150000
+
+-- Firmer than demand 3's second bound, and proved beside it:
+-- e × messages ≤ 39,000 × k + (33,000 + 5500 × ρ) × k × (digits - 2), where ρ is what probing costs
+-- a site: "ten times", each with a kind 5 and its answer.
+abbrev pub probingMessages : ℕ
+probingMessages = 20
+
+abbrev pub firmMessages : ℕ
+firmMessages = 39000
+
+abbrev pub firmMessagesPerDigit : ℕ
+firmMessagesPerDigit = 33000 + 5500 * probingMessages

@@ -2,12 +2,13 @@
 --
 --   isListed settings c item          false at total 0
 --   heavyHitters settings c           the listed items in rising order
+--   mostListed settings               the places that a list needs after any run
 --   margin settings c item            the signed difference of the list rule's two sides
 --   quantileOf settings c             `Nothing` at threshold 1 and total 0
 use mathlib.Core.Bool.{Bool, true, false, _&&_}
 use mathlib.Core.List.{List, [], _∷_, _++_}
 use lib.IntN.{ℤ, pos, negsuc}
-use Prim.Native.Nat.{ℕ, zero, suc, _+_, _-_, _*_}
+use Prim.Native.Nat.{ℕ, zero, suc, _+_, _-_, _*_, _/_, min}
 use lib.Dec.{eqb, leb}
 use lib.ListN.{getD}
 use Rattle.model.specs.declared.Settings.{Settings}
@@ -37,6 +38,15 @@ listedFrom (suc more) item settings c =
 
 abbrev pub heavyHitters : Settings → Coordinator → List ℕ
 heavyHitters settings c = listedFrom (settings .universe) 0 settings c
+
+-- How many places a list needs so that it never has "fewer places than codes listed": an item is
+-- listed only with its share of the arrivals, and there are no more items than u. Neither number is
+-- always the lesser (the first is at most 1000, u may be 1 or 65,536), so a caller lends the lesser
+-- of the two. Settings that pass have 2 ≤ e ≤ 1000 and e ≤ p: both differences are true ones.
+abbrev pub mostListed : Settings → ℕ
+mostListed settings =
+    min (6000000 / ((2 * settings .phi - settings .epsilon) * (3000 - settings .epsilon)))
+    (settings .universe)
 
 -- x - y as an integer.
 abbrev pub difference : ℕ → ℕ → ℤ

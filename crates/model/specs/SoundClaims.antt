@@ -14,7 +14,7 @@ use Rattle.model.specs.declared.Settings.{Settings}
 use Rattle.model.specs.declared.Arrival.{Arrival}
 use Rattle.model.specs.declared.Message.{Message}
 use Rattle.model.specs.Refusals.{accepted}
-use Rattle.model.specs.Limits.{coordinatorLimit}
+use Rattle.model.specs.Limits.{coordinatorLimit, mostSteps}
 use Rattle.model.specs.Settings.{settingsRefusal}
 use Rattle.model.specs.Coordinator.{isAnnouncing}
 use Rattle.model.specs.Network.{Network, freshNetwork, siteAt, handOver, askAnnouncement, deliveryFuel, afterArrival}
@@ -61,6 +61,8 @@ pub record InMidDelivery (settings : Settings) (network : Network) (arrival : Ar
       ≤ countOfValue (afterArrival settings network arrival .network) value
   -- every delivery comes to its end: no order of steps has more than these
   pub few-steps : n ≤ deliveryFuel settings
+  -- nor than these, which are fewer still
+  pub firm-steps : n ≤ mostSteps (settings .sites)
   -- finished in the model's order, it comes to the model's network and messages
   pub finishes : outcome (deliverySteps (deliveryFuel settings) settings d)
       ≡ afterArrival settings network arrival

@@ -1,3 +1,4 @@
 -- Laws of the calls on sites.
 pub mod CallLaws
 pub mod StartLaws
+pub mod Edges

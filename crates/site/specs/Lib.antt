@@ -1,2 +1,3 @@
 -- What the calls on sites promise.
 pub mod Calls
+pub mod Edges

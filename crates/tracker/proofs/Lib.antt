@@ -9,3 +9,4 @@ pub mod Promised
 pub mod Reborrow
 pub mod Elem
 pub mod Tail
+pub mod Edges

@@ -1,2 +1,3 @@
 -- What the batch call promises.
 pub mod Batch
+pub mod Edges

@@ -1,0 +1,22 @@
+-- The chains of the calls on sites at the edge: each row by computation.
+use mathlib.Core.Path.{refl}
+use Rattle.model.specs.Limits.{valueCount}
+use Rattle.site.specs.Edges.{SiteCallEdges}
+
+pub site-call-edges : SiteCallEdges
+unfolding valueCount
+site-call-edges = record {
+  start-enough = refl;
+  start-short = refl;
+  start-three-before-four = refl;
+  start-clears = refl;
+  draw-accepted = refl;
+  draw-unknown-site = refl;
+  draw-four-before-eleven = refl;
+  draw-eleven-before-five = refl;
+  message-accepted = refl;
+  message-own-number = refl;
+  message-four-before-eleven = refl;
+  message-eleven-before-five = refl;
+  message-five-before-nine = refl;
+}

@@ -1,5 +1,5 @@
 -- Memory that arose is never refused, and so each call is refused by what the rules say of its
--- arrival or message alone. PROOF.md section 7, "Never 11".
+-- arrival or message alone. PROOF.md section 9, "Never 11".
 --
 --   held-sound, resting-of, sound-rest-of    what the invariant is worth: sound parts; at rest, the
 --                             model's run, which is sound

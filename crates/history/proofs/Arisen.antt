@@ -5,7 +5,6 @@
 --   Arisen, arisen         the invariant, some steps after the last arrival
 --   KeptFrom, kept-from    a fresh start, and what is held from it
 use mathlib.Core.Path.{_≡_, sym, subst}
-use mathlib.Core.List.{List}
 use Prim.Native.Nat.{ℕ, suc}
 use Rattle.model.specs.declared.Settings.{Settings}
 use Rattle.model.specs.Refusals.{accepted}

@@ -1,5 +1,5 @@
 -- A batch is a run over the arrivals that it accepts: its network, and its messages after those of
--- the run before it. PROOF.md section 7, "Every prefix".
+-- the run before it. PROOF.md section 7.
 --
 --   GoesOn settings run arrivals batch after   what a batch that goes on adds to batch and run
 --   batch-goes-on                              every batch does so

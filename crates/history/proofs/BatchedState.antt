@@ -1,5 +1,5 @@
 -- The state after a batch call at rest: at rest again, the model's run with the arrivals that the
--- batch accepted, and the messages of its log. PROOF.md section 7, "Histories".
+-- batch accepted, and the messages of its log. PROOF.md section 9, "The invariant".
 --
 --   batch-ok        the invariant of that state
 --   batch-resting   it is at rest

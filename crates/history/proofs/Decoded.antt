@@ -1,5 +1,5 @@
 -- The network that records and memory hold, after a call on one site was put back: that site and
--- nothing else has changed. PROOF.md section 7, "Frame".
+-- nothing else has changed. PROOF.md section 9, "Frame".
 --
 --   Lengths settings held        32 records, and memories that are long enough
 --   SitesSound settings held     each of the k sites that are held is sound

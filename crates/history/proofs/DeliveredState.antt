@@ -1,5 +1,5 @@
 -- The state after one step of delivery: the delivery goes on by one step of the model's, from any
--- sound network; and in a history the invariant is kept. PROOF.md section 7, "Histories".
+-- sound network; and in a history the invariant is kept. PROOF.md section 9, "The invariant".
 --
 --   delivered-on             the delivery, one step further
 --   StepKeeps, step-keeps    what every step of delivery keeps

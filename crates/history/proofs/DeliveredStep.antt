@@ -1,5 +1,5 @@
 -- One step of a delivery on records and memory is one step of the model's, from any sound network.
--- PROOF.md section 7, "Histories".
+-- PROOF.md section 9, "The invariant".
 --
 --   goes-on                  the delivery, once what is held is what the model's step leaves
 --   handed-on                the head of the queue handed over, in the model

@@ -23,7 +23,7 @@ use Rattle.site.specs.Calls.{ObserveSays}
 use Rattle.tracker_steps.specs.declared.BatchAnswer.{BatchAnswer}
 use Rattle.tracker.specs.Batch.{BatchLent, BatchSays}
 use Rattle.history.specs.State.{Held, State, recordAt, partOf, siteStart, Slices, fronts, lending}
-use Rattle.history.specs.Histories.{batchCall, batch, single, Delivers, to-coordinator, to-site, next-announcement, Refuses, arrival-refused, site-message-refused, coordinator-message-refused, announcement-refused, batch-accepts-nothing, Step, arrives, delivers, refuses, Reachable, started, stepped}
+use Rattle.history.specs.Histories.{batchCall, batch, single, to-coordinator, to-site, next-announcement, Refuses, arrival-refused, site-message-refused, coordinator-message-refused, announcement-refused, batch-accepts-nothing, Step, arrives, delivers, refuses, Reachable, started, stepped}
 use Rattle.history.specs.Given.{ofArrival, decidedCount, Handed, noDraw, drawHanded, batchHanded, sameSettings, ownDraw, ownBatch, handedRefused, givenBy, givenIn, AsGiven}
 use Rattle.history.proofs.Invariant.{StateOk, run-of-standing}
 use Rattle.history.proofs.Refused.{refused-same}

@@ -1,6 +1,6 @@
 -- Every delivery goes on until it has come to rest: the head of the queue is accepted, and so is
 -- the wish for a kind 7 while the coordinator announces; from any sound network as long as numbers
--- stay small, and so in a history. PROOF.md section 7, "Never 9 or 10".
+-- stay small, and so in a history. PROOF.md section 9, "Never 5, 6, 7, 9 or 10".
 --
 --   Further, further          what every step of delivery keeps, after so many steps
 --   coordinator-accepts, site-accepts, announcement-accepted   sound parts accept the next step
@@ -37,7 +37,7 @@ use Rattle.history.specs.First.{DeliveryGoesOn}
 use Rattle.history.proofs.RunSound.{sound-run}
 use Rattle.history.proofs.Decoded.{Lengths}
 use Rattle.history.proofs.Underway.{SoundParts, Underway, in-mid, parts-underway}
-use Rattle.history.proofs.Invariant.{StateOk, rest-of-standing, head-of-standing, few-of-standing}
+use Rattle.history.proofs.Invariant.{StateOk, rest-of-standing, head-of-standing, few-of-standing, firm-of-standing}
 use Rattle.history.proofs.SoundMemory.{coordinator-front, site-message-by-rules}
 use Rattle.history.proofs.Accepted.{held-sound}
 use Rattle.history.proofs.Refused.{refused-same}
@@ -169,6 +169,9 @@ module _ {settings : Settings} (passes : settingsRefusal settings ≡ accepted)
           few-steps = λ m after steps.
               let there = deliveries-on mid m after steps in
               omega (arith, there .in-all, in-mid passes (there .holds) .few-steps);
+          firm-steps = λ m after steps.
+              let there = deliveries-on mid m after steps in
+              omega (arith, there .in-all, in-mid passes (there .holds) .firm-steps);
         }
 
 -- ---- In a history
@@ -207,4 +210,7 @@ module _ {settings : Settings} (passes : settingsRefusal settings ≡ accepted)
         few-steps = λ m after steps.
             let there = deliveries-ok m after steps in
             omega (arith, there .in-all, few-of-standing passes (there .holds .standing));
+        firm-steps = λ m after steps.
+            let there = deliveries-ok m after steps in
+            omega (arith, there .in-all, firm-of-standing passes (there .holds .standing));
       }

@@ -1,6 +1,6 @@
 -- What holds of every state that a history reaches: it is at rest, and then the model's run over
 -- the arrivals accepted; or it is in mid-delivery, after so many steps from the run before the
--- arrival. PROOF.md section 7, "Histories".
+-- arrival. PROOF.md section 9, "The invariant".
 --
 --   Resting, Delivering, Standing    where a state stands
 --   StateOk settings n state         the invariant, n steps after the last arrival
@@ -19,6 +19,7 @@ use Rattle.model.specs.declared.Settings.{Settings}
 use Rattle.model.specs.declared.Arrival.{Arrival}
 use Rattle.model.specs.declared.Message.{Message}
 use Rattle.model.specs.Refusals.{accepted}
+use Rattle.model.specs.Limits.{mostSteps}
 use Rattle.model.specs.Settings.{settingsRefusal}
 use Rattle.model.specs.Coordinator.{isAnnouncing}
 use Rattle.model.specs.Network.{Delivered, deliveryFuel}
@@ -200,3 +201,8 @@ module _ {settings : Settings} (passes : settingsRefusal settings ≡ accepted)
     pub few-of-standing : Standing settings n state → n ≤ deliveryFuel settings
     few-of-standing (resting none rest) = omega arith
     few-of-standing (delivering mid) = in-mid passes (mid .underway) .few-steps
+
+    -- Nor than 24 × k + 2.
+    pub firm-of-standing : Standing settings n state → n ≤ mostSteps (settings .sites)
+    firm-of-standing (resting none rest) = omega arith
+    firm-of-standing (delivering mid) = in-mid passes (mid .underway) .firm-steps

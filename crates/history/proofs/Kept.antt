@@ -1,5 +1,5 @@
 -- What each step of a history leaves as it was: what lies past the network, and, of a single
--- arrival, all other sites. PROOF.md section 7, "Frame".
+-- arrival, all other sites. PROOF.md section 9, "Frame".
 --
 --   others-kept, single-kept, delivery-kept   a single arrival, and a step of its delivery, from
 --                                             any sound network

@@ -4,13 +4,12 @@
 --   nothing-lost     the claim
 use mathlib.Core.Path.{_≡_, refl, sym, ap, _∙_}
 use mathlib.Core.Bool.{Bool, true, false}
-use mathlib.Core.List.{List, []}
+use mathlib.Core.List.{[]}
 use Prim.Native.Nat.{ℕ, suc}
 use lib.ListN.{length, drop, take-append-drop}
 use lib.Seq.{drop-length}
 use borrow.Author.Tests.{eqb-true, eqb-false}
 use Rattle.model.specs.declared.Settings.{Settings}
-use Rattle.model.specs.declared.Arrival.{Arrival}
 use Rattle.model.specs.Choice.{if_then_else_, isZero}
 use Rattle.model.specs.Refusals.{accepted}
 use Rattle.model.specs.NetworkMemory.{networkIn}
@@ -18,7 +17,7 @@ use Rattle.tracker_steps.specs.declared.BatchAnswer.{BatchAnswer}
 use Rattle.tracker.specs.Batch.{BatchCall, BatchLent, BatchSays, startRefusal, logRoom}
 use Rattle.history.specs.State.{State}
 use Rattle.history.specs.Histories.{batch, single, Refuses, arrival-refused, site-message-refused, coordinator-message-refused, announcement-refused, batch-accepts-nothing, Step, arrives, delivers, refuses}
-use Rattle.history.specs.Given.{ofArrival, decidedCount, keptOut, Handed, noDraw, batchHanded, ownDraw, ownBatch, handedRefused, handedBy, refusalOfRefused, keptOutBy, refusalBy, NothingLost}
+use Rattle.history.specs.Given.{ofArrival, decidedCount, keptOut, Handed, noDraw, batchHanded, ownBatch, handedRefused, handedBy, refusalOfRefused, keptOutBy, refusalBy, NothingLost}
 use Rattle.history.proofs.Answers.{accepted-choice, refused-choice}
 use Rattle.history.proofs.BatchStops.{runAt, batch-stops}
 

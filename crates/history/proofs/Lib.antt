@@ -34,7 +34,9 @@ pub mod DeliveredState
 pub mod GoesOn
 pub mod Kept
 pub mod FromStart
+pub mod ListReading
 pub mod Readings
+pub mod FewFollow
 pub mod SiteArrivals
 pub mod Arisen
 pub mod RefusedDraws
@@ -42,3 +44,4 @@ pub mod GivenDraws
 pub mod KeptOut
 pub mod Theorem
 pub mod Example
+pub mod ExampleHistory

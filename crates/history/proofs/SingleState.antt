@@ -1,5 +1,5 @@
 -- The state after a single arrival at rest: the first stage of the delivery that it sets off, from
--- any sound network; and in a history the invariant. PROOF.md section 7, "Histories".
+-- any sound network; and in a history the invariant. PROOF.md section 9, "The invariant".
 --
 --   after-is, begins   the state, by the model's step, and the delivery
 --   single-ok          the invariant of that state

@@ -11,7 +11,7 @@ use Rattle.model.specs.declared.Arrival.{Arrival}
 use Rattle.model.specs.Refusals.{when, _orElse_, accepted, siteFull}
 use Rattle.model.specs.Limits.{siteLimit}
 use Rattle.model.specs.Settings.{settingsRefusal}
-use Rattle.model.specs.Site.{Site, addressRefusal, arrivalRefusal}
+use Rattle.model.specs.Site.{addressRefusal, arrivalRefusal}
 use Rattle.model.specs.Network.{Network, Delivered, siteAt, deliveryFuel}
 use Rattle.model.specs.Runs.{Run, runOf}
 use Rattle.model.specs.DeliveryClaims.{delivery}

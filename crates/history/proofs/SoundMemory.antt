@@ -1,5 +1,5 @@
 -- Records and memory that hold sound parts are never refused, arisen or not: each call is refused
--- by what the rules say of its arrival or message alone. PROOF.md section 7, "Never 11".
+-- by what the rules say of its arrival or message alone. PROOF.md section 9, "Never 11".
 --
 --   coordinator-accepted, coordinator-front    the coordinator's own memory, and a front of it
 --   site-accepted                              a site's own record and part

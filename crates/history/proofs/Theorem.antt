@@ -4,7 +4,7 @@
 --   demands     the theorem
 use mathlib.Core.Path.{_≡_, sym, ap, _∙_, subst}
 use mathlib.Core.List.{List}
-use Prim.Native.Nat.{_+_, _*_, _≤_}
+use Prim.Native.Nat.{_+_, _-_, _*_, _≤_}
 use native.Mathlib.Nat.{mul-le-mul-left}
 use native.Mathlib.Omega.{arith}
 use lib.ListN.{length, take, drop, length-append, take-append-drop}
@@ -12,7 +12,7 @@ use lib.Seq.{take-append-seam}
 use Rattle.model.specs.declared.Settings.{Settings}
 use Rattle.model.specs.declared.Arrival.{Arrival}
 use Rattle.model.specs.Refusals.{accepted}
-use Rattle.model.specs.Limits.{messagesPerArrival, allowanceFactor}
+use Rattle.model.specs.Limits.{messagesPerArrival, allowanceFactor, firmMessages, firmMessagesPerDigit}
 use Rattle.model.specs.Settings.{settingsRefusal, digits, allowance}
 use Rattle.model.specs.Network.{Network}
 use Rattle.model.specs.Runs.{Run, runOf}
@@ -28,6 +28,7 @@ use Rattle.history.specs.Demands.{Demands}
 use Rattle.history.proofs.Invariant.{BeginsRun, run-of-standing}
 use Rattle.history.proofs.Accepted.{memory-accepted, refused-by-rules, resting-of, sound-rest-of}
 use Rattle.history.proofs.Readings.{reads-right}
+use Rattle.history.proofs.FewFollow.{few-follow}
 use Rattle.history.proofs.Refused.{refused-same}
 use Rattle.history.proofs.GoesOn.{delivery-goes-on}
 use Rattle.history.proofs.Kept.{tails-kept, others-kept}
@@ -130,13 +131,25 @@ module _ (settings : Settings) (state : State) (passes : settingsRefusal setting
       let allowance-bound = subst (λ (arrivals : List Arrival).
       length (run .messages) ≤ allowance settings (counted arrivals)) over
       (few .within-allowance) in
+      let firm-bound = subst (λ (arrivals : List Arrival).
+      settings .epsilon * length (run .messages)
+      ≤ firmMessages * settings .sites
+      + firmMessagesPerDigit * (settings .sites * (digits (counted arrivals) - 2)))
+      over
+      (demands-over-runs .firm-messages settings (state .accepted) passes
+      .within-later-digits) in
       record {
         within-digits =
             omega (arith, mul-le-mul-left (settings .epsilon) no-more, digits-bound);
         per-arrival = omega (arith, no-more, arrivals-bound);
         within-allowance = omega (arith, no-more, allowance-bound);
+        within-later-digits =
+            omega (arith, mul-le-mul-left (settings .epsilon) no-more, firm-bound);
         few-messages-after-each = λ n.
             demands-over-runs .few-messages settings (take n (state .accepted)) passes;
+        firm-messages-after-each = λ n.
+            demands-over-runs .firm-messages settings (take n (state .accepted)) passes;
+        few-follow = few-follow settings passes (state .accepted);
         count-is-sum = there .ok .count-is-sum;
       }
 

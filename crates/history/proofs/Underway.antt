@@ -1,5 +1,6 @@
 -- A delivery under way on records and memory, from any sound network, arisen or not: what the model
--- claims in mid-delivery (`SoundClaims`), said of what is held. PROOF.md section 7, "Histories".
+-- claims in mid-delivery (`SoundClaims`), said of what is held. PROOF.md section 9, "The
+-- invariant".
 --
 --   SoundRest settings state     nothing waits, and what is held is a sound network
 --   Underway settings origin arrival past n state

@@ -18,6 +18,7 @@ use Rattle.model.specs.declared.Arrival.{Arrival}
 use Rattle.model.specs.declared.Message.{Message}
 use Rattle.model.specs.declared.Phase.the-variants.{Idle}
 use Rattle.model.specs.Refusals.{when, accepted, unknownItem, listTooShort}
+use Rattle.model.specs.Limits.{mostSteps}
 use Rattle.model.specs.Messages.{toCoordinator}
 use Rattle.model.specs.Site.{arrivalRefusal, siteMessageRefusal}
 use Rattle.model.specs.SiteMemory.{siteWords, siteMemoryRefusal}
@@ -33,7 +34,7 @@ use Rattle.reading.specs.Contracts.{marginRefusal}
 use Rattle.listing.specs.Contracts.{listRefusal}
 use Rattle.tracker_steps.specs.declared.BatchAnswer.{BatchAnswer}
 use Rattle.tracker.specs.Batch.{BatchLent, BatchSays, logRoom}
-use Rattle.history.specs.State.{Held, State, AtRest, networkOf, recordAt, partOf, sitePart, coordinatorPart, fronts, lending}
+use Rattle.history.specs.State.{State, AtRest, networkOf, recordAt, partOf, sitePart, coordinatorPart, fronts, lending}
 use Rattle.history.specs.Histories.{batchCall, Refuses, Deliveries}
 
 -- Memory that arose is never refused: neither 4 nor 11, nor 1, 2 or 3.
@@ -147,6 +148,10 @@ pub record DeliveryGoesOn (settings : Settings) (state : State) : Type 0 where
   pub few-steps : (n : ℕ) (after : State)
       → Deliveries settings state n after
       → n ≤ deliveryFuel settings
+  -- nor than these, which are fewer still: 24 × k + 2
+  pub firm-steps : (n : ℕ) (after : State)
+      → Deliveries settings state n after
+      → n ≤ mostSteps (settings .sites)
 
 -- Demand 1: what is in order is accepted, and what is not is refused by its own number.
 pub record First (settings : Settings) (state : State) : Type 0 where

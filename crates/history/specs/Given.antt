@@ -22,7 +22,7 @@ use Rattle.model.specs.Refusals.{accepted, unknownSite, siteFull}
 use Rattle.model.specs.Runs.{runOf}
 use Rattle.tracker_steps.specs.declared.BatchAnswer.{BatchAnswer}
 use Rattle.history.specs.State.{State, siteStart, Slices}
-use Rattle.history.specs.Histories.{Arrives, batch, single, Refuses, arrival-refused, site-message-refused, coordinator-message-refused, announcement-refused, batch-accepts-nothing, Step, arrives, delivers, refuses, Reachable, started, stepped}
+use Rattle.history.specs.Histories.{batch, single, Refuses, arrival-refused, site-message-refused, coordinator-message-refused, announcement-refused, batch-accepts-nothing, Step, arrives, delivers, refuses, Reachable, started, stepped}
 
 -- ---- What a call decides on
 

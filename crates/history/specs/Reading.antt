@@ -16,7 +16,8 @@ use Rattle.model.specs.declared.Quantile.the-variants.{Nothing, Value}
 use Rattle.model.specs.Refusals.{accepted, unknownItem, listTooShort}
 use Rattle.model.specs.Coordinator.{Coordinator}
 use Rattle.model.specs.CoordinatorMemory.{coordinatorWords}
-use Rattle.model.specs.Reading.{heavyHitters, margin, quantileOf}
+use Rattle.model.specs.Limits.{topValue}
+use Rattle.model.specs.Reading.{neededSide, heavyHitters, mostListed, margin, quantileOf}
 use Rattle.model.specs.Runs.{runOf}
 use Rattle.model.specs.Claims.{counted, countOf, below, above, contains}
 use Rattle.reading.specs.declared.Margin.{Margin}
@@ -67,6 +68,19 @@ pub record ListRight (settings : Settings) (state : State) (before after : List 
       → (i : ℕ)
       → i + 1 < length (listedIn answer after)
       → getD (listedIn answer after) i 0 < getD (listedIn answer after) (i + 1) 0
+  -- (codes listed) × (2p - e) × total ≤ 2000 × n
+  pub shares : answer .count * neededSide settings (rulesCoordinator settings state)
+      ≤ 2000 * counted (state .accepted)
+  -- hence (codes listed) × (2p - e) × (3000 - e) ≤ 6,000,000
+  pub shares-of-all : answer .count
+      * ((2 * settings .phi - settings .epsilon) * (3000 - settings .epsilon))
+      ≤ 6000000
+  -- so a list of so many places is never refused by 12
+  pub never-too-short : mostListed settings ≤ length before
+      → answer .refusal ≡ accepted
+  -- nor is one of a thousand, whatever the settings
+  pub thousand-places : 1000 ≤ length before
+      → answer .refusal ≡ accepted
 
 -- ---- The margin
 
@@ -103,6 +117,29 @@ pub record QuantileRight (settings : Settings) (state : State) (answer : Quantil
       → answer .quantile ≡ Value value
       → 1000 * above value (state .accepted)
       ≤ (1000 - settings .rank + settings .epsilon) * counted (state .accepted)
+  -- "Volume classes run from 0 to 1023."
+  pub value-known : (value : ℕ)
+      → answer .quantile ≡ Value value
+      → value ≤ topValue
+  -- firmer than "within e": two thirds of e do
+  pub firm-below : (value : ℕ)
+      → answer .quantile ≡ Value value
+      → 3000 * below value (state .accepted)
+      ≤ (3 * settings .rank + 2 * settings .epsilon) * counted (state .accepted)
+  pub firm-above : (value : ℕ)
+      → answer .quantile ≡ Value value
+      → 3000 * above value (state .accepted)
+      ≤ (3000 - 3 * settings .rank + 2 * settings .epsilon) * counted (state .accepted)
+  -- and while the threshold is 1 it is the least value with 1000 × (draws at or below it) ≥ q × n
+  pub exact-below : (value : ℕ)
+      → answer .quantile ≡ Value value
+      → state .held .coordinator .threshold ≡ 1
+      → 1000 * below value (state .accepted) < settings .rank * counted (state .accepted)
+  pub exact-above : (value : ℕ)
+      → answer .quantile ≡ Value value
+      → state .held .coordinator .threshold ≡ 1
+      → 1000 * above value (state .accepted)
+      ≤ (1000 - settings .rank) * counted (state .accepted)
 
 -- ---- All three
 

@@ -47,12 +47,14 @@ example =
 -- Item 10 and site 1 are none: 6 and 5. Of the batch 14 stopped the second draw.
 pub example-given : givenIn example
     ≡ arrivalWith 0 10 3 ∷ (draw ∷ (arrivalWith 1 7 3 ∷ (draw ∷ [])))
-unfolding example begins draw-refused draw-accepted message-refused slice-refused draw-refused-underway batch-stopped
+unfolding example begins draw-refused draw-accepted message-refused slice-refused
+    draw-refused-underway batch-stopped
 example-given = refl
 
 -- Which no rule was asked about.
 pub example-kept-out : keptOutIn example ≡ draw ∷ []
-unfolding example begins draw-refused draw-accepted message-refused slice-refused draw-refused-underway batch-stopped
+unfolding example begins draw-refused draw-accepted message-refused slice-refused
+    draw-refused-underway batch-stopped
 example-kept-out = refl
 
 -- ---- A reading: "listed 7", "class 3"

@@ -8,21 +8,20 @@
 --   observed-grows           an arrival makes no counter fewer at its site
 --   NoFewer before after     each site has as many counters or more
 --   run-no-fewer             after every list of arrivals
-use mathlib.Core.Path.{_≡_, refl, sym, ap, _∙_}
-use mathlib.Core.Bool.{Bool, true, false}
+use mathlib.Core.Path.{_≡_, refl, ap, _∙_}
 use mathlib.Core.List.{List, [], _∷_}
-use Prim.Native.Nat.{ℕ, zero, suc, _+_, _≤_}
+use Prim.Native.Nat.{ℕ, zero, suc, _≤_}
 use native.Mathlib.Omega.{arith}
 use lib.ListN.{length, getD, set, length-set, length-append}
 use Rattle.model.specs.declared.Settings.{Settings}
 use Rattle.model.specs.declared.Arrival.{Arrival}
 use Rattle.model.specs.declared.Message.{Message}
-use Rattle.model.specs.Choice.{if_then_else_, isZero}
+use Rattle.model.specs.Choice.{isZero}
 use Rattle.model.specs.Messages.{toCoordinator, isPoll, isProbe}
 use Rattle.model.specs.Counters.{Counter, counterAt, Placement, own, unused, replaced, oneMoreOf, firstOf, replacing, countersAfter, afterReport}
 use Rattle.model.specs.Site.{Site, SiteStep, freshSite, placementIn, placeFor, countersWith, reportsItem, observed, siteReceives}
 use Rattle.model.specs.Coordinator.{isAnnouncing}
-use Rattle.model.specs.Network.{Network, Delivered, siteAt, withSite, handOver, handToCoordinator, handToSite, deliveryFuel, afterArrival}
+use Rattle.model.specs.Network.{Network, Delivered, siteAt, handToCoordinator, handToSite, deliveryFuel, afterArrival}
 use Rattle.model.specs.Runs.{refusalIn, Run, withArrival, runOne, runFrom}
 use Rattle.model.specs.DeliveryClaims.{Delivery, delivery, deliveryStep, deliverySteps, deliveryOf}
 use Rattle.model.proofs.DeliveryTheorem.{delivery-claims}

@@ -13,7 +13,7 @@ use lib.Seq.{take-append-le, drop-append-le, take-at, drop-at}
 use Rattle.model.specs.declared.Settings.{Settings}
 use Rattle.model.specs.declared.SiteRecord.{SiteRecord}
 use Rattle.model.specs.Site.{Site}
-use Rattle.model.specs.SiteMemory.{siteWords, siteIn, siteMemory}
+use Rattle.model.specs.SiteMemory.{siteWords, siteMemory}
 use Rattle.model.specs.NetworkMemory.{sitesIn, sitesMemory}
 use Rattle.model.proofs.NeverFewer.{NoFewer, no-fewer-later}
 use Rattle.network_memory.proofs.OneSite.{siteIn-front, siteMemory-again}

@@ -5,6 +5,7 @@ pub mod Sites
 pub mod Coordinators
 pub mod Networks
 pub mod Memories
+pub mod Steps
 pub mod Readings
 pub mod Worklists
 use Rattle.model.specs.Edges.{Edges}
@@ -14,6 +15,7 @@ use Rattle.model.proofs.Edges.Sites.{site-memory, arrivals, site-messag
 use Rattle.model.proofs.Edges.Coordinators.{coordinator-memory, coordinator-messages}
 use Rattle.model.proofs.Edges.Networks.{network-memory, batches}
 use Rattle.model.proofs.Edges.Memories.{memories}
+use Rattle.model.proofs.Edges.Steps.{draws, steps}
 use Rattle.model.proofs.Edges.Readings.{readings}
 use Rattle.model.proofs.Edges.Worklists.{lines, program}
 
@@ -30,6 +32,8 @@ edges = record {
   network-memory = network-memory;
   batches = batches;
   memories = memories;
+  draws = draws;
+  steps = steps;
   readings = readings;
   lines = lines;
   program = program;

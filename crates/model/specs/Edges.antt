@@ -2,7 +2,8 @@
 -- text for what those leave open. The constants of limits and claims; each refusal number on one
 -- input; for each neighbouring pair of each chain of refusals an input that deserves both; lengths
 -- exactly enough and one short; limits at and one past. The theorem `edges` of proofs/Edges.antt
--- proves them all. Chains of calls that stand above this crate have small tables of their own there.
+-- proves them all. The chains of calls, which stand in crates above this one, have small tables of
+-- their own there.
 pub mod Inputs
 pub mod Constants
 pub mod Settings
@@ -10,6 +11,7 @@ pub mod Sites
 pub mod Coordinators
 pub mod Networks
 pub mod Memories
+pub mod Steps
 pub mod Readings
 pub mod Worklists
 use Rattle.model.specs.Edges.Constants.{ConstantEdges}
@@ -18,6 +20,7 @@ use Rattle.model.specs.Edges.Sites.{SiteMemoryEdges, ArrivalEdges, SiteM
 use Rattle.model.specs.Edges.Coordinators.{CoordinatorMemoryEdges, CoordinatorMessageEdges}
 use Rattle.model.specs.Edges.Networks.{NetworkEdges, BatchEdges}
 use Rattle.model.specs.Edges.Memories.{MemoryEdges}
+use Rattle.model.specs.Edges.Steps.{DrawEdges, StepEdges}
 use Rattle.model.specs.Edges.Readings.{ReadingEdges}
 use Rattle.model.specs.Edges.Worklists.{LineEdges, ProgramEdges}
 
@@ -39,6 +42,9 @@ pub record Edges : Type 0 where
   pub batches : BatchEdges
   -- what stands where in lent memory
   pub memories : MemoryEdges
+  -- one draw, and one message in each phase
+  pub draws : DrawEdges
+  pub steps : StepEdges
   -- list, margin and class
   pub readings : ReadingEdges
   -- 13; the program's limits

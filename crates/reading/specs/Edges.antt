@@ -1,5 +1,5 @@
--- The margin's chain at the edge: code u - 1 and code u, and 11 before 6. (What it is made of stands
--- in crate `model`'s specs/Edges.)
+-- The margin's chain at the edge: code u - 1 and code u, and 11 before 6. (What it is made of
+-- stands in crate `model`'s specs/Edges.)
 use mathlib.Core.Path.{_≡_}
 use lib.ListN.{replicate}
 use Rattle.model.specs.declared.Phase.the-variants.{Idle}

@@ -15,6 +15,7 @@ network-memory = record {
   not-idle = refl;
   threshold-first = refl;
   threshold-last = refl;
+  threshold-lower = refl;
   all-counted = refl;
   pending-lost = refl;
   total-more = refl;

@@ -136,7 +136,9 @@ pub record CoordinatorMessageEdges : Type 0 where
   pub probed-1024 : refusalAt 2 probingOne (probeAnswer 1 1024 5) ≡ 7
   -- "1 and 2 other than the threshold", and b of kind 2 "class if threshold 1, else 0"
   pub item-amount : refusalAt 1 Idle (itemReport 1 9 2) ≡ 10
+  pub item-amount-less : refusalAt 2 Idle (itemReport 1 9 1) ≡ 10
   pub count-amount : refusalAt 1 Idle (countReport 1 2 3) ≡ 10
+  pub count-amount-less : refusalAt 2 Idle (countReport 1 1 0) ≡ 10
   pub count-two : refusalAt 2 Idle (countReport 1 2 0) ≡ 0
   pub count-class : refusalAt 2 Idle (countReport 1 2 1) ≡ 10
   pub count-class-1024 : refusalAt 2 Idle (countReport 1 2 1024) ≡ 10
@@ -144,7 +146,9 @@ pub record CoordinatorMessageEdges : Type 0 where
   pub poll-threshold : refusalAt 2 (Collecting 1) (pollAnswer 1 2) ≡ 10
   pub poll-b : refusalAt 2 (Collecting 1) (message 4 1 1 1) ≡ 10
   -- "6 for another class or above 1,000,000,000"
-  pub probed-other : refusalAt 2 probingOne (probeAnswer 1 512 5) ≡ 10
+  pub probed-less : refusalAt 2 probingOne (probeAnswer 1 510 5) ≡ 10
+  pub probed-more : refusalAt 2 probingOne (probeAnswer 1 512 5) ≡ 10
+  pub probed-1023 : refusalAt 2 probingOne (probeAnswer 1 1023 5) ≡ 10
   pub probed-limit : refusalAt 2 probingOne (probeAnswer 1 511 1000000000) ≡ 0
   pub probed-above : refusalAt 2 probingOne (probeAnswer 1 511 1000000001) ≡ 10
   -- "for a message 5, 9, 6, 7, 10, with 6 and 7 only where the message table gives a code or a

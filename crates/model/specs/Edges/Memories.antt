@@ -1,5 +1,5 @@
--- What stands where in lent memory, read and written: slots, class counts, estimates, one site after
--- another; what is past them, and what is not used, stays.
+-- What stands where in lent memory, read and written: slots, class counts, estimates, one site
+-- after another; what is past them, and what is not used, stays.
 use mathlib.Core.Path.{_≡_}
 use mathlib.Core.List.{List, [], _∷_, _++_}
 use Prim.Native.Nat.{ℕ}
@@ -53,7 +53,8 @@ pub record MemoryEdges : Type 0 where
   pub site-written : siteMemory settingsA (siteWith 12) (replicate 1050 7)
       ≡ numbersWith 12 ++ (7 ∷ 7 ∷ [])
   -- the coordinator: "a number for each code and 1024 class counts"
-  pub coordinator-record : coordinatorRecord coordinatorWith ≡ coordinatorNumbers 42 43 44 45 46 Idle
+  pub coordinator-record :
+      coordinatorRecord coordinatorWith ≡ coordinatorNumbers 42 43 44 45 46 Idle
   pub coordinator-read : coordinatorIn settingsP6 (coordinatorNumbers 42 43 44 45 46 Idle)
       (estimates ++ endCounts 40 41 ++ (7 ∷ []))
       ≡ coordinatorWith

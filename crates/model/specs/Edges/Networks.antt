@@ -37,6 +37,8 @@ pub record NetworkEdges : Type 0 where
       (siteNumbers 0 0 1 0) (endCounts 0 0) 0 freshNumbers ≡ 11
   pub threshold-last : networkRefusalOf (siteNumbers 0 0 1 0) (endCounts 0 0)
       (siteNumbers 0 0 2 0) (endCounts 0 0) 0 freshNumbers ≡ 11
+  pub threshold-lower : networkRefusalOf (siteNumbers 60 0 2 0) (endCounts 60 0)
+      (siteNumbers 60 0 1 0) (endCounts 60 0) 0 (coordinatorNumbers 120 120 2 0 3 Idle) ≡ 11
   -- "total plus all pendings other than all draws": 120 and 1 are 121
   pub all-counted : networkRefusalOf (siteNumbers 60 0 2 0) (endCounts 60 0)
       (siteNumbers 61 1 2 0) (endCounts 61 0) 0 (coordinatorNumbers 120 120 2 0 3 Idle) ≡ 0

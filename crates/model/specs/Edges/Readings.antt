@@ -10,7 +10,7 @@ use Rattle.model.specs.declared.Quantile.the-variants.{Nothing, Value}
 use Rattle.model.specs.Settings.{settingsWith}
 use Rattle.model.specs.Reading.{isListed, heavyHitters, mostListed, margin, quantileOf}
 use Rattle.model.specs.Instances.{settingsA, settingsP6, arrivalWith, draws, coordinatorAfter}
-use Rattle.model.specs.Edges.Inputs.{ofItem, coordinatorAt}
+use Rattle.model.specs.Edges.Inputs.{settingsTwo, drawAt, ofItem, coordinatorAt}
 
 -- "1;800;800;500;8;10", and 36 draws, twelve of each of three codes.
 abbrev pub settings800 : Settings
@@ -24,6 +24,10 @@ thirtySix =
 -- Settings A with e 999: the list rule asks 2000 × a code's number ≥ 1001 × total.
 abbrev pub settings999 : Settings
 settings999 = settingsWith 1 999 1000 500 7 10
+
+-- Two sites: a close after two draws of code 7, and one more draw of code 8; total 3, base 2.
+abbrev pub sinceClose : List Arrival
+sinceClose = arrivalWith 0 7 3 ∷ arrivalWith 1 7 9 ∷ arrivalWith 0 8 20 ∷ []
 
 -- A draw each of the codes 7 and 8.
 abbrev pub twoCodes : List Arrival
@@ -49,6 +53,13 @@ pub record ReadingEdges : Type 0 where
   -- "if total ≥ 1": at total 0 both sides are 0, and nothing is listed
   pub listed-at-0 : isListed settingsA (coordinatorAfter settingsA []) 7 ≡ false
   pub margin-at-0 : margin settingsA (coordinatorAfter settingsA []) 7 ≡ pos 0
+  -- the total, not the base, is what list and class go by: before the first close, and after one
+  pub listed-first : heavyHitters settingsTwo (coordinatorAfter settingsTwo (drawAt 0 ∷ []))
+      ≡ 7 ∷ []
+  pub class-first : quantileOf settingsTwo (coordinatorAfter settingsTwo (drawAt 0 ∷ [])) ≡ Value 3
+  pub listed-since : heavyHitters settingsTwo (coordinatorAfter settingsTwo sinceClose) ≡ 7 ∷ []
+  pub margin-since : margin settingsTwo (coordinatorAfter settingsTwo sinceClose) 8 ≡ negsuc 999
+  pub class-since : quantileOf settingsTwo (coordinatorAfter settingsTwo sinceClose) ≡ Value 9
   -- "later the record's class, which is set when a halving ends"
   pub later-class : quantileOf settingsA (coordinatorAfter settingsA (draws 6)) ≡ Value 3
   pub later-record : quantileOf settingsP6 (coordinatorAt 2 Idle) ≡ Value 0

@@ -1,25 +1,19 @@
--- What an arrival at its site comes to: two messages at most, which go out, and never fewer
--- counters.
+-- What an arrival at its site comes to: two messages at most, which go out.
 --
---   messages-two, holds-two   its messages
---   observed-grows            its counters
+--   messages-two, holds-two
 use mathlib.Core.Path.{_≡_, refl}
 use mathlib.Core.Bool.{Bool, true, false}
 use mathlib.Core.List.{List, [], _∷_, _++_}
 use Prim.Native.Nat.{ℕ, _*_, _≤_}
 use native.Mathlib.Omega.{arith}
-use lib.ListN.{length, getD, length-set, length-append}
-use Rattle.laws.proofs.Lists.{length-snoc}
+use lib.ListN.{length, getD, length-append}
 use Rattle.model.specs.declared.Settings.{Settings}
 use Rattle.model.specs.declared.Arrival.{Arrival}
 use Rattle.model.specs.declared.Message.{Message}
 use Rattle.model.specs.Messages.{noMessage}
-use Rattle.model.specs.Counters.{Counter, counterAt, Placement, own, unused, replaced, oneMoreOf, firstOf, replacing, countersAfter}
-use Rattle.model.specs.Site.{Site, observed, placementIn, reportsItem, reportsCount}
-use Rattle.model.specs.SiteMemory.{siteMemory}
+use Rattle.model.specs.Site.{Site, observed, reportsItem, reportsCount}
 use Rattle.model.specs.Network.{Network}
 use Rattle.model.specs.DeliveryClaims.{delivery}
-use Rattle.site_steps.proofs.ObserveMemory.{length-countersReported}
 use Rattle.sending.specs.Sending.{sentTwo, loggedTwo}
 use Rattle.delivery.specs.UnderwayParts.{trafficOf, withTraffic}
 use Rattle.delivery.specs.Holding.{Given, State, state, Holds}
@@ -69,22 +63,3 @@ holds-two {earlier = earlier} (x ∷ (y ∷ [])) count first second holds few co
     (omega (arith, length-append earlier (x ∷ (y ∷ [])), length-append earlier (x ∷ []))))
 holds-two (x ∷ (y ∷ (z ∷ out))) count first second holds few count-is first-is second-is room =
     absurd (omega arith)
-
--- ---- The counters of a site never become fewer
-
-counters-grow : (placement : Placement) (counters : List Counter) (item : ℕ)
-    → length counters ≤ length (countersAfter placement counters item)
-counters-grow (own place) counters item =
-    omega (arith, length-set counters place (oneMoreOf (counterAt counters place)))
-counters-grow unused counters item = rw (length-snoc counters (firstOf item)) (omega arith)
-counters-grow (replaced place) counters item =
-    omega (arith, length-set counters place (replacing (counterAt counters place) item))
-
-pub observed-grows : (settings : Settings) (site : Site) (arrival : Arrival)
-    → length (site .counters) ≤ length (observed settings site arrival .site .counters)
-observed-grows settings site arrival =
-    omega (
-      arith,
-      length-countersReported settings site arrival,
-      counters-grow (placementIn settings site arrival) (site .counters) (arrival .item),
-    )

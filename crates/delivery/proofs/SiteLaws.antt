@@ -17,6 +17,7 @@ use Rattle.model.specs.SiteMemory.{siteWords, siteIn, siteRecord, siteMemory}
 use Rattle.model.specs.Network.{siteAt}
 use Rattle.model.specs.NetworkMemory.{sitesMemory}
 use Rattle.model.proofs.SoundSites.{sound-observed}
+use Rattle.model.proofs.NeverFewer.{observed-grows}
 use Rattle.site_memory.specs.Ready.{SiteReady}
 use Rattle.site_steps.specs.declared.Observed.{Observed}
 use Rattle.site_steps.specs.Steps.{ObserveAsks, ObserveStepSays}
@@ -27,7 +28,6 @@ use Rattle.sending.specs.Sending.{queueOf}
 use Rattle.delivery.specs.Holding.{State, state, Holds, Fits}
 use Rattle.delivery.specs.Arriving.{ArrivalAsks, stepAt, takenAt, Taken, outOf, putBack}
 use Rattle.delivery.proofs.StageNumbers.{site-ready}
-use Rattle.delivery.proofs.ObservedLaws.{observed-grows}
 use Rattle.delivery.proofs.HoldingLaws.{Stored, part-long, part-starts, site-read, holds-site}
 use Rattle.delivery.proofs.GoingLaws.{stored-of-sound, going-fit, going-taken}
 

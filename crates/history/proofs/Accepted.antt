@@ -1,40 +1,42 @@
 -- Memory that arose is never refused, and so each call is refused by what the rules say of its
--- arrival or message alone. PROOF.md section 7, "Never 11".
+-- arrival or message alone. PROOF.md section 9, "Never 11".
 --
---   held-sound, resting-of    what the invariant is worth: sound parts; at rest, the model's run
+--   held-sound, resting-of, sound-rest-of    what the invariant is worth: sound parts; at rest, the
+--                             model's run, which is sound
 --   memory-accepted           neither 4 nor 11, nor 1, 2, 3
 --   refused-by-rules          the number that each call then answers
-use mathlib.Core.Path.{_≡_, sym, ap, _∙_, subst}
+use mathlib.Core.Path.{_≡_, refl, sym, ap, _∙_, subst}
 use mathlib.Core.List.{List}
-use Prim.Native.Nat.{ℕ, _≤_, _<_}
+use Prim.Native.Nat.{ℕ, _≤_}
 use native.Mathlib.Omega.{arith}
+use lib.Dec.{leb, ltb}
 use lib.ListN.{length}
-use borrow.Author.Tests.{le-ltb, lt-leb}
+use borrow.Author.Tests.{le-ltb}
 use Rattle.model.specs.declared.Settings.{Settings}
 use Rattle.model.specs.declared.Arrival.{Arrival}
-use Rattle.model.specs.declared.Message.{Message}
-use Rattle.model.specs.Refusals.{accepted}
+use Rattle.model.specs.Refusals.{when, _orElse_, accepted, unknownItem, listTooShort}
 use Rattle.model.specs.Limits.{messageLimit}
 use Rattle.model.specs.Settings.{settingsRefusal}
-use Rattle.model.specs.Site.{Site, arrivalRefusal, siteMessageRefusal}
-use Rattle.model.specs.SiteMemory.{siteWords, siteIn, siteMemoryRefusal}
-use Rattle.model.specs.Coordinator.{isAnnouncing}
-use Rattle.model.specs.CoordinatorMemory.{coordinatorWords, coordinatorMemoryRefusal}
-use Rattle.model.specs.Network.{siteAt}
-use Rattle.model.specs.NetworkMemory.{sitesWords, networkRefusal}
+use Rattle.model.specs.Coordinator.{Coordinator, isAnnouncing, coordinatorRefusal, announcementRefusal}
+use Rattle.model.specs.CoordinatorMemory.{coordinatorWords, coordinatorIn, coordinatorMemoryRefusal}
+use Rattle.model.specs.Network.{Network}
+use Rattle.model.specs.NetworkMemory.{sitesWords, networkIn, networkRefusal}
+use Rattle.model.specs.Reading.{heavyHitters}
 use Rattle.model.specs.Runs.{batchOf}
 use Rattle.model.specs.SoundNetwork.{Sound}
-use Rattle.model.proofs.ConsistentCoordinator.{coordinator-consistent-of}
+use Rattle.model.proofs.ConsistentCoordinator.{CoordinatorWithin}
 use Rattle.model.proofs.ConsistentNetwork.{network-consistent-of}
-use Rattle.site.specs.Calls as SiteCalls
 use Rattle.tracker_steps.specs.declared.BatchAnswer.{BatchAnswer}
 use Rattle.tracker.specs.Batch.{BatchLent, BatchSays, logRoom}
-use Rattle.history.specs.State.{State, AtRest, networkOf, recordAt, sitePart}
+use Rattle.history.specs.State.{State, AtRest, networkOf, partOf, coordinatorPart, fronts, lending}
 use Rattle.history.specs.Histories.{batchCall}
-use Rattle.history.specs.Demands.{MemoryAccepted, RefusedByRules}
-use Rattle.history.proofs.Answers.{or-accepted}
+use Rattle.history.specs.First.{MemoryAccepted, RefusedByRules}
+use Rattle.history.proofs.Answers.{accepted-choice, or-accepted}
+use Rattle.history.proofs.SiteParts.{front-long}
 use Rattle.history.proofs.RunSound.{sound-run, messages-within}
-use Rattle.history.proofs.Decoded.{site-part, site-memory-accepted}
+use Rattle.history.proofs.Underway.{SoundRest}
+use Rattle.history.proofs.SoundMemory as Parts
+use Rattle.history.proofs.NetworkFronts.{network-front}
 use Rattle.history.proofs.Invariant.{StateOk, Resting, SoundHeld, sound-of-standing, rest-of-standing}
 
 module _ {settings : Settings} (passes : settingsRefusal settings ≡ accepted)
@@ -49,19 +51,22 @@ module _ {settings : Settings} (passes : settingsRefusal settings ≡ accepted)
   resting-of rest =
       rest-of-standing passes (ok .standing) (rest .nothing-waits) (ap isAnnouncing (rest .idle))
 
+  -- And so its network is sound.
+  pub sound-rest-of : AtRest state → SoundRest settings state
+  sound-rest-of at-rest = record {
+    lengths = ok .lengths;
+    sound = subst (Sound settings) (sym (resting-of at-rest .network-is))
+        (sound-run settings passes (state .accepted) .sound);
+    nothing-waits = at-rest .nothing-waits;
+  }
+
   -- ---- Memory
 
-  coordinator-accepted :
+  -- The coordinator's own record and memory.
+  pub coordinator-accepted :
       coordinatorMemoryRefusal settings (state .held .coordinator) (state .held .coordinatorMemory)
       ≡ accepted
-  coordinator-accepted =
-      rw (
-        passes,
-        le-ltb (length (state .held .coordinatorMemory)) (coordinatorWords settings)
-            (ok .lengths .coordinator-long),
-        coordinator-consistent-of settings (networkOf settings (state .held) .coordinator)
-            (held-sound .coordinator-sound) (held-sound .within),
-      )
+  coordinator-accepted = Parts.coordinator-accepted passes (state .held) (ok .lengths) held-sound
 
   -- The messages counted are among those of the run.
   few-counted : Resting settings state → state .held .sites .messages ≤ messageLimit
@@ -74,73 +79,88 @@ module _ {settings : Settings} (passes : settingsRefusal settings ≡ accepted)
         messages-within settings passes (state .accepted),
       )
 
-  network-accepted : AtRest state
+  -- Memories that hold the network that is held, at rest.
+  network-accepted-in : (siteMemory coordinatorMemory : List ℕ)
+      → sitesWords settings ≤ length siteMemory
+      → coordinatorWords settings ≤ length coordinatorMemory
+      → networkIn settings (state .held .sites) (state .held .coordinator) siteMemory
+      coordinatorMemory
+      ≡ networkOf settings (state .held)
+      → AtRest state
+      → networkRefusal settings (state .held .sites) (state .held .coordinator) siteMemory
+      coordinatorMemory
+      ≡ accepted
+  network-accepted-in siteMemory coordinatorMemory sites-long coordinator-long same at-rest =
+      let sound = subst (Sound settings) (sym same) (sound-rest-of at-rest .sound) in
+      let within = subst (λ (network : Network). CoordinatorWithin (network .coordinator))
+      (sym same) (held-sound .within) in
+      rw (
+        passes,
+        le-ltb (length siteMemory) (sitesWords settings) sites-long,
+        le-ltb (length coordinatorMemory) (coordinatorWords settings) coordinator-long,
+        network-consistent-of settings (state .held .sites) (state .held .coordinator)
+            siteMemory coordinatorMemory sound within (few-counted (resting-of at-rest)),
+      )
+
+  -- All of both memories.
+  pub network-accepted : AtRest state
       → networkRefusal settings (state .held .sites) (state .held .coordinator)
       (state .held .siteMemory) (state .held .coordinatorMemory)
       ≡ accepted
-  network-accepted at-rest =
-      let rest = resting-of at-rest in
-      let sound : Sound settings (networkOf settings (state .held)) =
-      subst (Sound settings) (sym (rest .network-is))
-      (sound-run settings passes (state .accepted) .sound) in
-      rw (
-        passes,
-        le-ltb (length (state .held .siteMemory)) (sitesWords settings) (ok .lengths .sites-long),
-        le-ltb (length (state .held .coordinatorMemory)) (coordinatorWords settings)
-            (ok .lengths .coordinator-long),
-        network-consistent-of settings (state .held .sites) (state .held .coordinator)
-            (state .held .siteMemory) (state .held .coordinatorMemory) sound (held-sound .within)
-            (few-counted rest),
-      )
+  network-accepted =
+      network-accepted-in (state .held .siteMemory) (state .held .coordinatorMemory)
+      (ok .lengths .sites-long) (ok .lengths .coordinator-long) refl
 
-  of-site : (which words : ℕ) → which < settings .sites → siteWords settings ≤ words
-      → siteMemoryRefusal settings (recordAt (state .held) which)
-      (sitePart settings (state .held) which words)
+  -- ---- Fronts of the memories
+
+  -- As many numbers as the coordinator's own, or more.
+  front-enough : (words : ℕ)
+      → coordinatorWords settings ≤ words
+      → coordinatorWords settings ≤ length (coordinatorPart (state .held) 0 words)
+  front-enough words enough =
+      front-long (coordinatorWords settings) words (state .held .coordinatorMemory) enough
+      (ok .lengths .coordinator-long)
+
+  -- What a call on the coordinator comes to there, by the whole memory.
+  pub coordinator-front : {A : Type 0} (words : ℕ) (of : ℕ → Coordinator → A)
+      → coordinatorWords settings ≤ words
+      → of
+      (coordinatorMemoryRefusal settings (state .held .coordinator)
+      (coordinatorPart (state .held) 0 words))
+      (coordinatorIn settings (state .held .coordinator) (coordinatorPart (state .held) 0 words))
+      ≡ of accepted (networkOf settings (state .held) .coordinator)
+  coordinator-front = Parts.coordinator-front passes (state .held) (ok .lengths) held-sound
+
+  network-accepted-front : (siteCount coordinatorCount : ℕ)
+      → sitesWords settings ≤ siteCount
+      → coordinatorWords settings ≤ coordinatorCount
+      → AtRest state
+      → networkRefusal settings (state .held .sites) (state .held .coordinator)
+      (partOf (state .held) 0 siteCount) (coordinatorPart (state .held) 0 coordinatorCount)
       ≡ accepted
-  of-site which words known enough =
-      site-memory-accepted passes (state .held) (ok .lengths) (held-sound .sites-sound) which known
-      words enough
+  network-accepted-front siteCount coordinatorCount sites-enough enough =
+      let sites-long = front-long (sitesWords settings) siteCount (state .held .siteMemory)
+      sites-enough (ok .lengths .sites-long) in
+      let coordinator-long = front-enough coordinatorCount enough in
+      network-accepted-in (partOf (state .held) 0 siteCount)
+      (coordinatorPart (state .held) 0 coordinatorCount) sites-long coordinator-long
+      (network-front passes (state .held) (ok .lengths) (held-sound .sites-sound) siteCount
+      coordinatorCount sites-long coordinator-long)
 
   -- The claim of demand 1 on memory.
   pub memory-accepted : MemoryAccepted settings state
   memory-accepted = record {
-    of-site = of-site;
-    of-coordinator = coordinator-accepted;
-    of-network = network-accepted;
+    of-site = λ which words known enough.
+        Parts.site-accepted passes (state .held) (ok .lengths) held-sound which words known enough;
+    of-coordinator = λ words.
+        coordinator-front words (λ (refusal : ℕ) (c : Coordinator). refusal);
+    of-network = network-accepted-front;
   }
 
   -- ---- The numbers that calls answer
 
-  site-here : (which words : ℕ) → which < settings .sites → siteWords settings ≤ words
-      → siteIn settings (recordAt (state .held) which) (sitePart settings (state .held) which words)
-      ≡ siteAt (networkOf settings (state .held)) which
-  site-here which words known enough =
-      site-part passes (state .held) (ok .lengths) (held-sound .sites-sound) which known words
-      enough
-
-  arrival-by-rules : (which words : ℕ) (arrival : Arrival)
-      → which < settings .sites
-      → siteWords settings ≤ words
-      → SiteCalls.observeRefusal settings (recordAt (state .held) which) arrival
-      (sitePart settings (state .held) which words)
-      ≡ arrivalRefusal settings (siteAt (networkOf settings (state .held)) which) arrival
-  arrival-by-rules which words arrival known enough =
-      rw (of-site which words known enough)
-      (ap (λ (site : Site). arrivalRefusal settings site arrival)
-      (site-here which words known enough))
-
-  site-message-by-rules : (which words : ℕ) (m : Message)
-      → which < settings .sites
-      → siteWords settings ≤ words
-      → SiteCalls.receiveRefusal settings (recordAt (state .held) which) which m
-      (sitePart settings (state .held) which words)
-      ≡ siteMessageRefusal settings (siteAt (networkOf settings (state .held)) which) which m
-  site-message-by-rules which words m known enough =
-      rw (of-site which words known enough, lt-leb (settings .sites) which known)
-      (ap (λ (site : Site). siteMessageRefusal settings site which m)
-      (site-here which words known enough))
-
-  batch-by-rules : AtRest state
+  -- All of both memories lent.
+  pub batch-by-rules : AtRest state
       → (arrivals : List Arrival) (log : List ℕ) (lent : BatchLent) (answer : BatchAnswer)
       → BatchSays (batchCall settings (state .held) arrivals log) lent answer
       → answer .refusal
@@ -148,14 +168,56 @@ module _ {settings : Settings} (passes : settingsRefusal settings ≡ accepted)
   batch-by-rules at-rest arrivals log lent answer says =
       says .refusal ∙ rw (network-accepted at-rest)
 
+  batch-front-by-rules : (siteCount coordinatorCount : ℕ)
+      → sitesWords settings ≤ siteCount
+      → coordinatorWords settings ≤ coordinatorCount
+      → AtRest state
+      → (arrivals : List Arrival) (log : List ℕ) (lent : BatchLent) (answer : BatchAnswer)
+      → BatchSays
+      (batchCall settings (lending (state .held) (fronts siteCount coordinatorCount)) arrivals log)
+      lent answer
+      → answer .refusal
+      ≡ batchOf settings (logRoom log) (networkOf settings (state .held)) arrivals .refusal
+  batch-front-by-rules siteCount coordinatorCount sites-enough enough at-rest arrivals log lent
+      answer says =
+      says .refusal
+      ∙ accepted-choice _ _ _
+      (network-accepted-front siteCount coordinatorCount sites-enough enough at-rest)
+      ∙ ap (λ (network : Network). batchOf settings (logRoom log) network arrivals .refusal)
+      (network-front passes (state .held) (ok .lengths) (held-sound .sites-sound) siteCount
+      coordinatorCount
+      (front-long (sitesWords settings) siteCount (state .held .siteMemory) sites-enough
+      (ok .lengths .sites-long))
+      (front-enough coordinatorCount enough))
+
   -- The claim of demand 1 on the numbers of refusals.
   pub refused-by-rules : RefusedByRules settings state
   refused-by-rules = record {
-    arrival = arrival-by-rules;
-    site-message = site-message-by-rules;
-    coordinator-message = λ m. rw coordinator-accepted;
-    next-announcement = rw coordinator-accepted;
-    list = λ places. rw coordinator-accepted (or-accepted _);
-    margin = λ item. rw coordinator-accepted (or-accepted _);
-    batch = batch-by-rules;
+    arrival = λ which words arrival known enough.
+        Parts.arrival-by-rules passes (state .held) (ok .lengths) held-sound which words known
+        enough arrival;
+    site-message = λ which words m known enough.
+        Parts.site-message-by-rules passes (state .held) (ok .lengths) held-sound which words
+        known enough m;
+    coordinator-message = λ words m.
+        coordinator-front words
+        (λ (refusal : ℕ) (c : Coordinator). refusal orElse coordinatorRefusal settings c m);
+    next-announcement = λ words.
+        coordinator-front words
+        (λ (refusal : ℕ) (c : Coordinator). refusal orElse announcementRefusal c);
+    list = λ words places enough.
+        coordinator-front words
+        (λ (refusal : ℕ) (c : Coordinator).
+        refusal
+        orElse when (ltb places (length (heavyHitters settings c))) listTooShort
+        orElse accepted)
+        enough
+        ∙ or-accepted _;
+    margin = λ words item enough.
+        coordinator-front words
+        (λ (refusal : ℕ) (c : Coordinator).
+        refusal orElse when (leb (settings .universe) item) unknownItem orElse accepted)
+        enough
+        ∙ or-accepted _;
+    batch = batch-front-by-rules;
   }

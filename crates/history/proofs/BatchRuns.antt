@@ -1,5 +1,5 @@
 -- A batch is a run over the arrivals that it accepts: its network, and its messages after those of
--- the run before it. PROOF.md section 7, "Every prefix".
+-- the run before it. PROOF.md section 7.
 --
 --   GoesOn settings run arrivals batch after   what a batch that goes on adds to batch and run
 --   batch-goes-on                              every batch does so
@@ -53,7 +53,8 @@ module _ (settings : Settings) (room : ℕ) where
     run-messages = sym (append-nil (run .messages));
   }
 
-  abbrev nextBatch : Batch → Arrival → Batch
+  -- The batch with one arrival more.
+  abbrev pub nextBatch : Batch → Arrival → Batch
   nextBatch batch arrival = record {
     network = afterArrival settings (batch .network) arrival .network;
     accepted = batch .accepted + 1;

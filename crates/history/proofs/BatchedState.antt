@@ -1,5 +1,5 @@
 -- The state after a batch call at rest: at rest again, the model's run with the arrivals that the
--- batch accepted, and the messages of its log. PROOF.md section 7, "Histories".
+-- batch accepted, and the messages of its log. PROOF.md section 9, "The invariant".
 --
 --   batch-ok        the invariant of that state
 --   batch-resting   it is at rest
@@ -27,7 +27,7 @@ use Rattle.network_memory.proofs.SitesReading.{sitesIn-sitesMemory}
 use Rattle.coordinator_kinds.proofs.MemoryLaws.{written-coordinator}
 use Rattle.tracker_steps.specs.declared.BatchAnswer.{BatchAnswer}
 use Rattle.tracker.specs.Batch.{BatchCall, BatchLent, BatchSays, startRefusal, batchIn, unlessRefused, logRoom, messagesIn}
-use Rattle.history.specs.State.{Held, State, AtRest, networkOf}
+use Rattle.history.specs.State.{Held, State, AtRest, networkOf, networkWritten}
 use Rattle.history.specs.Histories.{batchCall, afterBatch}
 use Rattle.history.proofs.RunSound.{sound-run}
 use Rattle.history.proofs.BatchRuns.{BatchRun, batch-run}
@@ -35,21 +35,9 @@ use Rattle.history.proofs.HandedOut.{messagesIn-written}
 use Rattle.history.proofs.Decoded.{Lengths}
 use Rattle.history.proofs.DecodedCoordinator.{length-coordinatorMemory}
 use Rattle.history.proofs.Invariant.{StateOk, Resting, resting}
-use Rattle.history.proofs.Accepted.{resting-of, memory-accepted}
+use Rattle.history.proofs.Accepted.{resting-of, network-accepted}
 
 -- ---- A whole network written
-
--- The network that a batch comes to, written over what was held.
-abbrev pub networkWritten : Settings → Held → Network → ℕ → Held
-networkWritten settings held network messages = record {
-  sites = record {
-    records = siteRecords (network .sites) (held .sites .records);
-    messages = messages;
-  };
-  coordinator = coordinatorRecord (network .coordinator);
-  siteMemory = sitesMemory settings (network .sites) (held .siteMemory);
-  coordinatorMemory = coordinatorMemory (network .coordinator) (held .coordinatorMemory);
-}
 
 module _ {settings : Settings} (passes : settingsRefusal settings ≡ accepted) (held : Held)
     (lengths : Lengths settings held) (network : Network) (sound : Sound settings network)
@@ -116,66 +104,27 @@ module _ {settings : Settings} (passes : settingsRefusal settings ≡ accepted) 
         );
   }
 
--- ---- The state after the call
+-- ---- The model's batch
 
 module _ {settings : Settings} (passes : settingsRefusal settings ≡ accepted)
     {n : ℕ} (before : State)
     (ok : StateOk settings n before) (at-rest : AtRest before)
-    (arrivals : List Arrival) (log : List ℕ) (lent : BatchLent) (answer : BatchAnswer)
-    (says : BatchSays (batchCall settings (before .held) arrivals log) lent answer) where
+    (arrivals : List Arrival) (log : List ℕ) where
   abbrev call : BatchCall
   call = batchCall settings (before .held) arrivals log
 
   abbrev batch : Batch
   batch = batchIn call
 
-  rest : Resting settings before
+  pub rest : Resting settings before
   rest = resting-of passes ok at-rest
 
-  none : startRefusal call ≡ accepted
-  none = memory-accepted passes ok .of-network at-rest
-
-  done : {A : Type 0} (x y z : A) → x ≡ unlessRefused call y z → x ≡ y
-  done x y z is = is ∙ rw (eq-eqb (startRefusal call) 0 none)
-
-  -- The state, by the model's batch.
-  abbrev pub after : State
-  after = record {
-    held = networkWritten settings (before .held) (batch .network)
-        (before .held .sites .messages + length (batch .messages));
-    waiting = before .waiting;
-    accepted = before .accepted ++ take (batch .accepted) arrivals;
-    messages = before .messages ++ batch .messages;
-    logged = before .logged + length (batch .messages);
-  }
-
-  -- What the call answers and leaves is what its contract says of the model's batch.
-  pub after-is : afterBatch before arrivals lent answer ≡ after
-  after-is =
-      let sites = done (answer .sites) _ _ (says .sites) in
-      let coordinator = done (answer .coordinator) _ _ (says .coordinator) in
-      let site-memory = done (lent .siteMemory) _ _ (says .site-memory) in
-      let memory = done (lent .coordinatorMemory) _ _ (says .coordinator-memory) in
-      let taken = done (answer .accepted) _ _ (says .accepted) in
-      let written = done (answer .written) _ _ (says .written) in
-      let read : messagesIn (answer .written) (lent .log) ≡ batch .messages =
-      (λ i. messagesIn (written i) (done (lent .log) _ _ (says .log) i))
-      ∙ messagesIn-written (batch .messages) _ in
-      λ i. record {
-        held = record {
-          sites = sites i;
-          coordinator = coordinator i;
-          siteMemory = site-memory i;
-          coordinatorMemory = memory i;
-        };
-        waiting = before .waiting;
-        accepted = before .accepted ++ take (taken i) arrivals;
-        messages = before .messages ++ read i;
-        logged = before .logged + written i;
-      }
+  -- The start refuses no network that arose.
+  pub none : startRefusal call ≡ accepted
+  none = network-accepted passes ok at-rest
 
   -- The batch is a run over what it accepted.
-  as-run : BatchRun settings (runOf settings (before .accepted)) arrivals batch
+  pub as-run : BatchRun settings (runOf settings (before .accepted)) arrivals batch
   as-run =
       subst (λ (network : Network).
       BatchRun settings (runOf settings (before .accepted)) arrivals
@@ -183,18 +132,32 @@ module _ {settings : Settings} (passes : settingsRefusal settings ≡ accepted)
       (sym (rest .network-is))
       (batch-run settings (logRoom log) arrivals (runOf settings (before .accepted)))
 
-  run-on : runOf settings (after .accepted)
+  -- The arrivals accepted then.
+  abbrev acceptedThen : List Arrival
+  acceptedThen = before .accepted ++ take (batch .accepted) arrivals
+
+  run-on : runOf settings acceptedThen
       ≡ runFrom settings (runOf settings (before .accepted)) (take (batch .accepted) arrivals)
   run-on = runFrom-append settings _ (before .accepted) (take (batch .accepted) arrivals)
 
-  network-then : batch .network ≡ runOf settings (after .accepted) .network
+  network-then : batch .network ≡ runOf settings acceptedThen .network
   network-then = as-run .network-is ∙ ap (λ (run : Run). run .network) (sym run-on)
 
   -- The network that the batch comes to is a run's, and so sound.
   pub sound-then : Sound settings (batch .network)
   sound-then =
-      subst (Sound settings) (sym network-then)
-      (sound-run settings passes (after .accepted) .sound)
+      subst (Sound settings) (sym network-then) (sound-run settings passes acceptedThen .sound)
+
+  -- The state, by the model's batch.
+  abbrev pub after : State
+  after = record {
+    held = networkWritten settings (before .held) (batch .network)
+        (before .held .sites .messages + length (batch .messages));
+    waiting = before .waiting;
+    accepted = acceptedThen;
+    messages = before .messages ++ batch .messages;
+    logged = before .logged + length (batch .messages);
+  }
 
   resting-then : Resting settings after
   resting-then = record {
@@ -225,9 +188,40 @@ module _ {settings : Settings} (passes : settingsRefusal settings ≡ accepted)
         omega (arith, ok .logged-within, length-append (before .messages) (batch .messages));
   }
 
-  -- The invariant after a batch call at rest.
-  pub batch-ok : StateOk settings 0 (afterBatch before arrivals lent answer)
-  batch-ok = subst (StateOk settings 0) (sym after-is) after-ok
+  -- ---- The state after the call
 
-  pub batch-resting : Resting settings (afterBatch before arrivals lent answer)
-  batch-resting = subst (Resting settings) (sym after-is) resting-then
+  module _ (lent : BatchLent) (answer : BatchAnswer) (says : BatchSays call lent answer) where
+    done : {A : Type 0} (x y z : A) → x ≡ unlessRefused call y z → x ≡ y
+    done x y z is = is ∙ rw (eq-eqb (startRefusal call) 0 none)
+
+    -- What the call answers and leaves is what its contract says of the model's batch.
+    pub after-is : afterBatch before arrivals lent answer ≡ after
+    after-is =
+        let sites = done (answer .sites) _ _ (says .sites) in
+        let coordinator = done (answer .coordinator) _ _ (says .coordinator) in
+        let site-memory = done (lent .siteMemory) _ _ (says .site-memory) in
+        let memory = done (lent .coordinatorMemory) _ _ (says .coordinator-memory) in
+        let taken = done (answer .accepted) _ _ (says .accepted) in
+        let written = done (answer .written) _ _ (says .written) in
+        let read : messagesIn (answer .written) (lent .log) ≡ batch .messages =
+        (λ i. messagesIn (written i) (done (lent .log) _ _ (says .log) i))
+        ∙ messagesIn-written (batch .messages) _ in
+        λ i. record {
+          held = record {
+            sites = sites i;
+            coordinator = coordinator i;
+            siteMemory = site-memory i;
+            coordinatorMemory = memory i;
+          };
+          waiting = before .waiting;
+          accepted = before .accepted ++ take (taken i) arrivals;
+          messages = before .messages ++ read i;
+          logged = before .logged + written i;
+        }
+
+    -- The invariant after a batch call at rest.
+    pub batch-ok : StateOk settings 0 (afterBatch before arrivals lent answer)
+    batch-ok = subst (StateOk settings 0) (sym after-is) after-ok
+
+    pub batch-resting : Resting settings (afterBatch before arrivals lent answer)
+    batch-resting = subst (Resting settings) (sym after-is) resting-then

@@ -1,5 +1,5 @@
 -- The network that records and memory hold, after a call on one site was put back: that site and
--- nothing else has changed. PROOF.md section 7, "Frame".
+-- nothing else has changed. PROOF.md section 9, "Frame".
 --
 --   Lengths settings held        32 records, and memories that are long enough
 --   SitesSound settings held     each of the k sites that are held is sound
@@ -81,8 +81,9 @@ module _ {settings : Settings} (passes : settingsRefusal settings ≡ accepted) 
   pub rest-sound : SoundSite settings (siteIn settings (recordAt held j) rest)
   rest-sound = rw site-is at (sound j known)
 
-  used-within : recordAt held j .used ≤ settings .capacity
-  used-within =
+  -- No more counters in use than there are.
+  pub used-at : recordAt held j .used ≤ settings .capacity
+  used-at =
       omega (arith, rest-sound .few-counters, length-countersIn (recordAt held j .used) rest)
 
   -- A part of at least the site's own numbers holds the site.
@@ -90,7 +91,7 @@ module _ {settings : Settings} (passes : settingsRefusal settings ≡ accepted) 
       → siteIn settings (recordAt held j) (sitePart settings held j n)
       ≡ siteAt (networkOf settings held) j
   site-part n enough =
-      siteIn-take settings (recordAt held j) n rest used-within enough rest-long
+      siteIn-take settings (recordAt held j) n rest used-at enough rest-long
       ∙ sym site-is
 
   -- A part of at least the site's own numbers is long enough.

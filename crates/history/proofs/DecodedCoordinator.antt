@@ -1,5 +1,5 @@
 -- The network that records and memory hold, after a call on the coordinator was put back: the
--- coordinator and nothing else has changed. PROOF.md section 7, "Decode/encode".
+-- coordinator and nothing else has changed. PROOF.md section 9, "Decode/encode".
 --
 --   length-coordinatorMemory      writing a coordinator keeps the length
 --   network-coordinator-written   the coordinator's record and memory put back

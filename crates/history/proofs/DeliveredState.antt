@@ -1,78 +1,146 @@
--- The state after one step of delivery: the delivery goes on by one step of the model's. PROOF.md
--- section 7, "Histories".
+-- The state after one step of delivery: the delivery goes on by one step of the model's, from any
+-- sound network; and in a history the invariant is kept. PROOF.md section 9, "The invariant".
 --
---   delivered-ok     the invariant of that state
-use mathlib.Core.Path.{_≡_, sym, ap, _∙_}
-use mathlib.Core.List.{List, [], _∷_}
-use Prim.Native.Nat.{ℕ, suc}
+--   delivered-on             the delivery, one step further
+--   StepKeeps, step-keeps    what every step of delivery keeps
+--   none-when-quiet          no step of delivery where nothing waits and nothing is announced
+--   none-at-rest             none from a state at rest
+--   delivered-ok             the invariant of the state then
+use mathlib.Core.Path.{_≡_, refl, sym, ap, _∙_}
+use mathlib.Core.Bool.{false, false≢true}
+use mathlib.Core.List.{List, []}
+use Prim.Native.Nat.{ℕ, suc, _≤_}
 use native.Mathlib.Omega.{arith}
-use lib.ListN.{length}
+use lib.ListN.{length, length-append}
 use Rattle.model.specs.declared.Settings.{Settings}
+use Rattle.model.specs.declared.Arrival.{Arrival}
 use Rattle.model.specs.declared.Message.{Message}
 use Rattle.model.specs.Refusals.{accepted}
 use Rattle.model.specs.Settings.{settingsRefusal}
-use Rattle.model.specs.CoordinatorMemory.{coordinatorMemory}
+use Rattle.model.specs.Coordinator.{isAnnouncing}
 use Rattle.model.specs.Network.{Network}
-use Rattle.history.specs.State.{Held, State, networkOf, afterSiteCall, afterCoordinatorCall, sending}
+use Rattle.history.specs.State.{State, withPart}
 use Rattle.history.specs.Histories.{answeredOut, receivedOut, Delivers, to-coordinator, to-site, next-announcement}
+use Rattle.history.proofs.CallFronts.{receives-whole, announces-whole}
+use Rattle.history.proofs.RunSound.{sound-run}
+use Rattle.history.proofs.Underway.{Underway}
 use Rattle.history.proofs.Invariant.{StateOk, Resting, Standing, resting, delivering}
-use Rattle.history.proofs.ToCoordinator.{to-coordinator-ok}
-use Rattle.history.proofs.ToSite.{to-site-ok}
-use Rattle.history.proofs.NextAnnouncement.{next-ok, next-not-at-rest}
+use Rattle.history.proofs.ToCoordinator.{to-coordinator-on}
+use Rattle.history.proofs.ToSite.{to-site-on}
+use Rattle.history.proofs.NextAnnouncement.{announces, next-on}
 
-module _ {settings : Settings} (passes : settingsRefusal settings ≡ accepted)
-    {n : ℕ} (before : State)
-    (ok : StateOk settings n before) where
-  abbrev held : Held
-  held = before .held
+-- ---- From any sound network
 
-  abbrev network : Network
-  network = networkOf settings held
+-- One step of delivery further.
+pub delivered-on : {settings : Settings} (passes : settingsRefusal settings ≡ accepted)
+    {origin : Network} {arrival : Arrival} {past : List Message} {n : ℕ} (before : State)
+    → Underway settings origin arrival past n before
+    → (after : State)
+    → Delivers settings before after
+    → Underway settings origin arrival past (suc n) after
+delivered-on {settings} passes before mid after
+    (to-coordinator m later words part answer waits way says accepts) =
+    let held = before .held in
+    to-coordinator-on passes before mid m later
+    (withPart (held .coordinatorMemory) 0 words part) answer waits way
+    (receives-whole settings (held .coordinator) m words (held .coordinatorMemory) part answer says
+    accepts)
+    accepts
+delivered-on passes before mid after (to-site m later words answer waits way says accepts) =
+    to-site-on passes before mid m later words answer waits way says accepts
+delivered-on {settings} passes before mid after (next-announcement words answer says accepts) =
+    let held = before .held in
+    next-on settings before answer
+    (announces-whole settings (held .coordinator) words (held .coordinatorMemory) answer says
+    accepts)
+    accepts mid
 
-  abbrev After : State → Type 0
-  After after = StateOk settings (suc n) after
+-- It accepts no arrival, adds nothing to the network's own count, and only adds to the messages.
+pub record StepKeeps (before after : State) : Type 0 where
+  pub same-accepted : after .accepted ≡ before .accepted
+  pub same-logged : after .logged ≡ before .logged
+  pub same-count : after .held .sites .messages ≡ before .held .sites .messages
+  pub no-fewer : length (before .messages) ≤ length (after .messages)
 
-  -- At rest nothing waits.
-  pub no-head : (m : Message) (later : List Message)
-      → before .waiting ≡ m ∷ later
-      → Resting settings before
-      → ⊥
-  no-head m later waits rest =
-      let impossible : [] ≡ m ∷ later = sym (rest .nothing-waits) ∙ waits in
-      let lengths : 0 ≡ suc (length later) = ap length impossible in
-      omega arith
+pub step-keeps : {settings : Settings} (before after : State)
+    → Delivers settings before after
+    → StepKeeps before after
+step-keeps before after (to-coordinator m later words part answer waits way says accepts) = record {
+  same-accepted = refl;
+  same-logged = refl;
+  same-count = refl;
+  no-fewer = omega (arith, length-append (before .messages) (receivedOut answer));
+}
+step-keeps before after (to-site m later words answer waits way says accepts) = record {
+  same-accepted = refl;
+  same-logged = refl;
+  same-count = refl;
+  no-fewer = omega (arith, length-append (before .messages) (answeredOut answer));
+}
+step-keeps before after (next-announcement words answer says accepts) = record {
+  same-accepted = refl;
+  same-logged = refl;
+  same-count = refl;
+  no-fewer = omega (arith, length-append (before .messages) (receivedOut answer));
+}
 
-  -- The invariant, one step of delivery further.
-  pub delivered-ok : (after : State)
-      → Delivers settings before after
-      → StateOk settings (suc n) after
-  delivered-ok after (to-coordinator m later memory answer waits way says accepts) =
-      by-standing (ok .standing)
-    where
-      by-standing : Standing settings n before
-          → After
-          (sending before (afterCoordinatorCall held (answer .coordinator) memory) later
-          (receivedOut answer))
-      by-standing (resting _ rest) = absurd (no-head m later waits rest)
-      by-standing (delivering mid) =
-          to-coordinator-ok passes before ok mid m later memory answer waits way says accepts
-  delivered-ok after (to-site m later words answer waits way says accepts) =
-      by-standing (ok .standing)
-    where
-      by-standing : Standing settings n before
-          → After
-          (sending before (afterSiteCall held (m .site) (answer .site) (held .siteMemory)) later
-          (answeredOut answer))
-      by-standing (resting _ rest) = absurd (no-head m later waits rest)
-      by-standing (delivering mid) =
-          to-site-ok passes before ok mid m later words answer waits way says accepts
-  delivered-ok after (next-announcement answer says accepts) = by-standing (ok .standing)
-    where
-      by-standing : Standing settings n before
-          → After
-          (sending before
-          (afterCoordinatorCall held (answer .coordinator) (held .coordinatorMemory))
-          (before .waiting) (receivedOut answer))
-      by-standing (resting _ rest) =
-          absurd (next-not-at-rest passes before ok answer says accepts rest)
-      by-standing (delivering mid) = next-ok passes before ok answer says accepts mid
+-- Nothing waits and nothing is announced: no step of delivery.
+pub none-when-quiet : {settings : Settings} (before : State)
+    → before .waiting ≡ []
+    → isAnnouncing (before .held .coordinator .phase) ≡ false
+    → (after : State)
+    → Delivers settings before after
+    → ⊥
+none-when-quiet before none silent after
+    (to-coordinator m later words part answer waits way says accepts) =
+    let lengths : 0 ≡ suc (length later) = ap length (sym none ∙ waits) in
+    omega arith
+none-when-quiet before none silent after
+    (to-site m later words answer waits way says accepts) =
+    let lengths : 0 ≡ suc (length later) = ap length (sym none ∙ waits) in
+    omega arith
+none-when-quiet {settings} before none silent after
+    (next-announcement words answer says accepts) =
+    let held = before .held in
+    let all-lent = announces-whole settings (held .coordinator) words (held .coordinatorMemory)
+    answer says accepts in
+    false≢true (sym silent ∙ announces settings before answer all-lent accepts)
+
+-- ---- In a history
+
+module _ {settings : Settings} (passes : settingsRefusal settings ≡ accepted) (before : State)
+  where
+    -- At rest nothing waits, and the model's run, at rest too, announces nothing.
+    pub none-at-rest : Resting settings before
+        → (after : State)
+        → Delivers settings before after
+        → ⊥
+    none-at-rest rest =
+        none-when-quiet before (rest .nothing-waits)
+        (ap (λ (network : Network). isAnnouncing (network .coordinator .phase)) (rest .network-is)
+        ∙ ap isAnnouncing (sound-run settings passes (before .accepted) .sound .idle))
+
+    -- The invariant, one step of delivery further.
+    pub delivered-ok : {n : ℕ} (ok : StateOk settings n before) (after : State)
+        → Delivers settings before after
+        → StateOk settings (suc n) after
+    delivered-ok {n} ok after step = by-standing (ok .standing)
+      where
+        by-standing : Standing settings n before → StateOk settings (suc n) after
+        by-standing (resting _ rest) = absurd (none-at-rest rest after step)
+        by-standing (delivering mid) =
+            let on = delivered-on passes before (mid .underway) after step in
+            let keeps = step-keeps before after step in
+            record {
+              lengths = on .lengths;
+              standing = delivering (record {
+                front = mid .front;
+                arrival = mid .arrival;
+                accepted-are = keeps .same-accepted ∙ mid .accepted-are;
+                front-accepted = mid .front-accepted;
+                underway = on;
+              });
+              count-is-sum = keeps .same-count ∙ ok .count-is-sum ∙ sym (keeps .same-logged);
+              logged-within =
+                  omega (arith, keeps .same-logged, keeps .no-fewer, ok .logged-within);
+            }

@@ -1,43 +1,45 @@
--- The history of specs/Example.antt is one: each call's answer, in numbers, keeps the call's
--- contract, and its results are the next state.
+-- The calls of the history in specs/Example.antt: each call's answer, in numbers, keeps the call's
+-- contract, and its results are the next state. How much of the memories is lent differs from call
+-- to call. The whole history is in ExampleHistory.antt.
 --
---   example            the last state is reachable
---   example-list, example-quantile   what the reading calls then answer
+--   begins                                  the two start calls
+--   draw-refused, draw-accepted             single draws
+--   item-report, count-report, polled, poll-answered, announced, told    the delivery
+--   message-refused, slice-refused, draw-refused-underway                refused calls in it
+--   batch-stopped                           a batch of two draws
 use mathlib.Core.Path.{_≡_, refl}
 use mathlib.Core.List.{[], _∷_, _++_}
 use Prim.Native.Nat.{ℕ, suc}
 use native.Mathlib.Omega.{arith}
-use lib.ListN.{replicate}
+use lib.ListN.{take, replicate}
 use Rattle.model.specs.declared.Phase.the-variants.{Idle, Collecting, Announcing}
-use Rattle.model.specs.declared.Quantile.the-variants.{Value}
 use Rattle.model.specs.Limits.{valueCount}
 use Rattle.model.specs.Messages.{noMessage, itemReport, countReport, poll, pollAnswer, announcement}
 use Rattle.model.specs.NetworkMemory.{freshSites}
 use Rattle.model.specs.Instances.{settingsA, arrivalWith, draw}
 use Rattle.tracker.specs.Batch.{messageNumbers}
-use Rattle.reading.specs.Contracts.{ReadsQuantile}
-use Rattle.listing.specs.Contracts.{Lists}
-use Rattle.history.specs.State.{State}
-use Rattle.history.specs.Histories.{Arrives, batch, single, Delivers, to-coordinator, to-site, next-announcement, Refuses, arrival-refused, coordinator-message-refused, Step, arrives, delivers, refuses, Reachable, started, stepped}
+use Rattle.history.specs.Histories.{Arrives, batch, single, Delivers, to-coordinator, to-site, next-announcement, Refuses, arrival-refused, coordinator-message-refused, Reachable, started}
 use Rattle.history.specs.Example.{siteAfter, siteNumbers, coordinatorWith, coordinatorNumbers, allMessages, startedState, afterDraw, afterItemReport, afterCountReport, afterPoll, afterPollAnswer, afterAnnouncement, atRestAgain, afterBatchOfTwo}
 
-refused-number : (n : ℕ) → suc n ≡ 0 → ⊥
+-- A number that is no acceptance.
+pub refused-number : (n : ℕ) → suc n ≡ 0 → ⊥
 refused-number n impossible = omega arith
 
--- ---- The two start calls
+-- ---- The two start calls, on 1049 of 1050 numbers and 1034 of 1036
 
-begins : Reachable settingsA startedState
+unfoldable pub begins : Reachable settingsA startedState
 unfolding valueCount
 begins =
-    started (replicate 1050 5) (siteNumbers 0) (replicate 1036 9) (coordinatorNumbers 0 0)
+    started (replicate 1050 5) 1049 (take 1049 (siteNumbers 0))
     (record { refusal = 0; sites = freshSites })
+    (replicate 1036 9) 1034 (take 1034 (coordinatorNumbers 0 0))
     (record { refusal = 0; coordinator = coordinatorWith 0 0 0 Idle })
     (record { refusal = refl; sites = refl; memory = refl }) refl
     (record { refusal = refl; coordinator = refl; memory = refl }) refl
 
 -- ---- A refused draw: item 10 is none, 6
 
-draw-refused : Refuses startedState startedState
+unfoldable pub draw-refused : Refuses startedState startedState
 unfolding valueCount
 draw-refused =
     arrival-refused settingsA 0 (arrivalWith 0 10 3) 0 1050 (siteNumbers 0)
@@ -60,7 +62,7 @@ draw-refused =
 
 -- ---- The draw of P2, on a part that reaches past the site's own numbers
 
-draw-accepted : Arrives settingsA startedState afterDraw
+unfoldable pub draw-accepted : Arrives settingsA startedState afterDraw
 unfolding valueCount
 draw-accepted =
     single draw 1050 (siteNumbers 1)
@@ -82,12 +84,13 @@ draw-accepted =
     })
     refl
 
--- ---- Its delivery, with a refused message: kind 4 is not due, 9
+-- ---- Its delivery, with refused calls: kind 4 is not due, 9
 
-item-report : Delivers settingsA afterDraw afterItemReport
+pub item-report : Delivers settingsA afterDraw afterItemReport
 unfolding valueCount
 item-report =
-    to-coordinator (itemReport 0 7 1) (countReport 0 1 3 ∷ []) (coordinatorNumbers 1 0)
+    to-coordinator (itemReport 0 7 1) (countReport 0 1 3 ∷ []) 1035
+    (take 1035 (coordinatorNumbers 1 0))
     (record { refusal = 0; coordinator = coordinatorWith 0 0 0 Idle; count = 0; out = noMessage })
     refl refl
     (record {
@@ -97,10 +100,11 @@ item-report =
     })
     refl
 
-message-refused : Refuses afterItemReport afterItemReport
+unfoldable pub message-refused : Refuses afterItemReport afterItemReport
 unfolding valueCount
 message-refused =
-    coordinator-message-refused settingsA (pollAnswer 0 0) (coordinatorNumbers 1 0)
+    coordinator-message-refused settingsA (pollAnswer 0 0) 0 1034
+    (take 1034 (coordinatorNumbers 1 0))
     (record { refusal = 9; coordinator = coordinatorWith 0 0 0 Idle; count = 0; out = noMessage })
     (record {
       refusal = refl;
@@ -109,10 +113,45 @@ message-refused =
     })
     (refused-number 8)
 
-count-report : Delivers settingsA afterItemReport afterCountReport
+-- The head of the queue, on forty numbers from the tenth on: 4.
+unfoldable pub slice-refused : Refuses afterItemReport afterItemReport
+unfolding valueCount
+slice-refused =
+    coordinator-message-refused settingsA (countReport 0 1 3) 10 40 (replicate 40 0)
+    (record { refusal = 4; coordinator = coordinatorWith 0 0 0 Idle; count = 0; out = noMessage })
+    (record {
+      refusal = refl;
+      answer = record { coordinator = refl; count = refl; out = refl };
+      memory = refl;
+    })
+    (refused-number 3)
+
+-- A draw that names no site, given to site 0: 5.
+unfoldable pub draw-refused-underway : Refuses afterItemReport afterItemReport
+unfolding valueCount
+draw-refused-underway =
+    arrival-refused settingsA 0 (arrivalWith 1 7 3) 0 1048 (take 1048 (siteNumbers 1))
+    (record {
+      refusal = 5;
+      site = siteAfter 1;
+      count = 0;
+      first = noMessage;
+      second = noMessage;
+    })
+    (record {
+      refusal = refl;
+      site = refl;
+      count = refl;
+      first = refl;
+      second = refl;
+      memory = refl;
+    })
+    (refused-number 4)
+
+pub count-report : Delivers settingsA afterItemReport afterCountReport
 unfolding valueCount
 count-report =
-    to-coordinator (countReport 0 1 3) [] (coordinatorNumbers 1 1)
+    to-coordinator (countReport 0 1 3) [] 1036 (coordinatorNumbers 1 1)
     (record {
       refusal = 0;
       coordinator = coordinatorWith 1 0 1 (Collecting 0);
@@ -127,7 +166,7 @@ count-report =
     })
     refl
 
-polled : Delivers settingsA afterCountReport afterPoll
+pub polled : Delivers settingsA afterCountReport afterPoll
 unfolding valueCount
 polled =
     to-site (poll 0) [] 1048
@@ -136,10 +175,10 @@ polled =
     (record { refusal = refl; site = refl; count = refl; reply = refl })
     refl
 
-poll-answered : Delivers settingsA afterPoll afterPollAnswer
+pub poll-answered : Delivers settingsA afterPoll afterPollAnswer
 unfolding valueCount
 poll-answered =
-    to-coordinator (pollAnswer 0 0) [] (coordinatorNumbers 1 1)
+    to-coordinator (pollAnswer 0 0) [] 1034 (take 1034 (coordinatorNumbers 1 1))
     (record {
       refusal = 0;
       coordinator = coordinatorWith 1 1 1 (Announcing 0);
@@ -154,10 +193,10 @@ poll-answered =
     })
     refl
 
-announced : Delivers settingsA afterPollAnswer afterAnnouncement
+pub announced : Delivers settingsA afterPollAnswer afterAnnouncement
 unfolding valueCount
 announced =
-    next-announcement
+    next-announcement 1035
     (record {
       refusal = 0;
       coordinator = coordinatorWith 1 1 0 Idle;
@@ -167,7 +206,7 @@ announced =
     (record { refusal = refl; answer = record { coordinator = refl; count = refl; out = refl } })
     refl
 
-told : Delivers settingsA afterAnnouncement atRestAgain
+pub told : Delivers settingsA afterAnnouncement atRestAgain
 unfolding valueCount
 told =
     to-site (announcement 0 1 1) [] 1048
@@ -178,13 +217,13 @@ told =
 
 -- ---- A batch of two draws, with a log of 25 records: 14 before the second
 
-batch-stopped : Arrives settingsA atRestAgain afterBatchOfTwo
+unfoldable pub batch-stopped : Arrives settingsA atRestAgain afterBatchOfTwo
 unfolding valueCount
 batch-stopped =
-    batch (draw ∷ (draw ∷ [])) (replicate 100 8)
+    batch 1048 1035 (draw ∷ (draw ∷ [])) (replicate 100 8)
     (record {
-      siteMemory = siteNumbers 2;
-      coordinatorMemory = coordinatorNumbers 2 2;
+      siteMemory = take 1048 (siteNumbers 2);
+      coordinatorMemory = take 1035 (coordinatorNumbers 2 2);
       log = messageNumbers (allMessages 2) ++ replicate 80 8;
     })
     (record {
@@ -205,41 +244,3 @@ batch-stopped =
       coordinator-memory = refl;
       log = refl;
     })
-
--- ---- The whole history
-
-then : {before : State} (after : State)
-    → Step settingsA before after
-    → Reachable settingsA before
-    → Reachable settingsA after
-then {before} after step earlier = stepped before after earlier step
-
--- Ten calls after the two starts.
-pub example : Reachable settingsA afterBatchOfTwo
-example =
-    then afterBatchOfTwo (arrives batch-stopped)
-    (then atRestAgain (delivers told)
-    (then afterAnnouncement (delivers announced)
-    (then afterPollAnswer (delivers poll-answered)
-    (then afterPoll (delivers polled)
-    (then afterCountReport (delivers count-report)
-    (then afterItemReport (refuses message-refused)
-    (then afterItemReport (delivers item-report)
-    (then afterDraw (arrives draw-accepted)
-    (then startedState (refuses draw-refused) begins)))))))))
-
--- ---- A reading: "listed 7", "class 3"
-
--- The list call on two places: item 7.
-pub example-list : Lists settingsA (afterBatchOfTwo .held .coordinator)
-    (afterBatchOfTwo .held .coordinatorMemory) (8 ∷ (8 ∷ [])) (7 ∷ (8 ∷ []))
-    (record { refusal = 0; count = 1 })
-unfolding valueCount
-example-list = record { refusal = refl; count = refl; list = refl }
-
--- The quantile call: value 3.
-pub example-quantile : ReadsQuantile settingsA (afterBatchOfTwo .held .coordinator)
-    (afterBatchOfTwo .held .coordinatorMemory)
-    (record { refusal = 0; quantile = Value 3 })
-unfolding valueCount
-example-quantile = record { refusal = refl; quantile = refl }

@@ -1,5 +1,5 @@
 -- What lies past the numbers that are written stays: of a site in its part, of all sites, and of
--- the coordinator. PROOF.md section 7, "Frame".
+-- the coordinator. PROOF.md section 9, "Frame".
 --
 --   drop-later                 two lists that are the same from a place on are so from a later one
 --   take-written, drop-written one site written: before its part, and behind it

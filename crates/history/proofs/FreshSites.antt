@@ -1,4 +1,4 @@
--- The sites that a start leaves: fresh records, and zeros in their memory. PROOF.md section 7,
+-- The sites that a start leaves: fresh records, and zeros in their memory. PROOF.md section 9,
 -- "Decode/encode".
 --
 --   sitesIn-fresh     they are read as fresh sites

@@ -1,45 +1,180 @@
 -- Every delivery goes on until it has come to rest: the head of the queue is accepted, and so is
--- the wish for a kind 7 while the coordinator announces. PROOF.md section 7, "Never 9 or 10".
+-- the wish for a kind 7 while the coordinator announces; from any sound network as long as numbers
+-- stay small, and so in a history. PROOF.md section 9, "Never 5, 6, 7, 9 or 10".
 --
---   Further, deliveries-ok    the invariant after so many steps of delivery
---   delivery-goes-on          the claim
+--   Further, further          what every step of delivery keeps, after so many steps
+--   coordinator-accepts, site-accepts, announcement-accepted   sound parts accept the next step
+--   underway-goes-on          the claim of a delivery from any sound network
+--   delivery-goes-on          the claim of a history
 use mathlib.Core.Path.{_≡_, sym, ap, _∙_, subst}
 use mathlib.Core.Bool.{true, false}
-use mathlib.Core.List.{List, [], _∷_}
+use mathlib.Core.List.{List, []}
 use Prim.Native.Nat.{ℕ, suc, _+_, _≤_, _<_}
 use native.Mathlib.Omega.{arith}
 use lib.Dec.{leb}
 use borrow.Author.Tests.{leb-false}
 use Rattle.model.specs.declared.Settings.{Settings}
+use Rattle.model.specs.declared.Arrival.{Arrival}
 use Rattle.model.specs.declared.Message.{Message}
 use Rattle.model.specs.declared.Phase.the-variants.{Idle}
-use Rattle.model.specs.Refusals.{accepted, unknownSite}
+use Rattle.model.specs.Refusals.{_orElse_, accepted, unknownSite}
 use Rattle.model.specs.Settings.{settingsRefusal}
 use Rattle.model.specs.Messages.{toCoordinator}
 use Rattle.model.specs.Site.{siteMessageRefusal}
 use Rattle.model.specs.SiteMemory.{siteWords}
-use Rattle.model.specs.Coordinator.{isAnnouncing, coordinatorRefusal}
-use Rattle.model.specs.Network.{Network, siteAt, deliveryFuel}
+use Rattle.model.specs.Coordinator.{Coordinator, isAnnouncing, coordinatorRefusal, announcementRefusal}
+use Rattle.model.specs.CoordinatorMemory.{coordinatorWords}
+use Rattle.model.specs.Network.{Network, Delivered, siteAt, afterArrival}
 use Rattle.model.specs.DeliveryClaims.{messageRefusal}
 use Rattle.model.proofs.RefusalLaws.{passed}
+use Rattle.model.proofs.SoundTheorem.{sound-claims}
+use Rattle.model.proofs.ConsistentCoordinator.{CoordinatorWithin}
 use Rattle.site.specs.Calls as SiteCalls
 use Rattle.coordinator.specs.Calls as CoordinatorCalls
-use Rattle.history.specs.State.{State, networkOf, recordAt, sitePart}
-use Rattle.history.specs.Histories.{Deliveries, no-step, delivered, refused-between}
-use Rattle.history.specs.Demands.{DeliveryGoesOn}
+use Rattle.history.specs.State.{State, networkOf, recordAt, sitePart, coordinatorPart}
+use Rattle.history.specs.Histories.{Delivers, Deliveries, no-step, delivered, refused-between}
+use Rattle.history.specs.First.{DeliveryGoesOn}
 use Rattle.history.proofs.RunSound.{sound-run}
-use Rattle.history.proofs.Invariant.{StateOk, rest-of-standing, head-of-standing, few-of-standing}
-use Rattle.history.proofs.Accepted.{refused-by-rules}
+use Rattle.history.proofs.Decoded.{Lengths}
+use Rattle.history.proofs.Underway.{SoundParts, Underway, in-mid, parts-underway}
+use Rattle.history.proofs.Invariant.{StateOk, rest-of-standing, head-of-standing, few-of-standing, firm-of-standing}
+use Rattle.history.proofs.SoundMemory.{coordinator-front, site-message-by-rules}
+use Rattle.history.proofs.Accepted.{held-sound}
 use Rattle.history.proofs.Refused.{refused-same}
-use Rattle.history.proofs.DeliveredState.{delivered-ok}
+use Rattle.history.proofs.DeliveredState.{delivered-on, delivered-ok}
 
 -- ---- So many steps
 
--- So many steps further on, counted from the arrival.
-pub record Further (settings : Settings) (n m : ℕ) (after : State) : Type 0 where
+-- A fact of a state, m steps further on than n.
+pub record Further (P : ℕ → State → Type 0) (n m : ℕ) (after : State) : Type 0 where
   pub steps : ℕ
   pub in-all : steps ≡ n + m
-  pub ok : StateOk settings steps after
+  pub holds : P steps after
+
+-- Kept by each step, it holds after steps of delivery, with refused calls between them.
+pub further : {settings : Settings} (P : ℕ → State → Type 0)
+    → ((n : ℕ) (before after : State)
+    → P n before → Delivers settings before after → P (suc n) after)
+    → (n : ℕ) (state : State)
+    → P n state
+    → (m : ℕ) (after : State)
+    → Deliveries settings state m after
+    → Further P n m after
+further P on n state here m after no-step =
+    record { steps = n; in-all = omega arith; holds = here }
+further P on n state here m after (delivered m′ before after′ earlier step) =
+    let there = further P on n state here m′ before earlier in
+    record {
+      steps = suc (there .steps);
+      in-all = omega (arith, there .in-all);
+      holds = on (there .steps) before after (there .holds) step;
+    }
+further P on n state here m after (refused-between m′ before after′ earlier step) =
+    let there = further P on n state here m before earlier in
+    record {
+      steps = there .steps;
+      in-all = there .in-all;
+      holds = subst (P (there .steps)) (sym (refused-same before after step)) (there .holds);
+    }
+
+-- ---- Sound parts accept the next step
+
+module _ {settings : Settings} (passes : settingsRefusal settings ≡ accepted) (state : State)
+    (lengths : Lengths settings (state .held))
+    (parts : SoundParts settings (networkOf settings (state .held))) where
+  abbrev network : Network
+  network = networkOf settings (state .held)
+
+  -- What the rules say of the head of the queue, the coordinator or the site says.
+  pub coordinator-accepts : (m : Message) (words : ℕ)
+      → messageRefusal settings network m ≡ accepted
+      → toCoordinator m ≡ true
+      → coordinatorWords settings ≤ words
+      → CoordinatorCalls.receiveRefusal settings (state .held .coordinator) m
+      (coordinatorPart (state .held) 0 words)
+      ≡ accepted
+  coordinator-accepts m words none way enough =
+      let by : messageRefusal settings network m
+      ≡ coordinatorRefusal settings (network .coordinator) m = rw way in
+      coordinator-front passes (state .held) lengths parts words
+      (λ (refusal : ℕ) (c : Coordinator). refusal orElse coordinatorRefusal settings c m) enough
+      ∙ sym by
+      ∙ none
+
+  pub site-accepts : (m : Message) (words : ℕ)
+      → messageRefusal settings network m ≡ accepted
+      → toCoordinator m ≡ false
+      → siteWords settings ≤ words
+      → SiteCalls.receiveRefusal settings (recordAt (state .held) (m .site)) (m .site) m
+      (sitePart settings (state .held) (m .site) words)
+      ≡ accepted
+  site-accepts m words head way enough =
+      let by : messageRefusal settings network m
+      ≡ siteMessageRefusal settings (siteAt network (m .site)) (m .site) m = rw way in
+      let none : siteMessageRefusal settings (siteAt network (m .site)) (m .site) m ≡ accepted =
+      sym by ∙ head in
+      let known : m .site < settings .sites =
+      leb-false (settings .sites) (m .site)
+      (passed (leb (settings .sites) (m .site)) unknownSite _ (omega arith) none .test-failed) in
+      site-message-by-rules passes (state .held) lengths parts (m .site) words known enough m
+      ∙ none
+
+  pub announcement-accepted : (words : ℕ)
+      → isAnnouncing (state .held .coordinator .phase) ≡ true
+      → coordinatorWords settings ≤ words
+      → CoordinatorCalls.announceRefusal settings (state .held .coordinator)
+      (coordinatorPart (state .held) 0 words)
+      ≡ accepted
+  announcement-accepted words announces enough =
+      coordinator-front passes (state .held) lengths parts words
+      (λ (refusal : ℕ) (c : Coordinator). refusal orElse announcementRefusal c) enough
+      ∙ rw announces
+
+-- ---- From any sound network
+
+module _ {settings : Settings} (passes : settingsRefusal settings ≡ accepted)
+    {origin : Network} {arrival : Arrival} {past : List Message}
+  where
+    -- Steps of delivery, with refused calls between them.
+    pub deliveries-on : {n : ℕ} {state : State}
+        → Underway settings origin arrival past n state
+        → (m : ℕ) (after : State)
+        → Deliveries settings state m after
+        → Further (Underway settings origin arrival past) n m after
+    deliveries-on {n} {state} mid =
+        further (Underway settings origin arrival past)
+        (λ steps before after here step. delivered-on passes before here after step) n state mid
+
+    -- What it comes to is within the limit, so no step is refused.
+    pub underway-goes-on : {n : ℕ} {state : State}
+        → Underway settings origin arrival past n state
+        → CoordinatorWithin (afterArrival settings origin arrival .network .coordinator)
+        → DeliveryGoesOn settings state
+    underway-goes-on {n} {state} mid within =
+        let here = in-mid passes mid in
+        let parts = parts-underway passes mid within in
+        record {
+          coordinator-accepts = λ m later words waits.
+              coordinator-accepts passes state (mid .lengths) parts m words
+              (here .head-accepted m later waits);
+          site-accepts = λ m later words waits.
+              site-accepts passes state (mid .lengths) parts m words
+              (here .head-accepted m later waits);
+          announcement-accepted = announcement-accepted passes state (mid .lengths) parts;
+          rests-at-end = λ none silent.
+              ap (λ (there : Delivered). there .network .coordinator .phase)
+              (here .ends none silent)
+              ∙ sound-claims .arrival-sound settings origin arrival passes (mid .origin-sound)
+              (mid .taken) .idle;
+          few-steps = λ m after steps.
+              let there = deliveries-on mid m after steps in
+              omega (arith, there .in-all, in-mid passes (there .holds) .few-steps);
+          firm-steps = λ m after steps.
+              let there = deliveries-on mid m after steps in
+              omega (arith, there .in-all, in-mid passes (there .holds) .firm-steps);
+        }
+
+-- ---- In a history
 
 module _ {settings : Settings} (passes : settingsRefusal settings ≡ accepted)
     {n : ℕ} {state : State}
@@ -47,65 +182,10 @@ module _ {settings : Settings} (passes : settingsRefusal settings ≡ accepted)
   -- The invariant after steps of delivery, with refused calls between them.
   pub deliveries-ok : (m : ℕ) (after : State)
       → Deliveries settings state m after
-      → Further settings n m after
-  deliveries-ok m after no-step = record { steps = n; in-all = omega arith; ok = ok }
-  deliveries-ok m after (delivered m′ before after′ earlier step) =
-      let there = deliveries-ok m′ before earlier in
-      record {
-        steps = suc (there .steps);
-        in-all = omega (arith, there .in-all);
-        ok = delivered-ok passes before (there .ok) after step;
-      }
-  deliveries-ok m after (refused-between m′ before after′ earlier step) =
-      let there = deliveries-ok m before earlier in
-      record {
-        steps = there .steps;
-        in-all = there .in-all;
-        ok = subst (StateOk settings (there .steps)) (sym (refused-same before after step))
-            (there .ok);
-      }
-
-  -- ---- The next step is accepted
-
-  abbrev network : Network
-  network = networkOf settings (state .held)
-
-  coordinator-accepts : (m : Message) (later : List Message)
-      → state .waiting ≡ m ∷ later
-      → toCoordinator m ≡ true
-      → CoordinatorCalls.receiveRefusal settings (state .held .coordinator) m
-      (state .held .coordinatorMemory)
-      ≡ accepted
-  coordinator-accepts m later waits way =
-      let by : messageRefusal settings network m
-      ≡ coordinatorRefusal settings (network .coordinator) m = rw way in
-      refused-by-rules passes ok .coordinator-message m
-      ∙ sym by
-      ∙ head-of-standing passes (ok .standing) m later waits
-
-  site-accepts : (m : Message) (later : List Message) (words : ℕ)
-      → state .waiting ≡ m ∷ later
-      → toCoordinator m ≡ false
-      → siteWords settings ≤ words
-      → SiteCalls.receiveRefusal settings (recordAt (state .held) (m .site)) (m .site) m
-      (sitePart settings (state .held) (m .site) words)
-      ≡ accepted
-  site-accepts m later words waits way enough =
-      let by : messageRefusal settings network m
-      ≡ siteMessageRefusal settings (siteAt network (m .site)) (m .site) m = rw way in
-      let none : siteMessageRefusal settings (siteAt network (m .site)) (m .site) m ≡ accepted =
-      sym by ∙ head-of-standing passes (ok .standing) m later waits in
-      let known : m .site < settings .sites =
-      leb-false (settings .sites) (m .site)
-      (passed (leb (settings .sites) (m .site)) unknownSite _ (omega arith) none .test-failed) in
-      refused-by-rules passes ok .site-message (m .site) words m known enough ∙ none
-
-  announcement-accepted : isAnnouncing (state .held .coordinator .phase) ≡ true
-      → CoordinatorCalls.announceRefusal settings (state .held .coordinator)
-      (state .held .coordinatorMemory)
-      ≡ accepted
-  announcement-accepted announces =
-      refused-by-rules passes ok .next-announcement ∙ rw announces
+      → Further (StateOk settings) n m after
+  deliveries-ok =
+      further (StateOk settings)
+      (λ steps before after here step. delivered-ok passes before here after step) n state ok
 
   rests-at-end : state .waiting ≡ []
       → isAnnouncing (state .held .coordinator .phase) ≡ false
@@ -115,18 +195,22 @@ module _ {settings : Settings} (passes : settingsRefusal settings ≡ accepted)
       ap (λ (there : Network). there .coordinator .phase) (rest .network-is)
       ∙ sound-run settings passes (state .accepted) .sound .idle
 
-  few-steps : (m : ℕ) (after : State) → Deliveries settings state m after
-      → m ≤ deliveryFuel settings
-  few-steps m after steps =
-      let there = deliveries-ok m after steps in
-      omega (arith, there .in-all, few-of-standing passes (there .ok .standing))
-
   -- The claim of demand 1 on deliveries.
   pub delivery-goes-on : DeliveryGoesOn settings state
-  delivery-goes-on = record {
-    coordinator-accepts = coordinator-accepts;
-    site-accepts = site-accepts;
-    announcement-accepted = announcement-accepted;
-    rests-at-end = rests-at-end;
-    few-steps = few-steps;
-  }
+  delivery-goes-on =
+      let parts = held-sound passes ok in
+      let head = head-of-standing passes (ok .standing) in
+      record {
+        coordinator-accepts = λ m later words waits.
+            coordinator-accepts passes state (ok .lengths) parts m words (head m later waits);
+        site-accepts = λ m later words waits.
+            site-accepts passes state (ok .lengths) parts m words (head m later waits);
+        announcement-accepted = announcement-accepted passes state (ok .lengths) parts;
+        rests-at-end = rests-at-end;
+        few-steps = λ m after steps.
+            let there = deliveries-ok m after steps in
+            omega (arith, there .in-all, few-of-standing passes (there .holds .standing));
+        firm-steps = λ m after steps.
+            let there = deliveries-ok m after steps in
+            omega (arith, there .in-all, firm-of-standing passes (there .holds .standing));
+      }

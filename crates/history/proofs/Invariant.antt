@@ -1,17 +1,17 @@
 -- What holds of every state that a history reaches: it is at rest, and then the model's run over
 -- the arrivals accepted; or it is in mid-delivery, after so many steps from the run before the
--- arrival. PROOF.md section 7, "Histories".
+-- arrival. PROOF.md section 9, "The invariant".
 --
 --   Resting, Delivering, Standing    where a state stands
 --   StateOk settings n state         the invariant, n steps after the last arrival
 --   rest-of-standing                 at rest it is the model's run
---   SoundParts, SoundHeld, sound-of-standing   sites and coordinator are sound, numbers small
+--   SoundHeld, sound-of-standing     sites and coordinator are sound, numbers small
 --   head-of-standing                 the head of the queue is accepted
 --   run-of-standing                  the accepted arrivals, and the messages as the first of a run
 use mathlib.Core.Path.{_≡_, sym, ap, _∙_, subst}
 use mathlib.Core.Bool.{false}
 use mathlib.Core.List.{List, [], _∷_, _++_, append-assoc, append-nil}
-use Prim.Native.Nat.{ℕ, suc, _+_, _≤_, _<_}
+use Prim.Native.Nat.{ℕ, suc, _+_, _≤_}
 use native.Mathlib.Omega.{arith}
 use lib.ListN.{length}
 use borrow.Author.Tests.{eq-eqb}
@@ -19,20 +19,18 @@ use Rattle.model.specs.declared.Settings.{Settings}
 use Rattle.model.specs.declared.Arrival.{Arrival}
 use Rattle.model.specs.declared.Message.{Message}
 use Rattle.model.specs.Refusals.{accepted}
+use Rattle.model.specs.Limits.{mostSteps}
 use Rattle.model.specs.Settings.{settingsRefusal}
 use Rattle.model.specs.Coordinator.{isAnnouncing}
-use Rattle.model.specs.Network.{Network, Delivered, siteAt, deliveryFuel, afterArrival}
+use Rattle.model.specs.Network.{Delivered, deliveryFuel}
 use Rattle.model.specs.Runs.{Run, refusalIn, withArrival, runOf}
-use Rattle.model.specs.SoundNetwork.{SoundSite, SoundCoordinator}
-use Rattle.model.specs.DeliveryClaims.{Delivery, delivery, deliverySteps, deliveryOf, messageRefusal}
-use Rattle.model.specs.SoundClaims.{Reached, InMidDelivery}
+use Rattle.model.specs.DeliveryClaims.{messageRefusal}
 use Rattle.model.proofs.RunLaws.{runFrom-append}
-use Rattle.model.proofs.SoundTheorem.{sound-claims}
 use Rattle.model.proofs.ConsistentCoordinator.{CoordinatorWithin}
 use Rattle.history.specs.State.{State, networkOf}
 use Rattle.history.proofs.RunSound.{sound-run, within-of-run}
-use Rattle.history.proofs.DeliveryLogs.{LogGrows, steps-grow}
 use Rattle.history.proofs.Decoded.{Lengths}
+use Rattle.history.proofs.Underway.{Underway, SoundParts, in-mid, parts-underway, grows, messages-underway}
 
 -- ---- Where a state stands
 
@@ -45,16 +43,14 @@ pub record Resting (settings : Settings) (state : State) : Type 0 where
 
 -- After n steps of the delivery that an arrival set off.
 pub record Delivering (settings : Settings) (n : ℕ) (state : State) : Type 0 where
-  -- the arrivals before it, the arrival, and the messages since
+  -- the arrivals before it, and the arrival
   pub front : List Arrival
   pub arrival : Arrival
-  pub log : List Message
   pub accepted-are : state .accepted ≡ front ++ (arrival ∷ [])
   pub front-accepted : runOf settings front .accepted ≡ front
-  pub taken : refusalIn settings (runOf settings front .network) arrival ≡ accepted
-  pub reached : Reached settings (deliveryOf settings (runOf settings front .network) arrival) n
-      (delivery (networkOf settings (state .held)) (state .waiting) log)
-  pub messages-are : state .messages ≡ runOf settings front .messages ++ log
+  -- from the network that the run before it comes to
+  pub underway : Underway settings (runOf settings front .network) arrival
+      (runOf settings front .messages) n state
 
 -- At rest, no step after an arrival; or in mid-delivery.
 pub data Standing (settings : Settings) (n : ℕ) (state : State) : Type 0 where
@@ -71,13 +67,7 @@ pub record StateOk (settings : Settings) (n : ℕ) (state : State) : Type 0 wher
 
 -- ---- What a standing is worth
 
--- Each site and the coordinator by itself, and the limit of 100,000,000,000.
-pub record SoundParts (settings : Settings) (network : Network) : Type 0 where
-  pub sites-sound : (j : ℕ) → j < settings .sites → SoundSite settings (siteAt network j)
-  pub coordinator-sound : SoundCoordinator settings (network .coordinator)
-  pub within : CoordinatorWithin (network .coordinator)
-
--- The same of what a state holds.
+-- Each site and the coordinator that a state holds, and the limit of 100,000,000,000.
 abbrev pub SoundHeld : Settings → State → Type 0
 SoundHeld settings state = SoundParts settings (networkOf settings (state .held))
 
@@ -120,20 +110,13 @@ module _ {settings : Settings} (passes : settingsRefusal settings ≡ accepted)
       abbrev before : Run
       before = runOf settings (mid .front)
 
-      abbrev here : Delivery
-      here = delivery (networkOf settings (state .held)) (state .waiting) (mid .log)
-
-      in-mid : InMidDelivery settings (before .network) (mid .arrival) n here
-      in-mid =
-          sound-claims .in-mid-delivery settings (before .network) (mid .arrival) n here passes
-          (sound-run settings passes (mid .front) .sound) (mid .taken) (mid .reached)
-
       -- The run over all that was accepted is the run before, with this arrival.
-      run-then : runOf settings (state .accepted) ≡ withArrival settings before (mid .arrival)
+      pub run-then : runOf settings (state .accepted) ≡ withArrival settings before (mid .arrival)
       run-then =
           ap (runOf settings) (mid .accepted-are)
           ∙ runFrom-append settings _ (mid .front) (mid .arrival ∷ [])
-          ∙ rw (eq-eqb (refusalIn settings (before .network) (mid .arrival)) 0 (mid .taken))
+          ∙ rw
+          (eq-eqb (refusalIn settings (before .network) (mid .arrival)) 0 (mid .underway .taken))
 
       accepted-then : runOf settings (state .accepted) .accepted ≡ state .accepted
       accepted-then =
@@ -141,51 +124,35 @@ module _ {settings : Settings} (passes : settingsRefusal settings ≡ accepted)
           ∙ ap (λ (front : List Arrival). front ++ (mid .arrival ∷ [])) (mid .front-accepted)
           ∙ sym (mid .accepted-are)
 
-      -- What the delivery comes to adds to the log.
-      grows : LogGrows here (deliverySteps (deliveryFuel settings) settings here)
-      grows = steps-grow (deliveryFuel settings) settings here
-
-      all-messages : afterArrival settings (before .network) (mid .arrival) .messages
-          ≡ mid .log ++ grows .more
-      all-messages = ap (λ (d : Delivered). d .messages) (sym (in-mid .finishes)) ∙ grows .log-is
-
       begins-mid : BeginsRun settings state
-      begins-mid = record {
-        accepted-are = accepted-then;
-        later = grows .more;
-        messages-are =
-            ap (λ (run : Run). run .messages) run-then
-            ∙ ap (λ (ms : List Message). before .messages ++ ms) all-messages
-            ∙ sym (append-assoc (before .messages) (mid .log) (grows .more))
-            ∙ ap (λ (ms : List Message). ms ++ grows .more) (sym (mid .messages-are));
-      }
+      begins-mid =
+          let log = mid .underway .log in
+          let more = grows passes (mid .underway) .more in
+          record {
+            accepted-are = accepted-then;
+            later = more;
+            messages-are =
+                ap (λ (run : Run). run .messages) run-then
+                ∙ ap (λ (ms : List Message). before .messages ++ ms)
+                (messages-underway passes (mid .underway))
+                ∙ sym (append-assoc (before .messages) log more)
+                ∙ ap (λ (ms : List Message). ms ++ more) (sym (mid .underway .messages-are));
+          }
 
+      -- The run with this arrival is within the limit, and no number is above what it comes to.
       sound-mid : SoundHeld settings state
       sound-mid =
-          let final = afterArrival settings (before .network) (mid .arrival) .network in
-          let within : CoordinatorWithin (final .coordinator) =
-          subst (λ (run : Run). CoordinatorWithin (run .network .coordinator)) run-then
+          parts-underway passes (mid .underway)
+          (subst (λ (run : Run). CoordinatorWithin (run .network .coordinator)) run-then
           (within-of-run settings passes (runOf settings (state .accepted) .network)
-          (sound-run settings passes (state .accepted))) in
-          record {
-            sites-sound = in-mid .sites-sound;
-            coordinator-sound = in-mid .coordinator-sound;
-            within = record {
-              estimates-within = λ item.
-                  omega (arith, in-mid .estimates-below item, within .estimates-within item);
-              values-within = λ value.
-                  omega (arith, in-mid .values-below value, within .values-within value);
-              total-within = in-mid .total-within;
-              sum-within = in-mid .sum-within;
-            };
-          }
+          (sound-run settings passes (state .accepted))))
 
       -- Where nothing waits and no kind 7 is to come, the run is complete.
       rest-mid : state .waiting ≡ []
           → isAnnouncing (state .held .coordinator .phase) ≡ false
           → Resting settings state
       rest-mid none silent =
-          let ended = in-mid .ends none silent in
+          let ended = in-mid passes (mid .underway) .ends none silent in
           record {
             nothing-waits = none;
             accepted-are = accepted-then;
@@ -193,7 +160,7 @@ module _ {settings : Settings} (passes : settingsRefusal settings ≡ accepted)
                 ap (λ (d : Delivered). d .network) ended
                 ∙ ap (λ (run : Run). run .network) (sym run-then);
             messages-are =
-                mid .messages-are
+                mid .underway .messages-are
                 ∙ ap (λ (d : Delivered). before .messages ++ d .messages) ended
                 ∙ ap (λ (run : Run). run .messages) (sym run-then);
           }
@@ -227,9 +194,15 @@ module _ {settings : Settings} (passes : settingsRefusal settings ≡ accepted)
         let impossible : 0 ≡ suc (length later) =
         ap length (sym (rest .nothing-waits) ∙ waits) in
         absurd (omega arith)
-    head-of-standing (delivering mid) m later waits = in-mid mid .head-accepted m later waits
+    head-of-standing (delivering mid) m later waits =
+        in-mid passes (mid .underway) .head-accepted m later waits
 
     -- No delivery has more steps than the model's fuel.
     pub few-of-standing : Standing settings n state → n ≤ deliveryFuel settings
     few-of-standing (resting none rest) = omega arith
-    few-of-standing (delivering mid) = in-mid mid .few-steps
+    few-of-standing (delivering mid) = in-mid passes (mid .underway) .few-steps
+
+    -- Nor than 24 × k + 2.
+    pub firm-of-standing : Standing settings n state → n ≤ mostSteps (settings .sites)
+    firm-of-standing (resting none rest) = omega arith
+    firm-of-standing (delivering mid) = in-mid passes (mid .underway) .firm-steps

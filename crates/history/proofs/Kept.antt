@@ -1,8 +1,9 @@
 -- What each step of a history leaves as it was: what lies past the network, and, of a single
--- arrival, all other sites. PROOF.md section 7, "Frame".
+-- arrival, all other sites. PROOF.md section 9, "Frame".
 --
---   others-kept     a single arrival
---   tails-kept      every step
+--   others-kept, single-kept, delivery-kept   a single arrival, and a step of its delivery, from
+--                                             any sound network
+--   tails-kept                                every step of a history
 use mathlib.Core.Path.{_≡_, refl, ap, sym, _∙_, subst}
 use mathlib.Core.List.{List}
 use Prim.Native.Nat.{ℕ, _+_, _*_, _≤_, _<_}
@@ -12,6 +13,7 @@ use lib.ListN.{length, take, drop}
 use lib.Seq.{drop-set-lt, getD-set-other}
 use Rattle.model.specs.declared.Settings.{Settings}
 use Rattle.model.specs.declared.Arrival.{Arrival}
+use Rattle.model.specs.declared.Message.{Message}
 use Rattle.model.specs.Refusals.{accepted}
 use Rattle.model.specs.Settings.{settingsRefusal}
 use Rattle.model.specs.Site.{Site, freshSite}
@@ -24,23 +26,26 @@ use Rattle.site_steps.specs.declared.Observed.{Observed}
 use Rattle.site.specs.Calls.{ObserveSays}
 use Rattle.tracker_steps.specs.declared.BatchAnswer.{BatchAnswer}
 use Rattle.tracker.specs.Batch.{BatchLent, BatchSays, batchIn}
-use Rattle.history.specs.State.{Held, State, AtRest, networkOf, recordAt, siteStart, sitePart, afterSiteCall, afterCoordinatorCall}
+use Rattle.history.specs.State.{Held, State, AtRest, networkOf, networkWritten, recordAt, siteStart, sitePart, withPart}
 use Rattle.history.specs.Histories.{batchCall, afterBatch, afterSingle, batch, single, Delivers, to-coordinator, to-site, next-announcement, Step, arrives, delivers, refuses}
 use Rattle.history.specs.Frame.{TailsKept, OthersKept}
 use Rattle.history.proofs.SitesMemory.{offset, offset-is, written}
 use Rattle.history.proofs.FrameLaws.{drop-later, take-written, drop-written, tail-siteRecords, tail-sitesMemory, tail-coordinatorMemory}
+use Rattle.history.proofs.CallFronts.{receives-whole}
 use Rattle.history.proofs.Decoded.{Lengths, in-memory, memory-then}
+use Rattle.history.proofs.Underway.{SoundRest, Underway}
 use Rattle.history.proofs.Invariant.{StateOk, Standing, resting, delivering}
-use Rattle.history.proofs.Accepted.{held-sound}
-use Rattle.history.proofs.BatchedState.{networkWritten, storable}
+use Rattle.history.proofs.Accepted.{sound-rest-of}
+use Rattle.history.proofs.BatchedState.{storable}
 use Rattle.history.proofs.BatchedState as Batched
+use Rattle.history.proofs.LentBatch.{of-lent-batch}
 use Rattle.history.proofs.SingleState as Single
 use Rattle.history.proofs.ToCoordinator as ToCoordinator
 use Rattle.history.proofs.ToSite as ToSite
-use Rattle.history.proofs.DeliveredState.{no-head}
+use Rattle.history.proofs.DeliveredState.{none-at-rest}
 use Rattle.history.proofs.Refused.{refused-same}
 
-kept-self : (settings : Settings) (held : Held) → TailsKept settings held held
+pub kept-self : (settings : Settings) (held : Held) → TailsKept settings held held
 kept-self settings held = record { records = refl; site-memory = refl; coordinator-memory = refl }
 
 -- A whole network written over what is held.
@@ -74,13 +79,13 @@ network-kept settings passes held lengths network sound messages =
           (sound .coordinator-sound .numbers .histogram-length);
     }
 
-module _ {settings : Settings} (passes : settingsRefusal settings ≡ accepted)
-    {n : ℕ} (state : State)
-    (ok : StateOk settings n state) where
+-- ---- From any sound network
+
+module _ {settings : Settings} (passes : settingsRefusal settings ≡ accepted) (state : State) where
   -- ---- A single arrival
 
-  module _ (arrival : Arrival) (words : ℕ) (part : List ℕ) (answer : Observed)
-      (at-rest : AtRest state)
+  module _ (rest : SoundRest settings state)
+      (arrival : Arrival) (words : ℕ) (part : List ℕ) (answer : Observed)
       (says : ObserveSays settings (recordAt (state .held) (arrival .site)) arrival
       (sitePart settings (state .held) (arrival .site) words) part answer)
       (accepts : answer .refusal ≡ accepted) where
@@ -88,31 +93,31 @@ module _ {settings : Settings} (passes : settingsRefusal settings ≡ accepted)
     j = arrival .site
 
     abbrev stateThen : State
-    stateThen = Single.after passes state ok at-rest arrival words part answer says accepts
+    stateThen = Single.after passes state rest arrival words part answer says accepts
 
     abbrev site : Site
-    site = Single.site passes state ok at-rest arrival words part answer says accepts
+    site = Single.site passes state rest arrival words part answer says accepts
 
     known : j < settings .sites
-    known = Single.known passes state ok at-rest arrival words part answer says accepts
+    known = Single.known passes state rest arrival words part answer says accepts
 
     within : siteStart settings j + siteWords settings ≤ length (state .held .siteMemory)
     within =
-        in-memory passes (state .held) (ok .lengths) (held-sound passes ok .sites-sound) j known
+        in-memory passes (state .held) (rest .lengths) (rest .sound .sites-sound) j known
 
     memory-is : stateThen .held .siteMemory
         ≡ written settings (siteStart settings j) site (state .held .siteMemory)
     memory-is =
-        let fits = Single.site-fits passes state ok at-rest arrival words part answer says
+        let fits = Single.site-fits passes state rest arrival words part answer says
         accepts in
-        memory-then passes (state .held) (ok .lengths) (held-sound passes ok .sites-sound) j known
-        site fits words
-        (Single.long passes state ok at-rest arrival words part answer says accepts)
+        memory-then passes (state .held) (rest .lengths) (rest .sound .sites-sound) j known site
+        fits words
+        (Single.long passes state rest arrival words part answer says accepts)
 
     behind : drop (siteStart settings j + siteWords settings) (stateThen .held .siteMemory)
         ≡ drop (siteStart settings j + siteWords settings) (state .held .siteMemory)
     behind =
-        let fits = Single.site-fits passes state ok at-rest arrival words part answer says
+        let fits = Single.site-fits passes state rest arrival words part answer says
         accepts in
         ap (drop (siteStart settings j + siteWords settings)) memory-is
         ∙ drop-written settings site fits
@@ -120,7 +125,7 @@ module _ {settings : Settings} (passes : settingsRefusal settings ≡ accepted)
 
     others-then : OthersKept settings j (state .held) (stateThen .held)
     others-then =
-        let fits = Single.site-fits passes state ok at-rest arrival words part answer says
+        let fits = Single.site-fits passes state rest arrival words part answer says
         accepts in
         record {
           earlier-parts =
@@ -146,7 +151,7 @@ module _ {settings : Settings} (passes : settingsRefusal settings ≡ accepted)
     }
 
     same : afterSingle settings state arrival words part answer ≡ stateThen
-    same = Single.after-is passes state ok at-rest arrival words part answer says accepts
+    same = Single.after-is passes state rest arrival words part answer says accepts
 
     -- The claim on the other sites.
     pub others-kept : OthersKept settings j (state .held)
@@ -155,81 +160,86 @@ module _ {settings : Settings} (passes : settingsRefusal settings ≡ accepted)
         subst (λ (then : State). OthersKept settings j (state .held) (then .held)) (sym same)
         others-then
 
-    single-kept : TailsKept settings (state .held)
+    -- What lies past the network.
+    pub single-kept : TailsKept settings (state .held)
         (afterSingle settings state arrival words part answer .held)
     single-kept =
         subst (λ (then : State). TailsKept settings (state .held) (then .held)) (sym same)
         tails-then
 
-  -- ---- A batch
+  -- ---- A step of delivery
 
+  module _ {origin : Network} {arrival : Arrival} {past : List Message} {n : ℕ}
+      (mid : Underway settings origin arrival past n state) where
+    -- What lies past the network.
+    pub delivery-kept : (after : State) → Delivers settings state after
+        → TailsKept settings (state .held) (after .held)
+    delivery-kept after (to-coordinator m later words part answer waits way says accepts) =
+        let memory = withPart (state .held .coordinatorMemory) 0 words part in
+        let all-lent = receives-whole settings (state .held .coordinator) m words
+        (state .held .coordinatorMemory) part answer says accepts in
+        let sound = ToCoordinator.sound-then passes state mid m later memory answer waits way
+        all-lent accepts in
+        subst (TailsKept settings (state .held))
+        (sym (ToCoordinator.held-is passes state mid m later memory answer waits way all-lent
+        accepts))
+        (record {
+          records = refl;
+          site-memory = refl;
+          coordinator-memory =
+              tail-coordinatorMemory settings
+              (coordinatorReceives settings (networkOf settings (state .held) .coordinator) m
+              .coordinator)
+              (state .held .coordinatorMemory)
+              (sound .numbers .estimates-length) (sound .numbers .histogram-length);
+        })
+    delivery-kept after (to-site m later words answer waits way says accepts) = record {
+      records =
+          drop-set-lt (settings .sites) (state .held .sites .records) (m .site) (answer .site)
+          (ToSite.known passes state mid m later words answer waits way says accepts);
+      site-memory = refl;
+      coordinator-memory = refl;
+    }
+    delivery-kept after (next-announcement words answer says accepts) =
+        record { records = refl; site-memory = refl; coordinator-memory = refl }
+
+-- ---- In a history
+
+module _ {settings : Settings} (passes : settingsRefusal settings ≡ accepted)
+    {n : ℕ} (state : State)
+    (ok : StateOk settings n state) where
   batch-kept : (arrivals : List Arrival) (log : List ℕ) (lent : BatchLent) (answer : BatchAnswer)
       → AtRest state
       → BatchSays (batchCall settings (state .held) arrivals log) lent answer
       → TailsKept settings (state .held) (afterBatch state arrivals lent answer .held)
   batch-kept arrivals log lent answer at-rest says =
-      let after = Batched.after passes state ok at-rest arrivals log lent answer says in
-      let sound = Batched.sound-then passes state ok at-rest arrivals log lent answer says in
+      let after = Batched.after passes state ok at-rest arrivals log in
+      let sound = Batched.sound-then passes state ok at-rest arrivals log in
       let network = batchIn (batchCall settings (state .held) arrivals log) .network in
       subst (λ (then : State). TailsKept settings (state .held) (then .held))
       (sym (Batched.after-is passes state ok at-rest arrivals log lent answer says))
       (network-kept settings passes (state .held) (ok .lengths) network sound
       (after .held .sites .messages))
 
-  -- ---- Delivery
-
-  delivery-kept : (after : State) → Delivers settings state after
-      → TailsKept settings (state .held) (after .held)
-  delivery-kept after (to-coordinator m later memory answer waits way says accepts) =
-      by-standing (ok .standing)
-    where
-      by-standing : Standing settings n state
-          → TailsKept settings (state .held)
-          (afterCoordinatorCall (state .held) (answer .coordinator) memory)
-      by-standing (resting _ rest) = absurd (no-head passes state ok m later waits rest)
-      by-standing (delivering mid) =
-          let sound = ToCoordinator.sound-then passes state ok mid m later memory answer waits way
-          says accepts in
-          subst (TailsKept settings (state .held))
-          (sym (ToCoordinator.held-is passes state ok mid m later memory answer waits way says
-          accepts))
-          (record {
-            records = refl;
-            site-memory = refl;
-            coordinator-memory =
-                tail-coordinatorMemory settings
-                (coordinatorReceives settings (networkOf settings (state .held) .coordinator) m
-                .coordinator)
-                (state .held .coordinatorMemory)
-                (sound .numbers .estimates-length) (sound .numbers .histogram-length);
-          })
-  delivery-kept after (to-site m later words answer waits way says accepts) =
-      by-standing (ok .standing)
-    where
-      by-standing : Standing settings n state
-          → TailsKept settings (state .held)
-          (afterSiteCall (state .held) (m .site) (answer .site) (state .held .siteMemory))
-      by-standing (resting _ rest) = absurd (no-head passes state ok m later waits rest)
-      by-standing (delivering mid) = record {
-        records =
-            drop-set-lt (settings .sites) (state .held .sites .records) (m .site) (answer .site)
-            (ToSite.known passes state ok mid m later words answer waits way says accepts);
-        site-memory = refl;
-        coordinator-memory = refl;
-      }
-  delivery-kept after (next-announcement answer says accepts) =
-      record { records = refl; site-memory = refl; coordinator-memory = refl }
-
   -- ---- Every step
 
   -- The claim on what lies past the network.
   pub tails-kept : (after : State) → Step settings state after
       → TailsKept settings (state .held) (after .held)
-  tails-kept after (arrives (batch arrivals log lent answer rest says)) =
-      batch-kept arrivals log lent answer rest says
+  tails-kept after
+      (arrives (batch siteCount coordinatorCount arrivals log lent answer rest says)) =
+      of-lent-batch passes state ok rest siteCount coordinatorCount arrivals log lent answer says
+      (λ (after : State). TailsKept settings (state .held) (after .held))
+      (kept-self settings (state .held))
+      (batch-kept arrivals log _ answer rest)
   tails-kept after (arrives (single arrival words part answer rest says accepts)) =
-      single-kept arrival words part answer rest says accepts
-  tails-kept after (delivers step) = delivery-kept after step
+      single-kept passes state (sound-rest-of passes ok rest) arrival words part answer says
+      accepts
+  tails-kept after (delivers step) = by-standing (ok .standing)
+    where
+      by-standing : Standing settings n state → TailsKept settings (state .held) (after .held)
+      by-standing (resting _ rest) = absurd (none-at-rest passes state rest after step)
+      by-standing (delivering mid) = delivery-kept passes state (mid .underway) after step
   tails-kept after (refuses step) =
       subst (λ (then : State). TailsKept settings (state .held) (then .held))
       (sym (refused-same state after step)) (kept-self settings (state .held))

@@ -1,17 +1,18 @@
--- The state after a kind 7 was asked for and handed out.
+-- The state after a kind 7 was asked for and handed out, in a delivery from any sound network.
 --
---   next-ok               the invariant of that state
---   next-not-at-rest      a coordinator at rest hands out none
-use mathlib.Core.Path.{_≡_, refl, sym, ap, _∙_, subst}
-use mathlib.Core.Bool.{Bool, true, false, false≢true}
-use mathlib.Core.List.{[], _∷_}
+--   announces     a coordinator that hands one out announces
+--   next-on       the delivery, one step further
+use mathlib.Core.Path.{_≡_, refl, sym, _∙_, subst}
+use mathlib.Core.Bool.{Bool, true, false}
+use mathlib.Core.List.{List, [], _∷_}
 use Prim.Native.Nat.{ℕ, suc}
 use native.Mathlib.Omega.{arith}
 use lib.ListN.{take}
 use Rattle.model.specs.declared.Settings.{Settings}
+use Rattle.model.specs.declared.Arrival.{Arrival}
+use Rattle.model.specs.declared.Message.{Message}
 use Rattle.model.specs.declared.CoordinatorRecord.{CoordinatorRecord}
 use Rattle.model.specs.Refusals.{accepted, messageNotDue}
-use Rattle.model.specs.Settings.{settingsRefusal}
 use Rattle.model.specs.Messages.{noMessage}
 use Rattle.model.specs.Coordinator.{CoordinatorStep, announced, isAnnouncing}
 use Rattle.model.specs.CoordinatorMemory.{coordinatorRecord, coordinatorMemory, coordinatorMemoryRefusal}
@@ -22,24 +23,18 @@ use Rattle.coordinator.specs.declared.Received.{Received}
 use Rattle.coordinator.specs.Calls as CoordinatorCalls
 use Rattle.history.specs.State.{Held, State, networkOf, afterCoordinatorCall, sending}
 use Rattle.history.specs.Histories.{receivedOut}
-use Rattle.history.proofs.RunSound.{sound-run}
 use Rattle.history.proofs.HandedOut.{one-out, announced-few}
 use Rattle.history.proofs.DecodedCoordinator.{network-announced}
-use Rattle.history.proofs.Invariant.{StateOk, Resting, Delivering}
+use Rattle.history.proofs.Underway.{Underway}
 use Rattle.history.proofs.Answers.{accepted-choice}
-use Rattle.history.proofs.DeliveredStep.{goes-on-ok}
+use Rattle.history.proofs.DeliveredStep.{goes-on}
 
-module _ {settings : Settings} (passes : settingsRefusal settings ≡ accepted)
-    {n : ℕ} (before : State)
-    (ok : StateOk settings n before) where
+module _ (settings : Settings) (before : State) where
   abbrev held : Held
   held = before .held
 
   abbrev network : Network
   network = networkOf settings held
-
-  abbrev After : State → Type 0
-  After after = StateOk settings (suc n) after
 
   module _ (answer : Received)
       (says : CoordinatorCalls.Announces settings (held .coordinator) (held .coordinatorMemory)
@@ -52,7 +47,8 @@ module _ {settings : Settings} (passes : settingsRefusal settings ≡ accepted)
         ≡ accepted
     none = sym (says .refusal) ∙ accepts
 
-    announces : isAnnouncing (held .coordinator .phase) ≡ true
+    -- It announces, as the call accepts the wish.
+    pub announces : isAnnouncing (held .coordinator .phase) ≡ true
     announces = by-phase (isAnnouncing (held .coordinator .phase)) refl
       where
         by-phase : (test : Bool) → isAnnouncing (held .coordinator .phase) ≡ test → test ≡ true
@@ -65,39 +61,35 @@ module _ {settings : Settings} (passes : settingsRefusal settings ≡ accepted)
             rw silent at (rows .later-accepted) in
             absurd (omega arith)
 
-    -- The invariant, one announcement further.
-    pub next-ok : Delivering settings n before
-        → After
-        (sending before
-        (afterCoordinatorCall held (answer .coordinator) (held .coordinatorMemory))
-        (before .waiting) (receivedOut answer))
-    next-ok mid =
-        let record-is = says .answer .coordinator ∙ accepted-choice _ _ _ none in
-        let count = says .answer .count ∙ accepted-choice _ _ _ none in
-        let out = says .answer .out ∙ accepted-choice _ _ _ none in
-        let out-is : receivedOut answer ≡ next .messages =
-        (λ i. take (count i) (out i ∷ []))
-        ∙ one-out (next .messages) noMessage (announced-few settings (network .coordinator)) in
-        subst (λ (numbers : CoordinatorRecord).
-        After (sending before (afterCoordinatorCall held numbers (held .coordinatorMemory))
-        (before .waiting) (receivedOut answer)))
-        (sym record-is)
-        (goes-on-ok before mid (before .waiting) (askAnnouncement settings network)
-        (asked n network (before .waiting) (mid .log) (mid .reached) announces)
-        (afterCoordinatorCall held (coordinatorRecord (next .coordinator))
-        (held .coordinatorMemory))
-        (receivedOut answer) (network-announced settings held) out-is ok
-        (record {
-          all-records = ok .lengths .all-records;
-          sites-long = ok .lengths .sites-long;
-          coordinator-long = ok .lengths .coordinator-long;
-        })
-        refl)
+    module _ {origin : Network} {arrival : Arrival} {past : List Message} {n : ℕ}
+        (mid : Underway settings origin arrival past n before) where
+      abbrev After : State → Type 0
+      After after = Underway settings origin arrival past (suc n) after
 
-    -- The model's run is at rest, so it announces nothing.
-    pub next-not-at-rest : Resting settings before → ⊥
-    next-not-at-rest rest =
-        let idle = ap (λ (network′ : Network). isAnnouncing (network′ .coordinator .phase))
-        (rest .network-is)
-        ∙ ap isAnnouncing (sound-run settings passes (before .accepted) .sound .idle) in
-        false≢true (sym idle ∙ announces)
+      -- One announcement further.
+      pub next-on : After
+          (sending before
+          (afterCoordinatorCall held (answer .coordinator) (held .coordinatorMemory))
+          (before .waiting) (receivedOut answer))
+      next-on =
+          let record-is = says .answer .coordinator ∙ accepted-choice _ _ _ none in
+          let count = says .answer .count ∙ accepted-choice _ _ _ none in
+          let out = says .answer .out ∙ accepted-choice _ _ _ none in
+          let out-is : receivedOut answer ≡ next .messages =
+          (λ i. take (count i) (out i ∷ []))
+          ∙ one-out (next .messages) noMessage (announced-few settings (network .coordinator)) in
+          subst (λ (numbers : CoordinatorRecord).
+          After (sending before (afterCoordinatorCall held numbers (held .coordinatorMemory))
+          (before .waiting) (receivedOut answer)))
+          (sym record-is)
+          (goes-on before mid (before .waiting) (askAnnouncement settings network)
+          (asked n network (before .waiting) (mid .log) (mid .reached) announces)
+          (afterCoordinatorCall held (coordinatorRecord (next .coordinator))
+          (held .coordinatorMemory))
+          (receivedOut answer)
+          (record {
+            all-records = mid .lengths .all-records;
+            sites-long = mid .lengths .sites-long;
+            coordinator-long = mid .lengths .coordinator-long;
+          })
+          (network-announced settings held) out-is)

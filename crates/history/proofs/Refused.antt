@@ -16,8 +16,8 @@ use Rattle.model.specs.Site.{freshSite}
 use Rattle.model.specs.SiteMemory.{siteRecord}
 use Rattle.site.specs.Calls as SiteCalls
 use Rattle.coordinator.specs.Calls as CoordinatorCalls
-use Rattle.history.specs.State.{Held, State, recordAt, partOf, withPart, afterSiteCall, afterCoordinatorCall, holding}
-use Rattle.history.specs.Histories.{Refuses, arrival-refused, site-message-refused, coordinator-message-refused, announcement-refused, batch-accepts-nothing}
+use Rattle.history.specs.State.{Held, State, recordAt, partOf, coordinatorPart, lending, withPart, afterSiteCall, afterCoordinatorCall, holding}
+use Rattle.history.specs.Histories.{afterBatch, Refuses, arrival-refused, site-message-refused, coordinator-message-refused, announcement-refused, batch-accepts-nothing}
 use Rattle.history.proofs.Answers.{refused-choice}
 use Rattle.history.proofs.EmptyBatch.{batch-same}
 
@@ -83,20 +83,51 @@ refused-same before after
     ap (holding before)
     (site-same (before .held) which (answer .site) (before .held .siteMemory)
     (says .site ∙ refused-choice refusal _ _ no) refl)
-refused-same before after (coordinator-message-refused given m memory answer says refused) =
+refused-same before after
+    (coordinator-message-refused given m start words part answer says refused) =
     let refusal = CoordinatorCalls.receiveRefusal given (before .held .coordinator) m
-    (before .held .coordinatorMemory) in
+    (coordinatorPart (before .held) start words) in
     let no : refusal ≡ accepted → ⊥ = λ none. refused (says .refusal ∙ none) in
     ap (holding before)
-    (coordinator-same (before .held) (answer .coordinator) memory
+    (coordinator-same (before .held) (answer .coordinator)
+    (withPart (before .held .coordinatorMemory) start words part)
     (says .answer .coordinator ∙ refused-choice refusal _ _ no)
-    (says .memory ∙ refused-choice refusal _ _ no))
-refused-same before after (announcement-refused given answer says refused) =
+    (ap (withPart (before .held .coordinatorMemory) start words)
+    (says .memory ∙ refused-choice refusal _ _ no)
+    ∙ part-same (before .held .coordinatorMemory) start words))
+refused-same before after (announcement-refused given start words answer says refused) =
     let refusal = CoordinatorCalls.announceRefusal given (before .held .coordinator)
-    (before .held .coordinatorMemory) in
+    (coordinatorPart (before .held) start words) in
     let no : refusal ≡ accepted → ⊥ = λ none. refused (says .refusal ∙ none) in
     ap (holding before)
     (coordinator-same (before .held) (answer .coordinator) (before .held .coordinatorMemory)
     (says .answer .coordinator ∙ refused-choice refusal _ _ no) refl)
-refused-same before after (batch-accepts-nothing given arrivals log lent answer says nothing) =
-    batch-same before given arrivals log lent answer says nothing
+refused-same before after
+    (batch-accepts-nothing given slices arrivals log lent answer says nothing) =
+    let held = before .held in
+    -- the law of a whole network lent, of a state that holds the slices alone
+    let same : afterBatch (holding before (lending held slices)) arrivals lent answer
+    ≡ holding before (lending held slices) =
+    batch-same (holding before (lending held slices)) given arrivals log lent answer says
+    nothing in
+    let site-memory =
+    ap (withPart (held .siteMemory) (slices .siteFrom) (slices .siteCount))
+    (ap (λ (state : State). state .held .siteMemory) same)
+    ∙ part-same (held .siteMemory) (slices .siteFrom) (slices .siteCount) in
+    let coordinator-memory =
+    ap (withPart (held .coordinatorMemory) (slices .coordinatorFrom) (slices .coordinatorCount))
+    (ap (λ (state : State). state .held .coordinatorMemory) same)
+    ∙ part-same (held .coordinatorMemory) (slices .coordinatorFrom)
+    (slices .coordinatorCount) in
+    λ i. record {
+      held = record {
+        sites = same i .held .sites;
+        coordinator = same i .held .coordinator;
+        siteMemory = site-memory i;
+        coordinatorMemory = coordinator-memory i;
+      };
+      waiting = before .waiting;
+      accepted = same i .accepted;
+      messages = same i .messages;
+      logged = same i .logged;
+    }

@@ -1,5 +1,5 @@
 -- The network of every run from a fresh start is sound, and its numbers are far below the limits of
--- refusal 11. PROOF.md section 7, "Never 11".
+-- refusal 11. PROOF.md section 9, "Never 11".
 --
 --   SoundRun settings network     sound, and grown from a fresh network
 --   sound-run                     after every list of arrivals

@@ -1,7 +1,8 @@
--- The state after a single arrival at rest: the first stage of the delivery that it sets off.
--- PROOF.md section 7, "Histories".
+-- The state after a single arrival at rest: the first stage of the delivery that it sets off, from
+-- any sound network; and in a history the invariant. PROOF.md section 9, "The invariant".
 --
---   single-ok     the invariant of that state
+--   after-is, begins   the state, by the model's step, and the delivery
+--   single-ok          the invariant of that state
 use mathlib.Core.Path.{_≡_, refl, sym, ap, _∙_, subst}
 use mathlib.Core.List.{List, [], _∷_, _++_}
 use Prim.Native.Nat.{ℕ, _+_, _≤_, _<_}
@@ -17,7 +18,7 @@ use Rattle.model.specs.Messages.{noMessage}
 use Rattle.model.specs.Site.{Site, arrivalRefusal, observed}
 use Rattle.model.specs.SiteMemory.{siteWords, siteIn, siteRecord, siteMemory, siteMemoryRefusal}
 use Rattle.model.specs.Network.{Network, siteAt, withSite}
-use Rattle.model.specs.Runs.{Run, refusalIn, runOf}
+use Rattle.model.specs.Runs.{runOf}
 use Rattle.model.specs.SoundNetwork.{SoundSite}
 use Rattle.model.specs.DeliveryClaims.{delivery, deliveryOf}
 use Rattle.model.specs.SoundClaims.{Reached, begun}
@@ -30,14 +31,16 @@ use Rattle.site.specs.Calls as SiteCalls
 use Rattle.history.specs.State.{Held, State, AtRest, networkOf, recordAt, siteStart, sitePart, withPart, afterSiteCall}
 use Rattle.history.specs.Histories.{observedOut, afterSingle}
 use Rattle.history.proofs.HandedOut.{two-out, observed-few}
-use Rattle.history.proofs.Decoded.{site-part, lengths-site-written, network-site-written}
-use Rattle.history.proofs.Invariant.{StateOk, Resting, Delivering, delivering}
-use Rattle.history.proofs.Accepted.{held-sound, resting-of}
+use Rattle.history.proofs.Decoded.{SitesSound, site-part, lengths-site-written, network-site-written}
+use Rattle.history.proofs.Underway.{SoundRest, Underway}
+use Rattle.history.proofs.Invariant.{StateOk, delivering}
+use Rattle.history.proofs.Accepted.{resting-of, sound-rest-of}
 use Rattle.history.proofs.Answers.{accepted-choice, accepted-long, words-enough}
 
+-- ---- From any sound network
+
 module _ {settings : Settings} (passes : settingsRefusal settings ≡ accepted)
-    {n : ℕ} (before : State)
-    (ok : StateOk settings n before) (at-rest : AtRest before)
+    (before : State) (rest : SoundRest settings before)
     (arrival : Arrival) (words : ℕ) (part : List ℕ) (answer : Observed)
     (says : SiteCalls.ObserveSays settings (recordAt (before .held) (arrival .site)) arrival
     (sitePart settings (before .held) (arrival .site) words) part answer)
@@ -54,11 +57,8 @@ module _ {settings : Settings} (passes : settingsRefusal settings ≡ accepted)
   abbrev given : List ℕ
   given = sitePart settings held j words
 
-  abbrev run : Run
-  run = runOf settings (before .accepted)
-
-  rest : Resting settings before
-  rest = resting-of passes ok at-rest
+  sites-sound : SitesSound settings held
+  sites-sound = rest .sound .sites-sound
 
   none : SiteCalls.observeRefusal settings numbers arrival given ≡ accepted
   none = sym (says .refusal) ∙ accepts
@@ -77,10 +77,10 @@ module _ {settings : Settings} (passes : settingsRefusal settings ≡ accepted)
       taken-of-no-refusal settings (siteIn settings numbers given) arrival (parts .later-accepted)
       .known .site-known
 
-  -- The site that record and part hold is the run's.
+  -- The site that record and part hold is the network's.
   site-here : siteIn settings numbers given ≡ siteAt (networkOf settings held) j
   site-here =
-      site-part passes held (ok .lengths) (held-sound passes ok .sites-sound) j known words
+      site-part passes held (rest .lengths) sites-sound j known words
       (words-enough (siteWords settings) words (drop (siteStart settings j) (held .siteMemory))
       long)
 
@@ -98,7 +98,7 @@ module _ {settings : Settings} (passes : settingsRefusal settings ≡ accepted)
   pub site-sound : SoundSite settings site
   site-sound =
       sound-observed (settled settings passes .capacity .at-least) taken-here
-      (held-sound passes ok .sites-sound j known)
+      (sites-sound j known)
 
   -- So it fits its part.
   pub site-fits : Storable settings site
@@ -147,52 +147,76 @@ module _ {settings : Settings} (passes : settingsRefusal settings ≡ accepted)
       λ i. record {
         held = afterSiteCall held j (record-is i)
             (withPart (held .siteMemory) (siteStart settings j) words (part-is i));
-        waiting = at-rest .nothing-waits i ++ out-is i;
+        waiting = rest .nothing-waits i ++ out-is i;
         accepted = before .accepted ++ (arrival ∷ []);
         messages = before .messages ++ out-is i;
         logged = before .logged;
       }
 
-  network-then : networkOf settings (after .held) ≡ withSite (networkOf settings held) j site
+  -- The network then: the site with the arrival, and every other as it was.
+  pub network-then : networkOf settings (after .held) ≡ withSite (networkOf settings held) j site
   network-then =
-      network-site-written passes held (ok .lengths) (held-sound passes ok .sites-sound) j known
+      network-site-written passes held (rest .lengths) sites-sound j known
       site site-fits words long
 
   -- The delivery begins.
-  begins : Delivering settings 0 after
-  begins =
+  after-begins : Underway settings (networkOf settings held) arrival (before .messages) 0 after
+  after-begins =
       let start : delivery (networkOf settings (after .held)) (after .waiting) (after .waiting)
-      ≡ deliveryOf settings (run .network) arrival =
-      ap (λ (network : Network). delivery network (after .waiting) (after .waiting)) network-then
-      ∙ ap (λ (network : Network). deliveryOf settings network arrival) (rest .network-is) in
+      ≡ deliveryOf settings (networkOf settings held) arrival =
+      ap (λ (network : Network). delivery network (after .waiting) (after .waiting))
+      network-then in
       record {
-        front = before .accepted;
-        arrival = arrival;
-        log = after .waiting;
-        accepted-are = refl;
-        front-accepted = rest .accepted-are;
+        origin-sound = rest .sound;
         taken =
-            ap (λ (network : Network). refusalIn settings network arrival) (sym (rest .network-is))
-            ∙ ap (λ (s : Site). arrivalRefusal settings s arrival) (sym site-here)
+            ap (λ (s : Site). arrivalRefusal settings s arrival) (sym site-here)
             ∙ parts .later-accepted;
-        reached =
-            subst (Reached settings (deliveryOf settings (run .network) arrival) 0) (sym start)
-            begun;
-        messages-are =
-            ap (λ (front : List Message). front ++ after .waiting) (rest .messages-are);
+        lengths =
+            lengths-site-written passes held (rest .lengths) sites-sound j known site site-fits
+            words long;
+        log = after .waiting;
+        reached = subst (Reached settings _ 0) (sym start) begun;
+        messages-are = refl;
       }
 
-  after-ok : StateOk settings 0 after
-  after-ok = record {
-    lengths =
-        lengths-site-written passes held (ok .lengths) (held-sound passes ok .sites-sound) j known
-        site site-fits words long;
-    standing = delivering begins;
-    count-is-sum = ok .count-is-sum;
-    logged-within =
-        omega (arith, ok .logged-within, length-append (before .messages) (after .waiting));
-  }
+  -- So it does for what the call answers and leaves.
+  pub begins : Underway settings (networkOf settings held) arrival (before .messages) 0
+      (afterSingle settings before arrival words part answer)
+  begins =
+      subst (Underway settings (networkOf settings held) arrival (before .messages) 0)
+      (sym after-is) after-begins
 
-  -- The invariant when a delivery begins.
-  pub single-ok : StateOk settings 0 (afterSingle settings before arrival words part answer)
-  single-ok = subst (StateOk settings 0) (sym after-is) after-ok
+-- ---- In a history
+
+-- The invariant when a delivery begins.
+pub single-ok : {settings : Settings} (passes : settingsRefusal settings ≡ accepted)
+    {n : ℕ} (before : State) (ok : StateOk settings n before) (at-rest : AtRest before)
+    (arrival : Arrival) (words : ℕ) (part : List ℕ) (answer : Observed)
+    → SiteCalls.ObserveSays settings (recordAt (before .held) (arrival .site)) arrival
+    (sitePart settings (before .held) (arrival .site) words) part answer
+    → answer .refusal ≡ accepted
+    → StateOk settings 0 (afterSingle settings before arrival words part answer)
+single-ok {settings} passes before ok at-rest arrival words part answer says accepts =
+    let rest = resting-of passes ok at-rest in
+    let after = afterSingle settings before arrival words part answer in
+    let on = begins passes before (sound-rest-of passes ok at-rest) arrival words part answer says
+    accepts in
+    record {
+      lengths = on .lengths;
+      standing = delivering (record {
+        front = before .accepted;
+        arrival = arrival;
+        accepted-are = refl;
+        front-accepted = rest .accepted-are;
+        underway =
+            subst (λ (past : List Message).
+            Underway settings (runOf settings (before .accepted) .network) arrival past 0 after)
+            (rest .messages-are)
+            (subst (λ (origin : Network).
+            Underway settings origin arrival (before .messages) 0 after)
+            (rest .network-is) on);
+      });
+      count-is-sum = ok .count-is-sum;
+      logged-within =
+          omega (arith, ok .logged-within, length-append (before .messages) (observedOut answer));
+    }

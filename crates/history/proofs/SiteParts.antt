@@ -1,5 +1,5 @@
 -- One site in a part of the sites' memory (document 01, "Deck"): only its own numbers are read and
--- written, so what lies past them may be there or not. PROOF.md section 7, "Frame".
+-- written, so what lies past them may be there or not. PROOF.md section 9, "Frame".
 --
 --   siteIn-take                       a site read from a part that holds its numbers
 --   siteMemory-append                 a site written to such memory: what lies past stays

@@ -1,5 +1,5 @@
 -- All sites in their records and memory, one part after another: what is read, and what is read
--- after one part was written. PROOF.md section 7, "Frame".
+-- after one part was written. PROOF.md section 9, "Frame".
 --
 --   offset words which              where a site's part starts
 --   sitesIn-set                     one record changed: that site alone

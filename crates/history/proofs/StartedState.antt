@@ -1,12 +1,13 @@
 -- The state that the two start calls leave: fresh records, and memory that holds a fresh network.
 --
 --   start-ok     the invariant of that state
-use mathlib.Core.Path.{_≡_, refl, sym, _∙_, subst}
-use mathlib.Core.List.{List}
-use Prim.Native.Nat.{ℕ, _≤_}
+use mathlib.Core.Path.{_≡_, refl, sym, ap, _∙_, subst}
+use mathlib.Core.List.{List, _++_}
+use Prim.Native.Nat.{ℕ, _+_, _≤_}
 use native.Mathlib.Omega.{arith}
 use lib.Dec.{ltb}
-use lib.ListN.{length, drop, replicate, length-replicate}
+use lib.ListN.{length, drop, replicate, length-replicate, replicate-append-replicate}
+use lib.Seq.{take-at}
 use borrow.Author.Tests.{ltb-false}
 use Rattle.laws.proofs.FlatMemory.{length-overwritten}
 use Rattle.model.specs.declared.Settings.{Settings}
@@ -28,6 +29,7 @@ use Rattle.coordinator.specs.declared.StartedCoordinator.{StartedCoordinator}
 use Rattle.coordinator.specs.Calls as CoordinatorCalls
 use Rattle.history.specs.State.{State, networkOf}
 use Rattle.history.specs.Histories.{startState}
+use Rattle.history.specs.Whole.{StartedFresh}
 use Rattle.history.proofs.Answers.{accepted-choice}
 use Rattle.history.proofs.FreshSites.{sitesIn-fresh}
 use Rattle.history.proofs.Decoded.{Lengths}
@@ -102,6 +104,26 @@ module _ (settings : Settings) (passes : settingsRefusal settings ≡ accepted)
     logged-within = omega arith;
   }
 
+  fresh-start : StartedFresh settings (freshState .held)
+  fresh-start =
+      let zeros = replicate {A = ℕ} (sitesWords settings) 0 in
+      let both : fresh .estimates ++ fresh .histogram ≡ replicate (coordinatorWords settings) 0 =
+      replicate-append-replicate {A = ℕ} (settings .universe) valueCount 0 in
+      let width : length (fresh .estimates ++ fresh .histogram) ≡ coordinatorWords settings =
+      ap length both ∙ length-replicate {A = ℕ} (coordinatorWords settings) 0 in
+      record {
+        sites = refl;
+        coordinator = refl;
+        site-memory =
+            take-at zeros (drop (length zeros) sitesBefore) (sitesWords settings)
+            (length-replicate {A = ℕ} (sitesWords settings) 0);
+        coordinator-memory =
+            take-at (fresh .estimates ++ fresh .histogram)
+            (drop (length (fresh .estimates ++ fresh .histogram)) coordinatorBefore)
+            (coordinatorWords settings) width
+            ∙ both;
+      }
+
 -- ---- The start calls
 
 module _ (settings : Settings) (sitesBefore sitesAfter coordinatorBefore coordinatorAfter : List ℕ)
@@ -146,6 +168,14 @@ module _ (settings : Settings) (sitesBefore sitesAfter coordinatorBefore coordin
       coordinator-says .memory ∙ accepted-choice _ _ _ none-coordinator in
       λ i. startState (sites-say .sites i) (coordinator-says .coordinator i) (site-memory i)
       (memory i)
+
+  -- Fresh records, and zeros in both memories.
+  pub start-fresh : StartedFresh settings
+      (startState (sites .sites) (coordinator .coordinator) sitesAfter coordinatorAfter .held)
+  start-fresh =
+      subst (λ (state : State). StartedFresh settings (state .held)) (sym state-is)
+      (fresh-start settings start-passes sitesBefore coordinatorBefore sites-long
+      coordinator-long)
 
   -- The invariant of the first state.
   pub start-ok : StateOk settings 0

@@ -1,80 +1,42 @@
--- The three demands hold of every history of calls: the invariant holds after the two start calls
--- and is kept by every step, and each demand follows from it. PROOF.md section 7.
+-- The three demands hold of every history of calls: each follows from the invariant, which every
+-- reachable state has (Arisen.antt), and from the claims over runs. PROOF.md section 9.
 --
---   Arisen, arisen    the invariant of every reachable state
---   demands           the theorem
+--   demands     the theorem
 use mathlib.Core.Path.{_≡_, sym, ap, _∙_, subst}
 use mathlib.Core.List.{List}
-use Prim.Native.Nat.{ℕ, suc, _+_, _*_, _≤_}
+use Prim.Native.Nat.{_+_, _-_, _*_, _≤_}
 use native.Mathlib.Nat.{mul-le-mul-left}
 use native.Mathlib.Omega.{arith}
-use lib.ListN.{length, take, length-append}
+use lib.ListN.{length, take, drop, length-append, take-append-drop}
 use lib.Seq.{take-append-seam}
 use Rattle.model.specs.declared.Settings.{Settings}
 use Rattle.model.specs.declared.Arrival.{Arrival}
 use Rattle.model.specs.Refusals.{accepted}
-use Rattle.model.specs.Limits.{messagesPerArrival, allowanceFactor}
+use Rattle.model.specs.Limits.{messagesPerArrival, allowanceFactor, firmMessages, firmMessagesPerDigit}
 use Rattle.model.specs.Settings.{settingsRefusal, digits, allowance}
+use Rattle.model.specs.Network.{Network}
 use Rattle.model.specs.Runs.{Run, runOf}
 use Rattle.model.specs.Claims.{counted, FewMessages}
 use Rattle.model.proofs.Theorem.{demands-over-runs}
-use Rattle.history.specs.State.{State}
-use Rattle.history.specs.Histories.{batch, single, Step, arrives, delivers, refuses, Reachable, started, stepped}
-use Rattle.history.specs.Demands.{First, Second, Third, Demands}
-use Rattle.history.proofs.Invariant.{StateOk, BeginsRun, run-of-standing}
-use Rattle.history.proofs.Accepted.{memory-accepted, refused-by-rules, resting-of}
+use Rattle.history.specs.State.{State, networkWritten}
+use Rattle.history.specs.Histories.{Reachable, heldAtStart}
+use Rattle.history.specs.First.{First}
+use Rattle.history.specs.Second.{Second}
+use Rattle.history.specs.Whole.{Whole}
+use Rattle.history.specs.Third.{Third}
+use Rattle.history.specs.Demands.{Demands}
+use Rattle.history.proofs.Invariant.{BeginsRun, run-of-standing}
+use Rattle.history.proofs.Accepted.{memory-accepted, refused-by-rules, resting-of, sound-rest-of}
 use Rattle.history.proofs.Readings.{reads-right}
-use Rattle.history.proofs.StartedState.{start-ok}
-use Rattle.history.proofs.BatchedState.{batch-ok}
-use Rattle.history.proofs.SingleState.{single-ok}
-use Rattle.history.proofs.DeliveredState.{delivered-ok}
+use Rattle.history.proofs.FewFollow.{few-follow}
 use Rattle.history.proofs.Refused.{refused-same}
 use Rattle.history.proofs.GoesOn.{delivery-goes-on}
 use Rattle.history.proofs.Kept.{tails-kept, others-kept}
-
--- ---- The invariant of every reachable state
-
--- The invariant, some steps after the last arrival.
-pub record Arisen (settings : Settings) (state : State) : Type 0 where
-  pub steps : ℕ
-  pub ok : StateOk settings steps state
-
-module _ {settings : Settings} (passes : settingsRefusal settings ≡ accepted) where
-  arisen-step : (before after : State)
-      → Arisen settings before
-      → Step settings before after
-      → Arisen settings after
-  arisen-step before after there (arrives (batch arrivals log lent answer rest says)) =
-      record {
-        steps = 0;
-        ok = batch-ok passes before (there .ok) rest arrivals log lent answer says;
-      }
-  arisen-step before after there (arrives (single arrival words part answer rest says accepts)) =
-      record {
-        steps = 0;
-        ok = single-ok passes before (there .ok) rest arrival words part answer says accepts;
-      }
-  arisen-step before after there (delivers step) =
-      record { steps = suc (there .steps); ok = delivered-ok passes before (there .ok) after step }
-  arisen-step before after there (refuses step) =
-      record {
-        steps = there .steps;
-        ok = subst (StateOk settings (there .steps)) (sym (refused-same before after step))
-            (there .ok);
-      }
-
-  -- By recursion on the history.
-  pub arisen : (state : State) → Reachable settings state → Arisen settings state
-  arisen state
-      (started sitesBefore sitesAfter coordinatorBefore coordinatorAfter sites coordinator
-      sites-say sites-accepted coordinator-says coordinator-accepted) =
-      record {
-        steps = 0;
-        ok = start-ok settings sitesBefore sitesAfter coordinatorBefore coordinatorAfter sites
-            coordinator sites-say sites-accepted coordinator-says coordinator-accepted;
-      }
-  arisen state (stepped before after earlier step) =
-      arisen-step before after (arisen before earlier) step
+use Rattle.history.proofs.FromStart.{held-whole}
+pub use Rattle.history.proofs.Arisen.{Arisen, arisen}
+use Rattle.history.proofs.Arisen.{kept-from}
+use Rattle.history.proofs.GivenDraws.{as-given}
+use Rattle.history.proofs.KeptOut.{nothing-lost}
 
 -- ---- Each demand
 
@@ -110,14 +72,40 @@ module _ (settings : Settings) (state : State) (passes : settingsRefusal setting
         sym (ap (take (length (state .messages))) (begins .messages-are)
         ∙ take-append-seam (state .messages) (begins .later));
     accepted-are = begins .accepted-are;
+    fronts-accepted = λ n.
+        subst (λ (arrivals : List Arrival).
+        runOf settings (take n arrivals) .accepted ≡ take n arrivals)
+        (begins .accepted-are)
+        (demands-over-runs .cuts settings (state .accepted) .fronts-accepted n);
+    messages-after-each = λ n.
+        let front = runOf settings (take n (state .accepted)) .messages in
+        ap (λ (arrivals : List Arrival). take (length front) (runOf settings arrivals .messages))
+        (sym (take-append-drop n (state .accepted)))
+        ∙ demands-over-runs .cuts settings (take n (state .accepted)) .messages-stay
+        (drop n (state .accepted));
     tracks-after-each = λ n.
         demands-over-runs .tracks settings (take n (state .accepted)) passes;
     estimates-after-each = λ n.
         demands-over-runs .estimates-near settings (take n (state .accepted)) passes;
     tails-kept = tails-kept passes state (there .ok);
     others-kept = λ arrival words part answer rest says accepts.
-        others-kept passes state (there .ok) arrival words part answer rest says accepts;
+        others-kept passes state (sound-rest-of passes (there .ok) rest) arrival words part answer
+        says accepts;
   }
+
+  whole : Whole settings (heldAtStart reachable) state
+  whole =
+      let kept = kept-from passes state reachable in
+      let now = held-whole passes state (there .ok) (heldAtStart reachable) (kept .from) in
+      record {
+        start-fresh = kept .fresh;
+        nothing-else = now;
+        whole-at-rest = λ rest.
+            now
+            ∙ ap (λ (network : Network).
+            networkWritten settings (heldAtStart reachable) network (state .logged))
+            (resting-of passes (there .ok) rest .network-is);
+      }
 
   -- The messages so far are no more than those of the run.
   no-more : length (state .messages) ≤ length (run .messages)
@@ -143,14 +131,35 @@ module _ (settings : Settings) (state : State) (passes : settingsRefusal setting
       let allowance-bound = subst (λ (arrivals : List Arrival).
       length (run .messages) ≤ allowance settings (counted arrivals)) over
       (few .within-allowance) in
+      let firm-bound = subst (λ (arrivals : List Arrival).
+      settings .epsilon * length (run .messages)
+      ≤ firmMessages * settings .sites
+      + firmMessagesPerDigit * (settings .sites * (digits (counted arrivals) - 2)))
+      over
+      (demands-over-runs .firm-messages settings (state .accepted) passes
+      .within-later-digits) in
       record {
         within-digits =
             omega (arith, mul-le-mul-left (settings .epsilon) no-more, digits-bound);
         per-arrival = omega (arith, no-more, arrivals-bound);
         within-allowance = omega (arith, no-more, allowance-bound);
+        within-later-digits =
+            omega (arith, mul-le-mul-left (settings .epsilon) no-more, firm-bound);
+        few-messages-after-each = λ n.
+            demands-over-runs .few-messages settings (take n (state .accepted)) passes;
+        firm-messages-after-each = λ n.
+            demands-over-runs .firm-messages settings (take n (state .accepted)) passes;
+        few-follow = few-follow settings passes (state .accepted);
         count-is-sum = there .ok .count-is-sum;
       }
 
 -- The three demands.
 pub demands : Demands
-demands = record { first = first; second = second; third = third }
+demands = record {
+  first = first;
+  second = second;
+  whole = whole;
+  third = third;
+  given = λ settings state passes reachable. as-given passes state reachable;
+  nothing-lost = λ settings before after step. nothing-lost step;
+}

@@ -1,13 +1,15 @@
--- The state after a message that the coordinator accepted.
+-- The state after a message that the coordinator accepted, in a delivery from any sound network.
 --
---   to-coordinator-ok     the invariant of that state
-use mathlib.Core.Path.{_≡_, refl, sym, _∙_, subst}
+--   sound-then, held-is   the coordinator then is sound, and what is held is what the model leaves
+--   to-coordinator-on     the delivery, one step further
+use mathlib.Core.Path.{_≡_, sym, _∙_, subst}
 use mathlib.Core.Bool.{true}
 use mathlib.Core.List.{List, [], _∷_}
 use Prim.Native.Nat.{ℕ, suc}
 use native.Mathlib.Omega.{arith}
 use lib.ListN.{take}
 use Rattle.model.specs.declared.Settings.{Settings}
+use Rattle.model.specs.declared.Arrival.{Arrival}
 use Rattle.model.specs.declared.Message.{Message}
 use Rattle.model.specs.Refusals.{accepted}
 use Rattle.model.specs.Settings.{settingsRefusal}
@@ -15,7 +17,6 @@ use Rattle.model.specs.Messages.{noMessage, toCoordinator}
 use Rattle.model.specs.Coordinator.{CoordinatorStep, coordinatorReceives}
 use Rattle.model.specs.CoordinatorMemory.{coordinatorRecord, coordinatorMemory}
 use Rattle.model.specs.Network.{Network, Delivered, handToCoordinator, handOver}
-use Rattle.model.specs.Runs.{runOf}
 use Rattle.model.specs.SoundNetwork.{SoundCoordinator}
 use Rattle.model.specs.DeliveryClaims.{joining, deliveryOf}
 use Rattle.model.specs.SoundClaims.{Reached}
@@ -26,13 +27,13 @@ use Rattle.history.specs.Histories.{receivedOut}
 use Rattle.history.proofs.HandedOut.{one-out, received-few}
 use Rattle.history.proofs.Decoded.{Lengths}
 use Rattle.history.proofs.DecodedCoordinator.{length-coordinatorMemory, network-coordinator-written}
-use Rattle.history.proofs.Invariant.{StateOk, Delivering}
+use Rattle.history.proofs.Underway.{Underway}
 use Rattle.history.proofs.Answers.{accepted-choice}
-use Rattle.history.proofs.DeliveredStep.{goes-on-ok, handed-on, coordinator-sound-then}
+use Rattle.history.proofs.DeliveredStep.{goes-on, handed-on, coordinator-sound-then}
 
 module _ {settings : Settings} (passes : settingsRefusal settings ≡ accepted)
-    {n : ℕ} (before : State)
-    (ok : StateOk settings n before) where
+    {origin : Network} {arrival : Arrival} {past : List Message} {n : ℕ} (before : State)
+    (mid : Underway settings origin arrival past n before) where
   abbrev held : Held
   held = before .held
 
@@ -40,9 +41,9 @@ module _ {settings : Settings} (passes : settingsRefusal settings ≡ accepted)
   network = networkOf settings held
 
   abbrev After : State → Type 0
-  After after = StateOk settings (suc n) after
+  After after = Underway settings origin arrival past (suc n) after
 
-  module _ (mid : Delivering settings n before) (m : Message) (later : List Message)
+  module _ (m : Message) (later : List Message)
       (memory : List ℕ) (answer : Received)
       (waits : before .waiting ≡ m ∷ later)
       (way : toCoordinator m ≡ true)
@@ -59,19 +60,18 @@ module _ {settings : Settings} (passes : settingsRefusal settings ≡ accepted)
     over : handOver settings network m ≡ handToCoordinator settings network m
     over = rw way
 
-    on : Reached settings
-        (deliveryOf settings (runOf settings (mid .front) .network) (mid .arrival)) (suc n)
+    on : Reached settings (deliveryOf settings origin arrival) (suc n)
         (joining (handToCoordinator settings network m) later (mid .log))
     on =
         subst (λ (after : Delivered).
-        Reached settings (deliveryOf settings (runOf settings (mid .front) .network) (mid .arrival))
-        (suc n) (joining after later (mid .log)))
+        Reached settings (deliveryOf settings origin arrival) (suc n)
+        (joining after later (mid .log)))
         over (handed-on before mid m later waits)
 
     -- The coordinator then is sound.
     pub sound-then : SoundCoordinator settings (step .coordinator)
     sound-then =
-        coordinator-sound-then passes before mid
+        coordinator-sound-then before mid passes
         (joining (handToCoordinator settings network m) later (mid .log)) on
 
     -- What the call answers and leaves is what its contract says of the model's step.
@@ -94,29 +94,29 @@ module _ {settings : Settings} (passes : settingsRefusal settings ≡ accepted)
         (afterCoordinatorCall held (coordinatorRecord (step .coordinator))
         (coordinatorMemory (step .coordinator) (held .coordinatorMemory)))
     lengths-then = record {
-      all-records = ok .lengths .all-records;
-      sites-long = ok .lengths .sites-long;
+      all-records = mid .lengths .all-records;
+      sites-long = mid .lengths .sites-long;
       coordinator-long =
           omega (
             arith,
             length-coordinatorMemory settings (step .coordinator) (held .coordinatorMemory)
                 (sound-then .numbers .estimates-length) (sound-then .numbers .histogram-length)
-                (ok .lengths .coordinator-long),
-            ok .lengths .coordinator-long,
+                (mid .lengths .coordinator-long),
+            mid .lengths .coordinator-long,
           );
     }
 
-    -- The invariant, one message further.
-    pub to-coordinator-ok : After
+    -- One message further.
+    pub to-coordinator-on : After
         (sending before (afterCoordinatorCall held (answer .coordinator) memory) later
         (receivedOut answer))
-    to-coordinator-ok =
+    to-coordinator-on =
         subst (λ (then : Held). After (sending before then later (receivedOut answer)))
         (sym held-is)
-        (goes-on-ok before mid later (handToCoordinator settings network m) on
+        (goes-on before mid later (handToCoordinator settings network m) on
         (afterCoordinatorCall held (coordinatorRecord (step .coordinator))
         (coordinatorMemory (step .coordinator) (held .coordinatorMemory)))
-        (receivedOut answer)
+        (receivedOut answer) lengths-then
         (network-coordinator-written settings held (step .coordinator)
         (sound-then .numbers .estimates-length) (sound-then .numbers .histogram-length))
-        out-is ok lengths-then refl)
+        out-is)

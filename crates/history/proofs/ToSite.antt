@@ -1,7 +1,8 @@
--- The state after a message that a site accepted.
+-- The state after a message that a site accepted, in a delivery from any sound network.
 --
---   to-site-ok     the invariant of that state
-use mathlib.Core.Path.{_≡_, refl, sym, ap, _∙_, subst}
+--   known, record-is   the site that the message names, and its record then
+--   to-site-on         the delivery, one step further
+use mathlib.Core.Path.{_≡_, sym, ap, _∙_, subst}
 use mathlib.Core.Bool.{false}
 use mathlib.Core.List.{List, [], _∷_}
 use Prim.Native.Nat.{ℕ, suc, _≤_, _<_}
@@ -10,6 +11,7 @@ use lib.Dec.{leb}
 use lib.ListN.{length, getD, take, drop}
 use borrow.Author.Tests.{leb-false}
 use Rattle.model.specs.declared.Settings.{Settings}
+use Rattle.model.specs.declared.Arrival.{Arrival}
 use Rattle.model.specs.declared.Message.{Message}
 use Rattle.model.specs.declared.SiteRecord.{SiteRecord}
 use Rattle.model.specs.Refusals.{when, _orElse_, accepted, unknownSite}
@@ -18,7 +20,6 @@ use Rattle.model.specs.Messages.{noMessage, toCoordinator}
 use Rattle.model.specs.Site.{Site, siteReceives, siteMessageRefusal}
 use Rattle.model.specs.SiteMemory.{siteWords, siteIn, siteRecord, siteMemoryRefusal}
 use Rattle.model.specs.Network.{Network, Delivered, siteAt, handToSite, handOver}
-use Rattle.model.specs.Runs.{runOf}
 use Rattle.model.specs.DeliveryClaims.{joining, deliveryOf}
 use Rattle.model.specs.SoundClaims.{Reached}
 use Rattle.model.proofs.RefusalLaws.{BothAccepted, both-accepted, passed}
@@ -27,15 +28,14 @@ use Rattle.site.specs.Calls as SiteCalls
 use Rattle.history.specs.State.{Held, State, networkOf, recordAt, siteStart, sitePart, afterSiteCall, sending}
 use Rattle.history.specs.Histories.{answeredOut}
 use Rattle.history.proofs.HandedOut.{one-out, answered-few}
-use Rattle.history.proofs.Decoded.{site-part, lengths-site-told, network-site-told}
-use Rattle.history.proofs.Invariant.{StateOk, Delivering}
-use Rattle.history.proofs.Accepted.{held-sound}
+use Rattle.history.proofs.Decoded.{SitesSound, site-part, lengths-site-told, network-site-told}
+use Rattle.history.proofs.Underway.{Underway, in-mid}
 use Rattle.history.proofs.Answers.{accepted-choice, accepted-long, words-enough}
-use Rattle.history.proofs.DeliveredStep.{goes-on-ok, handed-on}
+use Rattle.history.proofs.DeliveredStep.{goes-on, handed-on}
 
 module _ {settings : Settings} (passes : settingsRefusal settings ≡ accepted)
-    {n : ℕ} (before : State)
-    (ok : StateOk settings n before) where
+    {origin : Network} {arrival : Arrival} {past : List Message} {n : ℕ} (before : State)
+    (mid : Underway settings origin arrival past n before) where
   abbrev held : Held
   held = before .held
 
@@ -43,9 +43,12 @@ module _ {settings : Settings} (passes : settingsRefusal settings ≡ accepted)
   network = networkOf settings held
 
   abbrev After : State → Type 0
-  After after = StateOk settings (suc n) after
+  After after = Underway settings origin arrival past (suc n) after
 
-  module _ (mid : Delivering settings n before) (m : Message) (later : List Message)
+  sites-sound : SitesSound settings held
+  sites-sound = in-mid passes mid .sites-sound
+
+  module _ (m : Message) (later : List Message)
       (words : ℕ) (answer : Answered)
       (waits : before .waiting ≡ m ∷ later)
       (way : toCoordinator m ≡ false)
@@ -78,23 +81,23 @@ module _ {settings : Settings} (passes : settingsRefusal settings ≡ accepted)
 
     site-here : siteIn settings (recordAt held j) given ≡ siteAt network j
     site-here =
-        site-part passes held (ok .lengths) (held-sound passes ok .sites-sound) j known words
+        site-part passes held (mid .lengths) sites-sound j known words
         (words-enough (siteWords settings) words (drop (siteStart settings j) (held .siteMemory))
         long)
 
     over : handOver settings network m ≡ handToSite network m
     over = rw way
 
-    on : Reached settings
-        (deliveryOf settings (runOf settings (mid .front) .network) (mid .arrival)) (suc n)
+    on : Reached settings (deliveryOf settings origin arrival) (suc n)
         (joining (handToSite network m) later (mid .log))
     on =
         subst (λ (after : Delivered).
-        Reached settings (deliveryOf settings (runOf settings (mid .front) .network) (mid .arrival))
-        (suc n) (joining after later (mid .log)))
+        Reached settings (deliveryOf settings origin arrival) (suc n)
+        (joining after later (mid .log)))
         over (handed-on before mid m later waits)
 
-    record-is : answer .site ≡ siteRecord (siteReceives (siteAt network j) m .site)
+    -- The record that the call answers.
+    pub record-is : answer .site ≡ siteRecord (siteReceives (siteAt network j) m .site)
     record-is =
         says .site ∙ accepted-choice _ _ _ none
         ∙ ap (λ (site : Site). siteRecord (siteReceives site m .site)) site-here
@@ -111,20 +114,19 @@ module _ {settings : Settings} (passes : settingsRefusal settings ≡ accepted)
         (answered-few (siteIn settings (recordAt held j) given) m)
         ∙ ap (λ (site : Site). siteReceives site m .messages) site-here
 
-    -- The invariant, one message further.
-    pub to-site-ok : After
+    -- One message further.
+    pub to-site-on : After
         (sending before (afterSiteCall held j (answer .site) (held .siteMemory)) later
         (answeredOut answer))
-    to-site-ok =
+    to-site-on =
         subst (λ (numbers : SiteRecord).
         After (sending before (afterSiteCall held j numbers (held .siteMemory)) later
         (answeredOut answer)))
         (sym record-is)
-        (goes-on-ok before mid later (handToSite network m) on
+        (goes-on before mid later (handToSite network m) on
         (afterSiteCall held j (siteRecord (siteReceives (siteAt network j) m .site))
         (held .siteMemory))
         (answeredOut answer)
-        (network-site-told passes held (ok .lengths) (held-sound passes ok .sites-sound) j known m)
-        out-is ok
-        (lengths-site-told passes held (ok .lengths) (held-sound passes ok .sites-sound) j known m)
-        refl)
+        (lengths-site-told passes held (mid .lengths) sites-sound j known m)
+        (network-site-told passes held (mid .lengths) sites-sound j known m)
+        out-is)

@@ -30,7 +30,7 @@ use Rattle.coordinator.specs.declared.Received.{Received}
 use Rattle.coordinator.specs.Calls.{Starts, Receives, Announces}
 use Rattle.tracker_steps.specs.declared.BatchAnswer.{BatchAnswer}
 use Rattle.tracker.specs.Batch.{BatchCall, BatchLent, BatchSays, messagesIn}
-use Rattle.history.specs.State.{Held, State, AtRest, recordAt, partOf, siteStart, sitePart, withPart, afterSiteCall, afterCoordinatorCall, holding, sending}
+use Rattle.history.specs.State.{Held, State, AtRest, recordAt, partOf, siteStart, sitePart, coordinatorPart, Slices, fronts, lending, withPart, putBack, afterSiteCall, afterCoordinatorCall, holding, sending}
 
 -- ---- Arrivals
 
@@ -79,11 +79,16 @@ afterSingle settings before arrival words part answer = record {
 
 -- "many-draw calls, each with a run and a log of its own, and single draws at a deck, in any order"
 pub data Arrives (settings : Settings) (before : State) : State → Type 0 where
-  -- a batch call, whatever stops it
-  batch : (arrivals : List Arrival) (log : List ℕ) (lent : BatchLent) (answer : BatchAnswer)
+  -- a batch call, whatever stops it, and however much of the memories it is lent
+  batch : (siteCount coordinatorCount : ℕ) (arrivals : List Arrival) (log : List ℕ)
+      (lent : BatchLent) (answer : BatchAnswer)
       → AtRest before
-      → BatchSays (batchCall settings (before .held) arrivals log) lent answer
-      → Arrives settings before (afterBatch before arrivals lent answer)
+      → BatchSays
+      (batchCall settings (lending (before .held) (fronts siteCount coordinatorCount)) arrivals log)
+      lent answer
+      → Arrives settings before
+      (afterBatch before arrivals
+      (putBack (before .held) (fronts siteCount coordinatorCount) lent) answer)
   -- a single arrival that is accepted, at the site that it names
   single : (arrival : Arrival) (words : ℕ) (part : List ℕ) (answer : Observed)
       → AtRest before
@@ -106,14 +111,17 @@ receivedOut answer = take (answer .count) (answer .out ∷ [])
 -- or desk it is for, answers included, and kind 7 is asked for until the desk is idle"
 pub data Delivers (settings : Settings) (before : State) : State → Type 0 where
   -- the head of the queue is for the coordinator, which accepts it
-  to-coordinator : (m : Message) (later : List Message) (memory : List ℕ) (answer : Received)
+  to-coordinator : (m : Message) (later : List Message) (words : ℕ) (part : List ℕ)
+      (answer : Received)
       → before .waiting ≡ m ∷ later
       → toCoordinator m ≡ true
-      → Receives settings (before .held .coordinator) m (before .held .coordinatorMemory) memory
-      answer
+      → Receives settings (before .held .coordinator) m (coordinatorPart (before .held) 0 words)
+      part answer
       → answer .refusal ≡ accepted
       → Delivers settings before
-      (sending before (afterCoordinatorCall (before .held) (answer .coordinator) memory) later
+      (sending before
+      (afterCoordinatorCall (before .held) (answer .coordinator)
+      (withPart (before .held .coordinatorMemory) 0 words part)) later
       (receivedOut answer))
   -- the head of the queue is for the site that it names, which accepts it
   to-site : (m : Message) (later : List Message) (words : ℕ) (answer : Answered)
@@ -127,8 +135,9 @@ pub data Delivers (settings : Settings) (before : State) : State → Type 0 wher
       (afterSiteCall (before .held) (m .site) (answer .site) (before .held .siteMemory)) later
       (answeredOut answer))
   -- the next kind 7 is asked for and handed out, whatever waits
-  next-announcement : (answer : Received)
-      → Announces settings (before .held .coordinator) (before .held .coordinatorMemory) answer
+  next-announcement : (words : ℕ) (answer : Received)
+      → Announces settings (before .held .coordinator) (coordinatorPart (before .held) 0 words)
+      answer
       → answer .refusal ≡ accepted
       → Delivers settings before
       (sending before
@@ -138,7 +147,7 @@ pub data Delivers (settings : Settings) (before : State) : State → Type 0 wher
 -- ---- Calls that accept nothing
 
 -- "A call that is refused .., with a draw or a message, may stand anywhere", in mid-delivery too;
--- with any settings, any site's record, any part of the sites' memory and any arrival, number or
+-- with any settings, any site's record, any part of the memories and any arrival, number or
 -- message. Also a batch call that accepts no arrival, refused or not.
 pub data Refuses (before : State) : State → Type 0 where
   arrival-refused : (given : Settings) (which : ℕ) (arrival : Arrival) (start words : ℕ)
@@ -158,24 +167,28 @@ pub data Refuses (before : State) : State → Type 0 where
       → Refuses before
       (holding before
       (afterSiteCall (before .held) which (answer .site) (before .held .siteMemory)))
-  coordinator-message-refused : (given : Settings) (m : Message) (memory : List ℕ)
-      (answer : Received)
-      → Receives given (before .held .coordinator) m (before .held .coordinatorMemory) memory answer
+  coordinator-message-refused : (given : Settings) (m : Message) (start words : ℕ)
+      (part : List ℕ) (answer : Received)
+      → Receives given (before .held .coordinator) m
+      (coordinatorPart (before .held) start words) part answer
       → (answer .refusal ≡ accepted → ⊥)
       → Refuses before
-      (holding before (afterCoordinatorCall (before .held) (answer .coordinator) memory))
-  announcement-refused : (given : Settings) (answer : Received)
-      → Announces given (before .held .coordinator) (before .held .coordinatorMemory) answer
+      (holding before (afterCoordinatorCall (before .held) (answer .coordinator)
+      (withPart (before .held .coordinatorMemory) start words part)))
+  announcement-refused : (given : Settings) (start words : ℕ) (answer : Received)
+      → Announces given (before .held .coordinator) (coordinatorPart (before .held) start words)
+      answer
       → (answer .refusal ≡ accepted → ⊥)
       → Refuses before
       (holding before
       (afterCoordinatorCall (before .held) (answer .coordinator)
       (before .held .coordinatorMemory)))
-  batch-accepts-nothing : (given : Settings) (arrivals : List Arrival) (log : List ℕ)
-      (lent : BatchLent) (answer : BatchAnswer)
-      → BatchSays (batchCall given (before .held) arrivals log) lent answer
+  batch-accepts-nothing : (given : Settings) (slices : Slices) (arrivals : List Arrival)
+      (log : List ℕ) (lent : BatchLent) (answer : BatchAnswer)
+      → BatchSays (batchCall given (lending (before .held) slices) arrivals log) lent answer
       → answer .accepted ≡ 0
-      → Refuses before (afterBatch before arrivals lent answer)
+      → Refuses before
+      (afterBatch before arrivals (putBack (before .held) slices lent) answer)
 
 -- ---- Histories
 
@@ -203,20 +216,31 @@ startState sites coordinator siteMemory coordinatorMemory = record {
 
 -- Every history is one of these, and every state of it is reachable.
 pub data Reachable (settings : Settings) : State → Type 0 where
-  -- "The list starts at a bench started fresh": both start calls are accepted, on memory of any
-  -- content and of any length that they accept
-  started : (sitesBefore sitesAfter coordinatorBefore coordinatorAfter : List ℕ)
-      (sites : StartedSites) (coordinator : StartedCoordinator)
-      → StartSays settings sitesBefore sitesAfter sites
+  -- "The list starts at a bench started fresh": both start calls are accepted, on the first so
+  -- many numbers of memories of any content and length
+  started : (siteMemory : List ℕ) (siteCount : ℕ) (sitePart : List ℕ) (sites : StartedSites)
+      (coordinatorMemory : List ℕ) (coordinatorCount : ℕ) (coordinatorPart : List ℕ)
+      (coordinator : StartedCoordinator)
+      → StartSays settings (take siteCount siteMemory) sitePart sites
       → sites .refusal ≡ accepted
-      → Starts settings coordinatorBefore coordinatorAfter coordinator
+      → Starts settings (take coordinatorCount coordinatorMemory) coordinatorPart coordinator
       → coordinator .refusal ≡ accepted
       → Reachable settings
-      (startState (sites .sites) (coordinator .coordinator) sitesAfter coordinatorAfter)
+      (startState (sites .sites) (coordinator .coordinator)
+      (withPart siteMemory 0 siteCount sitePart)
+      (withPart coordinatorMemory 0 coordinatorCount coordinatorPart))
   stepped : (before after : State)
       → Reachable settings before
       → Step settings before after
       → Reachable settings after
+
+-- What the two start calls of a history left.
+abbrev pub heldAtStart : {settings : Settings} {state : State} → Reachable settings state → Held
+heldAtStart
+    (started siteMemory siteCount sitesAfter sites memory count after coordinator _ _ _ _) =
+    startState (sites .sites) (coordinator .coordinator)
+    (withPart siteMemory 0 siteCount sitesAfter) (withPart memory 0 count after) .held
+heldAtStart (stepped before after earlier step) = heldAtStart earlier
 
 -- ---- Deliveries
 

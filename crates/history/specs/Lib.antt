@@ -3,5 +3,10 @@ pub mod State
 pub mod Histories
 pub mod Frame
 pub mod Reading
+pub mod Given
+pub mod First
+pub mod Second
+pub mod Whole
+pub mod Third
 pub mod Demands
 pub mod Example

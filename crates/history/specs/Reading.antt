@@ -15,7 +15,9 @@ use Rattle.model.specs.declared.Settings.{Settings}
 use Rattle.model.specs.declared.Quantile.the-variants.{Nothing, Value}
 use Rattle.model.specs.Refusals.{accepted, unknownItem, listTooShort}
 use Rattle.model.specs.Coordinator.{Coordinator}
-use Rattle.model.specs.Reading.{heavyHitters, margin, quantileOf}
+use Rattle.model.specs.CoordinatorMemory.{coordinatorWords}
+use Rattle.model.specs.Limits.{topValue}
+use Rattle.model.specs.Reading.{neededSide, heavyHitters, mostListed, margin, quantileOf}
 use Rattle.model.specs.Runs.{runOf}
 use Rattle.model.specs.Claims.{counted, countOf, below, above, contains}
 use Rattle.reading.specs.declared.Margin.{Margin}
@@ -23,7 +25,7 @@ use Rattle.reading.specs.declared.QuantileRead.{QuantileRead}
 use Rattle.reading.specs.Contracts.{ReadsMargin, ReadsQuantile}
 use Rattle.listing.specs.declared.Listed.{Listed}
 use Rattle.listing.specs.Contracts.{Lists}
-use Rattle.history.specs.State.{State}
+use Rattle.history.specs.State.{State, coordinatorPart}
 
 -- The coordinator that document 01's rules give for the arrivals accepted so far.
 abbrev pub rulesCoordinator : Settings → State → Coordinator
@@ -66,6 +68,19 @@ pub record ListRight (settings : Settings) (state : State) (before after : List 
       → (i : ℕ)
       → i + 1 < length (listedIn answer after)
       → getD (listedIn answer after) i 0 < getD (listedIn answer after) (i + 1) 0
+  -- (codes listed) × (2p - e) × total ≤ 2000 × n
+  pub shares : answer .count * neededSide settings (rulesCoordinator settings state)
+      ≤ 2000 * counted (state .accepted)
+  -- hence (codes listed) × (2p - e) × (3000 - e) ≤ 6,000,000
+  pub shares-of-all : answer .count
+      * ((2 * settings .phi - settings .epsilon) * (3000 - settings .epsilon))
+      ≤ 6000000
+  -- so a list of so many places is never refused by 12
+  pub never-too-short : mostListed settings ≤ length before
+      → answer .refusal ≡ accepted
+  -- nor is one of a thousand, whatever the settings
+  pub thousand-places : 1000 ≤ length before
+      → answer .refusal ≡ accepted
 
 -- ---- The margin
 
@@ -102,18 +117,47 @@ pub record QuantileRight (settings : Settings) (state : State) (answer : Quantil
       → answer .quantile ≡ Value value
       → 1000 * above value (state .accepted)
       ≤ (1000 - settings .rank + settings .epsilon) * counted (state .accepted)
+  -- "Volume classes run from 0 to 1023."
+  pub value-known : (value : ℕ)
+      → answer .quantile ≡ Value value
+      → value ≤ topValue
+  -- firmer than "within e": two thirds of e do
+  pub firm-below : (value : ℕ)
+      → answer .quantile ≡ Value value
+      → 3000 * below value (state .accepted)
+      ≤ (3 * settings .rank + 2 * settings .epsilon) * counted (state .accepted)
+  pub firm-above : (value : ℕ)
+      → answer .quantile ≡ Value value
+      → 3000 * above value (state .accepted)
+      ≤ (3000 - 3 * settings .rank + 2 * settings .epsilon) * counted (state .accepted)
+  -- and while the threshold is 1 it is the least value with 1000 × (draws at or below it) ≥ q × n
+  pub exact-below : (value : ℕ)
+      → answer .quantile ≡ Value value
+      → state .held .coordinator .threshold ≡ 1
+      → 1000 * below value (state .accepted) < settings .rank * counted (state .accepted)
+  pub exact-above : (value : ℕ)
+      → answer .quantile ≡ Value value
+      → state .held .coordinator .threshold ≡ 1
+      → 1000 * above value (state .accepted)
+      ≤ (1000 - settings .rank) * counted (state .accepted)
 
 -- ---- All three
 
--- Whatever the calls answer, if they keep their contracts.
+-- Whatever the calls answer, if they keep their contracts. They are lent the first so many numbers
+-- of the coordinator's memory: as many as its own, or more.
 pub record ReadsRight (settings : Settings) (state : State) : Type 0 where
-  pub list : (before after : List ℕ) (answer : Listed)
-      → Lists settings (state .held .coordinator) (state .held .coordinatorMemory) before after
-      answer
+  pub list : (words : ℕ) (before after : List ℕ) (answer : Listed)
+      → coordinatorWords settings ≤ words
+      → Lists settings (state .held .coordinator) (coordinatorPart (state .held) 0 words) before
+      after answer
       → ListRight settings state before after answer
-  pub margins : (item : ℕ) (answer : Margin)
-      → ReadsMargin settings (state .held .coordinator) item (state .held .coordinatorMemory) answer
+  pub margins : (words item : ℕ) (answer : Margin)
+      → coordinatorWords settings ≤ words
+      → ReadsMargin settings (state .held .coordinator) item
+      (coordinatorPart (state .held) 0 words) answer
       → MarginRight settings state item answer
-  pub quantile : (answer : QuantileRead)
-      → ReadsQuantile settings (state .held .coordinator) (state .held .coordinatorMemory) answer
+  pub quantile : (words : ℕ) (answer : QuantileRead)
+      → coordinatorWords settings ≤ words
+      → ReadsQuantile settings (state .held .coordinator) (coordinatorPart (state .held) 0 words)
+      answer
       → QuantileRight settings state answer

@@ -4,10 +4,16 @@
 --   Held                         the records and the lent memory, as the calls before left them
 --   State                        these, and the queue, arrivals, messages and the sum of answers
 --   AtRest state                 nothing waits, and the coordinator is idle
+--   networkOf settings held      the network that records and memory hold
+--   networkWritten settings held network messages    a network written over them
 --   recordAt held which          a site's record: the one in `Sites`
 --   partOf held start words      so many numbers of the sites' memory from a place on; fewer where
 --                                it ends
 --   sitePart settings held which words    the part that starts where the site's memory starts
+--   coordinatorPart held start words      so many numbers of the coordinator's memory
+--   fronts siteCount coordinatorCount     so many numbers from the front of each memory
+--   lending held slices          what is held, with such parts in place of the memories
+--   putBack held slices lent     the memories with these parts as a batch call left them
 --   afterSiteCall, afterCoordinatorCall   what is held after a call, from the call's results
 use mathlib.Core.Path.{_≡_}
 use mathlib.Core.List.{List, [], _++_}
@@ -23,7 +29,9 @@ use Rattle.model.specs.declared.Phase.the-variants.{Idle}
 use Rattle.model.specs.Site.{freshSite}
 use Rattle.model.specs.SiteMemory.{siteWords, siteRecord}
 use Rattle.model.specs.Network.{Network}
-use Rattle.model.specs.NetworkMemory.{networkIn}
+use Rattle.model.specs.CoordinatorMemory.{coordinatorRecord, coordinatorMemory}
+use Rattle.model.specs.NetworkMemory.{networkIn, siteRecords, sitesMemory}
+use Rattle.tracker.specs.Batch.{BatchLent}
 
 -- "Each call gets the records and memory as the calls before left them".
 pub record Held : Type 0 where
@@ -59,6 +67,19 @@ networkOf settings held =
     networkIn settings (held .sites) (held .coordinator) (held .siteMemory)
     (held .coordinatorMemory)
 
+-- A network written over what is held, with a count of messages: records, counters in use and
+-- histograms, estimates; all else stays.
+abbrev pub networkWritten : Settings → Held → Network → ℕ → Held
+networkWritten settings held network messages = record {
+  sites = record {
+    records = siteRecords (network .sites) (held .sites .records);
+    messages = messages;
+  };
+  coordinator = coordinatorRecord (network .coordinator);
+  siteMemory = sitesMemory settings (network .sites) (held .siteMemory);
+  coordinatorMemory = coordinatorMemory (network .coordinator) (held .coordinatorMemory);
+}
+
 -- ---- What a call on a site is given
 
 -- "a deck's record being the one in the bench"; past the array's end there is none, and a fresh one
@@ -78,11 +99,50 @@ siteStart settings which = which * siteWords settings
 abbrev pub sitePart : Settings → Held → ℕ → ℕ → List ℕ
 sitePart settings held which words = partOf held (siteStart settings which) words
 
+-- A slice of the coordinator's memory.
+abbrev pub coordinatorPart : Held → ℕ → ℕ → List ℕ
+coordinatorPart held start words = take words (drop start (held .coordinatorMemory))
+
+-- Where a call is lent slices of memory: from where, and how many numbers.
+pub record Slices : Type 0 where
+  pub siteFrom : ℕ
+  pub siteCount : ℕ
+  pub coordinatorFrom : ℕ
+  pub coordinatorCount : ℕ
+
+-- So many numbers from the front of each memory; all of it, where it has no more.
+abbrev pub fronts : ℕ → ℕ → Slices
+fronts siteCount coordinatorCount = record {
+  siteFrom = 0;
+  siteCount = siteCount;
+  coordinatorFrom = 0;
+  coordinatorCount = coordinatorCount;
+}
+
+-- What is held, as far as it is lent.
+abbrev pub lending : Held → Slices → Held
+lending held slices = record {
+  sites = held .sites;
+  coordinator = held .coordinator;
+  siteMemory = partOf held (slices .siteFrom) (slices .siteCount);
+  coordinatorMemory = coordinatorPart held (slices .coordinatorFrom) (slices .coordinatorCount);
+}
+
 -- ---- What is held after a call, from its results
 
--- The sites' memory with a part of it as a call left it.
+-- A memory with a part of it as a call left it.
 abbrev pub withPart : List ℕ → ℕ → ℕ → List ℕ → List ℕ
 withPart memory start words part = take start memory ++ (part ++ drop (start + words) memory)
+
+-- The memories with the slices of them as a batch call left them.
+abbrev pub putBack : Held → Slices → BatchLent → BatchLent
+putBack held slices lent = record {
+  siteMemory = withPart (held .siteMemory) (slices .siteFrom) (slices .siteCount)
+      (lent .siteMemory);
+  coordinatorMemory = withPart (held .coordinatorMemory) (slices .coordinatorFrom)
+      (slices .coordinatorCount) (lent .coordinatorMemory);
+  log = lent .log;
+}
 
 -- The records with that of one site as a call left it.
 abbrev pub withRecord : Sites → ℕ → SiteRecord → Sites

@@ -63,6 +63,7 @@ pub mod MidDelivery
 pub mod SoundStages
 pub mod StageFacts
 pub mod NeverFalls
+pub mod NeverFewer
 pub mod SoundTheorem
 pub mod NumberGrowth
 pub mod NumberTheorem

@@ -59,7 +59,7 @@ gained-no-less (y ∷ ys) (suc place) amount (suc x) = gained-no-less ys place a
 -- ---- A message at the coordinator
 
 -- What holds of both branches holds of the choice.
-either : {A : Type 0} (P : A → Type 0) (test : Bool) (x y : A) → P x → P y
+pub either : {A : Type 0} (P : A → Type 0) (test : Bool) (x y : A) → P x → P y
     → P (if test then x else y)
 either P true x y of-x of-y = of-x
 either P false x y of-x of-y = of-y

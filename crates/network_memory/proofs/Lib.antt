@@ -3,3 +3,4 @@ pub mod SitePart
 pub mod OneSite
 pub mod SitesMemoryLaws
 pub mod SitesReading
+pub mod SitesFronts

@@ -1,5 +1,5 @@
 -- The sites' memory: "In a bench the decks' memory stands one after another, deck 0 first." One
--- site written to it, the others as they were. PROOF.md section 7, "Frame".
+-- site written to it, the others as they were. PROOF.md section 9, "Frame".
 --
 --   AllStorable                    every site fits its part
 --   length-sitesMemory             writing keeps the length

@@ -23,7 +23,7 @@ use Rattle.tracker_steps.specs.declared.BatchAnswer.{BatchAnswer}
 use Rattle.tracker.specs.Batch.{BatchCall, BatchLent, BatchSays, batchIn, unlessRefused, logRoom, messagesIn}
 use Rattle.history.specs.State.{State, networkOf}
 use Rattle.history.specs.Histories.{afterBatch}
-use Rattle.history.proofs.Accepted.{refused-by-rules}
+use Rattle.history.proofs.Accepted.{batch-by-rules}
 use Rattle.history.proofs.Invariant.{StateOk, Resting}
 use Rattle.history.proofs.BatchedState.{batch-ok, batch-resting}
 use Rattle.session_steps.specs.declared.Session.{Session}
@@ -75,7 +75,7 @@ module _ {session : Session} {given : Lent} {arrivals : List Arrival}
 
   by-rules : drawRefusal call ≡ refusalIn settings held-network arrival
   by-rules =
-      refused-by-rules passes (state-ok stands) .batch (state-at-rest stands) (arrival ∷ [])
+      batch-by-rules passes (state-ok stands) (state-at-rest stands) (arrival ∷ [])
       (given .log) lentAfter answer says
       ∙ one-refusal settings (logRoom (given .log)) held-network arrival room-enough
 

@@ -26,7 +26,7 @@ use Rattle.lines.specs.Contracts.{countedLine, listedLine}
 use Rattle.transcript.proofs.LineBounds.{line-claims}
 use Rattle.listing.specs.Contracts.{listRefusal}
 use Rattle.history.proofs.RunSound.{sound-run, messages-within}
-use Rattle.history.proofs.Accepted.{memory-accepted}
+use Rattle.history.proofs.Accepted.{coordinator-accepted}
 use Rattle.session_steps.specs.declared.Session.{Session}
 use Rattle.session_steps.specs.Output.{atStart, linesAfter}
 use Rattle.session_steps.specs.Outcome.{Lent}
@@ -152,7 +152,7 @@ module _ {session : Session} {given : Lent} {arrivals : List Arrival}
       ) in
       let none : rule ≡ accepted =
       rw (
-        memory-accepted (stands .settings-accepted) (state-ok stands) .of-coordinator,
+        coordinator-accepted (stands .settings-accepted) (state-ok stands),
         le-ltb (length (given .list)) (length (heavyHitters settings held)) items,
       ) in
       rw (eq-eqb rule 0 none)

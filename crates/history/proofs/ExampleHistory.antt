@@ -1,0 +1,74 @@
+-- The history of specs/Example.antt, from its calls (Example.antt): the draws given in it, those
+-- kept out, and what the reading calls then answer.
+--
+--   example                          the last state is reachable
+--   example-given, example-kept-out  its draws
+--   example-list, example-quantile   a reading
+use mathlib.Core.Path.{_≡_, refl}
+use mathlib.Core.List.{[], _∷_}
+use Rattle.model.specs.declared.Quantile.the-variants.{Value}
+use Rattle.model.specs.Limits.{valueCount}
+use Rattle.model.specs.Instances.{settingsA, arrivalWith, draw}
+use Rattle.reading.specs.Contracts.{ReadsQuantile}
+use Rattle.listing.specs.Contracts.{Lists}
+use Rattle.history.specs.State.{State, coordinatorPart}
+use Rattle.history.specs.Histories.{Step, arrives, delivers, refuses, Reachable, stepped}
+use Rattle.history.specs.Given.{givenIn, keptOutIn}
+use Rattle.history.specs.Example.{startedState, afterDraw, afterItemReport, afterCountReport, afterPoll, afterPollAnswer, afterAnnouncement, atRestAgain, afterBatchOfTwo}
+use Rattle.history.proofs.Example.{begins, draw-refused, draw-accepted, item-report, message-refused, slice-refused, draw-refused-underway, count-report, polled, poll-answered, announced, told, batch-stopped}
+
+-- ---- The whole history
+
+-- One call more.
+abbrev then : {before : State} (after : State)
+    → Step settingsA before after
+    → Reachable settingsA before
+    → Reachable settingsA after
+then {before} after step earlier = stepped before after earlier step
+
+-- Twelve calls after the two starts.
+pub example : Reachable settingsA afterBatchOfTwo
+example =
+    then afterBatchOfTwo (arrives batch-stopped)
+    (then atRestAgain (delivers told)
+    (then afterAnnouncement (delivers announced)
+    (then afterPollAnswer (delivers poll-answered)
+    (then afterPoll (delivers polled)
+    (then afterCountReport (delivers count-report)
+    (then afterItemReport (refuses draw-refused-underway)
+    (then afterItemReport (refuses slice-refused)
+    (then afterItemReport (refuses message-refused)
+    (then afterItemReport (delivers item-report)
+    (then afterDraw (arrives draw-accepted)
+    (then startedState (refuses draw-refused) begins)))))))))))
+
+-- ---- Its draws
+
+-- Item 10 and site 1 are none: 6 and 5. Of the batch 14 stopped the second draw.
+pub example-given : givenIn example
+    ≡ arrivalWith 0 10 3 ∷ (draw ∷ (arrivalWith 1 7 3 ∷ (draw ∷ [])))
+unfolding example begins draw-refused draw-accepted message-refused slice-refused
+    draw-refused-underway batch-stopped
+example-given = refl
+
+-- Which no rule was asked about.
+pub example-kept-out : keptOutIn example ≡ draw ∷ []
+unfolding example begins draw-refused draw-accepted message-refused slice-refused
+    draw-refused-underway batch-stopped
+example-kept-out = refl
+
+-- ---- A reading: "listed 7", "class 3"
+
+-- The list call on two places and the first 1034 numbers of the memory: item 7.
+pub example-list : Lists settingsA (afterBatchOfTwo .held .coordinator)
+    (coordinatorPart (afterBatchOfTwo .held) 0 1034) (8 ∷ (8 ∷ [])) (7 ∷ (8 ∷ []))
+    (record { refusal = 0; count = 1 })
+unfolding valueCount
+example-list = record { refusal = refl; count = refl; list = refl }
+
+-- The quantile call on all of it: value 3.
+pub example-quantile : ReadsQuantile settingsA (afterBatchOfTwo .held .coordinator)
+    (coordinatorPart (afterBatchOfTwo .held) 0 1036)
+    (record { refusal = 0; quantile = Value 3 })
+unfolding valueCount
+example-quantile = record { refusal = refl; quantile = refl }

@@ -1,0 +1,226 @@
+-- A draw that is refused for its own sake, by 5, 6, 7 or 8, leaves no trace in the rules' run over
+-- the arrivals accepted: refused by a single call or by the batch that it stops, at rest or in
+-- mid-delivery.
+--
+--   draw-no-trace              a single draw
+--   batch-no-trace             the draw that stops a batch, at rest
+--   refused-batch-no-trace     the first of a batch that accepts nothing, at any time
+use mathlib.Core.Path.{_≡_, refl, sym, ap, _∙_, subst}
+use mathlib.Core.Bool.{Bool, true, false, false≢true, _||_}
+use mathlib.Core.List.{List, [], _∷_}
+use Prim.Native.Nat.{ℕ, suc, _≤_, _<_}
+use native.Mathlib.Omega.{arith}
+use lib.Dec.{eqb, leb}
+use lib.ListN.{length, take, drop, length-take}
+use borrow.Author.Tests.{eqb-true, eqb-false, leb-true, leb-false, eq-eqb, ne-eqb, lt-ltb}
+use Rattle.model.specs.declared.Settings.{Settings}
+use Rattle.model.specs.declared.Arrival.{Arrival}
+use Rattle.model.specs.Choice.{isZero}
+use Rattle.model.specs.Refusals.{accepted, memoryTooShort, unknownSite}
+use Rattle.model.specs.Settings.{settingsRefusal}
+use Rattle.model.specs.Site.{arrivalRefusal}
+use Rattle.model.specs.SiteMemory.{siteWords}
+use Rattle.model.specs.Network.{Network, siteAt}
+use Rattle.model.specs.Runs.{Run, withArrival, refusalIn, runOne, runFrom, runOf, Batch, batchOf}
+use Rattle.site_steps.specs.declared.Observed.{Observed}
+use Rattle.site.specs.Calls as SiteCalls
+use Rattle.tracker_steps.specs.declared.BatchAnswer.{BatchAnswer}
+use Rattle.tracker.specs.Batch.{BatchCall, BatchLent, BatchSays, startRefusal, batchIn, logRoom}
+use Rattle.history.specs.State.{Held, State, AtRest, networkOf, recordAt, siteStart, sitePart, fronts, lending}
+use Rattle.history.specs.Histories.{batchCall}
+use Rattle.history.specs.Given.{ofArrival}
+use Rattle.history.proofs.Answers.{accepted-choice, refused-choice}
+use Rattle.history.proofs.BatchStops.{runAt, batch-stops, not-of-arrival}
+use Rattle.history.proofs.NetworkFronts.{long-enough, network-front}
+use Rattle.history.proofs.Invariant.{StateOk}
+use Rattle.history.proofs.Accepted.{refused-by-rules, held-sound}
+use Rattle.history.proofs.SiteArrivals.{refusal-same}
+use Rattle.history.proofs.LentBatch.{LentBatch, nothing-changed, as-all-lent, lent-batch}
+use Rattle.history.proofs.BatchedState as Batched
+
+module _ {settings : Settings} (passes : settingsRefusal settings ≡ accepted)
+    {n : ℕ} (before : State)
+    (ok : StateOk settings n before) where
+  abbrev held : Held
+  held = before .held
+
+  abbrev run : Run
+  run = runOf settings (before .accepted)
+
+  -- An arrival that the rules refuse leaves no trace.
+  no-trace : (arrival : Arrival)
+      → (refusalIn settings (run .network) arrival ≡ accepted → ⊥)
+      → runFrom settings run (arrival ∷ []) ≡ run
+  no-trace arrival refused =
+      rw (ne-eqb (refusalIn settings (run .network) arrival) 0 refused)
+
+  -- And so does one that the network that is held refuses, in mid-delivery too.
+  no-trace-held : (arrival : Arrival)
+      → (refusalIn settings (networkOf settings held) arrival ≡ accepted → ⊥)
+      → runFrom settings run (arrival ∷ []) ≡ run
+  no-trace-held arrival refused =
+      no-trace arrival (λ none.
+      refused (refusal-same passes (ok .standing) (arrival .site) arrival ∙ none))
+
+  -- A refusal that is of an arrival is none.
+  some-refusal : (refusal : ℕ) → ofArrival refusal ≡ true → refusal ≡ accepted → ⊥
+  some-refusal refusal of none = false≢true (sym (ap ofArrival none) ∙ of)
+
+  -- ---- A single draw that is refused
+
+  module _ (which : ℕ) (arrival : Arrival) (words : ℕ) (part : List ℕ) (answer : Observed)
+      (known : which < settings .sites)
+      (own : (eqb which (arrival .site) || leb (settings .sites) (arrival .site)) ≡ true)
+      (says : SiteCalls.ObserveSays settings (recordAt held which) arrival
+      (sitePart settings held which words) part answer)
+      (of : ofArrival (answer .refusal) ≡ true) where
+    -- Its memory was long enough: 4 is not of an arrival.
+    enough : siteWords settings ≤ words
+    enough = by-length (leb (siteWords settings) words) refl
+      where
+        by-length : (test : Bool) → leb (siteWords settings) words ≡ test
+            → siteWords settings ≤ words
+        by-length true long = leb-true (siteWords settings) words long
+        by-length false short =
+            let given = sitePart settings held which words in
+            let few : length given < siteWords settings =
+            omega (
+              arith,
+              length-take words (drop (siteStart settings which) (held .siteMemory)),
+              leb-false (siteWords settings) words short,
+            ) in
+            let four : answer .refusal ≡ memoryTooShort =
+            says .refusal ∙ rw (passes, lt-ltb (length given) (siteWords settings) few) in
+            absurd (false≢true (sym (ap ofArrival four) ∙ of))
+
+    by-rules : answer .refusal
+        ≡ arrivalRefusal settings (siteAt (networkOf settings held) which) arrival
+    by-rules =
+        says .refusal ∙ refused-by-rules passes ok .arrival which words arrival known enough
+
+    -- At its own site; or it names none, and is refused by 5.
+    pub draw-no-trace : runFrom settings run (arrival ∷ []) ≡ run
+    draw-no-trace = by-name (eqb which (arrival .site)) refl own
+      where
+        by-name : (test : Bool) → eqb which (arrival .site) ≡ test
+            → (test || leb (settings .sites) (arrival .site)) ≡ true
+            → runFrom settings run (arrival ∷ []) ≡ run
+        by-name true same _ =
+            no-trace-held arrival (λ none.
+            some-refusal (answer .refusal) of
+            (by-rules
+            ∙ ap (λ (j : ℕ). arrivalRefusal settings (siteAt (networkOf settings held) j) arrival)
+            (eqb-true which (arrival .site) same)
+            ∙ none))
+        by-name false other unknown =
+            no-trace arrival (λ none.
+            let five : refusalIn settings (run .network) arrival ≡ unknownSite = rw unknown in
+            let same : _≡_ {A = ℕ} unknownSite accepted = sym five ∙ none in
+            omega arith)
+
+  -- ---- A batch
+
+  -- A batch call on so much of both memories, at rest: the arrival that stops it leaves no trace.
+  pub batch-no-trace : (siteCount coordinatorCount : ℕ) (arrivals : List Arrival) (log : List ℕ)
+      (lent : BatchLent) (answer : BatchAnswer)
+      → AtRest before
+      → BatchSays
+      (batchCall settings (lending held (fronts siteCount coordinatorCount)) arrivals log) lent
+      answer
+      → ofArrival (answer .refusal) ≡ true
+      → runFrom settings run (take (suc (answer .accepted)) arrivals)
+      ≡ runFrom settings run (take (answer .accepted) arrivals)
+  batch-no-trace siteCount coordinatorCount arrivals log lent answer rest says of =
+      by-case
+      (lent-batch passes before ok rest siteCount coordinatorCount arrivals log lent answer says)
+    where
+      by-case : LentBatch passes before ok rest siteCount coordinatorCount arrivals log lent answer
+          says
+          → runFrom settings run (take (suc (answer .accepted)) arrivals)
+          ≡ runFrom settings run (take (answer .accepted) arrivals)
+      by-case (nothing-changed refused same) =
+          let is = says .refusal ∙ refused-choice _ _ _ refused in
+          absurd (false≢true
+          (sym (not-of-arrival
+          (batchCall settings (lending held (fronts siteCount coordinatorCount)) arrivals log)
+          passes refused)
+          ∙ ap ofArrival (sym is)
+          ∙ of))
+      by-case (as-all-lent all) =
+          let none = Batched.none passes before ok rest arrivals log in
+          let model : batchOf settings (logRoom log) (networkOf settings held) arrivals
+          ≡ batchOf settings (logRoom log) (run .network) arrivals =
+          ap (λ (network : Network). batchOf settings (logRoom log) network arrivals)
+          (Batched.rest passes before ok rest arrivals log .network-is) in
+          let refusal = all .refusal ∙ accepted-choice _ _ _ none
+          ∙ ap (λ (b : Batch). b .refusal) model in
+          let taken = all .accepted ∙ accepted-choice _ _ _ none
+          ∙ ap (λ (b : Batch). b .accepted) model in
+          subst (λ (m : ℕ).
+          runFrom settings run (take (suc m) arrivals) ≡ runFrom settings run (take m arrivals))
+          (sym taken)
+          (batch-stops settings (logRoom log) arrivals run .no-trace
+          (ap ofArrival (sym refusal) ∙ of))
+
+  -- The first arrival of a batch that accepts nothing, in mid-delivery too.
+  first-no-trace : (room : ℕ) (arrivals : List Arrival)
+      → batchOf settings room (networkOf settings held) arrivals .accepted ≡ 0
+      → ofArrival (batchOf settings room (networkOf settings held) arrivals .refusal) ≡ true
+      → runFrom settings run (take 1 arrivals) ≡ run
+  first-no-trace room [] none of = refl
+  first-no-trace room (arrival ∷ arrivals) none of =
+      no-trace-held arrival (λ taken.
+      let one : runOne settings (runAt (networkOf settings held)) arrival
+      ≡ withArrival settings (runAt (networkOf settings held)) arrival =
+      rw (eq-eqb (refusalIn settings (networkOf settings held) arrival) 0 taken) in
+      let longer : 1 ≡ 0 = ap (λ (r : Run). length (r .accepted)) (sym one ∙ alone) in
+      omega arith)
+    where
+      alone : runOne settings (runAt (networkOf settings held)) arrival
+          ≡ runAt (networkOf settings held)
+      alone =
+          subst (λ (m : ℕ).
+          runFrom settings (runAt (networkOf settings held)) (take (suc m) (arrival ∷ arrivals))
+          ≡ runFrom settings (runAt (networkOf settings held)) (take m (arrival ∷ arrivals)))
+          none
+          (batch-stops settings room (arrival ∷ arrivals) (runAt (networkOf settings held))
+          .no-trace of)
+
+  -- A batch call that accepts nothing.
+  pub refused-batch-no-trace : (siteCount coordinatorCount : ℕ) (arrivals : List Arrival)
+      (log : List ℕ) (lent : BatchLent) (answer : BatchAnswer)
+      → BatchSays
+      (batchCall settings (lending held (fronts siteCount coordinatorCount)) arrivals log) lent
+      answer
+      → answer .accepted ≡ 0
+      → ofArrival (answer .refusal) ≡ true
+      → runFrom settings run (take 1 arrivals) ≡ run
+  refused-batch-no-trace siteCount coordinatorCount arrivals log lent answer says nothing of =
+      by-start (isZero (startRefusal call)) refl
+    where
+      call : BatchCall
+      call = batchCall settings (lending held (fronts siteCount coordinatorCount)) arrivals log
+
+      by-start : (none : Bool) → isZero (startRefusal call) ≡ none
+          → runFrom settings run (take 1 arrivals) ≡ run
+      by-start true none =
+          let accepts = eqb-true (startRefusal call) 0 none in
+          let long = long-enough settings (held .sites) (held .coordinator)
+          (take siteCount (held .siteMemory)) (take coordinatorCount (held .coordinatorMemory))
+          accepts in
+          let model : batchIn call
+          ≡ batchOf settings (logRoom log) (networkOf settings held) arrivals =
+          ap (λ (network : Network). batchOf settings (logRoom log) network arrivals)
+          (network-front passes held (ok .lengths) (held-sound passes ok .sites-sound) siteCount
+          coordinatorCount (long .sites-long) (long .coordinator-long)) in
+          let refusal = says .refusal ∙ accepted-choice _ _ _ accepts
+          ∙ ap (λ (b : Batch). b .refusal) model in
+          let taken = says .accepted ∙ accepted-choice _ _ _ accepts
+          ∙ ap (λ (b : Batch). b .accepted) model in
+          first-no-trace (logRoom log) arrivals (sym taken ∙ nothing)
+          (ap ofArrival (sym refusal) ∙ of)
+      by-start false some =
+          let refused = eqb-false (startRefusal call) 0 some in
+          let is = says .refusal ∙ refused-choice _ _ _ refused in
+          absurd (false≢true
+          (sym (not-of-arrival call passes refused) ∙ ap ofArrival (sym is) ∙ of))

@@ -1,5 +1,5 @@
-// The settings test, and what messages may cost: those of one arrival and the allowance. It is what
-// a planner asks before any memory is lent.
+// The settings test, the most messages of one arrival, and the allowance: what a planner asks
+// before any memory is lent.
 
 ghost use mathlib.Core.Path.{_≡_};
 ghost use mathlib.Core.Bool.{not};

@@ -17,6 +17,7 @@ use Rattle.model.specs.Limits.{valueCount}
 use Rattle.model.specs.Messages.{noMessage, itemReport, countReport, poll, pollAnswer, announcement}
 use Rattle.model.specs.NetworkMemory.{freshSites}
 use Rattle.model.specs.Instances.{settingsA, arrivalWith, draw}
+use Rattle.site_steps.specs.declared.Observed.{Observed}
 use Rattle.tracker.specs.Batch.{messageNumbers}
 use Rattle.history.specs.Histories.{Arrives, batch, single, Delivers, to-coordinator, to-site, next-announcement, Refuses, arrival-refused, coordinator-message-refused, Reachable, started}
 use Rattle.history.specs.Example.{siteAfter, siteNumbers, coordinatorWith, coordinatorNumbers, allMessages, startedState, afterDraw, afterItemReport, afterCountReport, afterPoll, afterPollAnswer, afterAnnouncement, atRestAgain, afterBatchOfTwo}
@@ -24,6 +25,16 @@ use Rattle.history.specs.Example.{siteAfter, siteNumbers, coordinatorWit
 -- A number that is no acceptance.
 pub refused-number : (n : ℕ) → suc n ≡ 0 → ⊥
 refused-number n impossible = omega arith
+
+-- What a draw is answered that is refused, after so many accepted ones.
+abbrev pub drawAnswer : ℕ → ℕ → Observed
+drawAnswer refusal draws = record {
+  refusal = refusal;
+  site = siteAfter draws;
+  count = 0;
+  first = noMessage;
+  second = noMessage;
+}
 
 -- ---- The two start calls, on 1049 of 1050 numbers and 1034 of 1036
 
@@ -43,13 +54,7 @@ unfoldable pub draw-refused : Refuses startedState startedState
 unfolding valueCount
 draw-refused =
     arrival-refused settingsA 0 (arrivalWith 0 10 3) 0 1050 (siteNumbers 0)
-    (record {
-      refusal = 6;
-      site = siteAfter 0;
-      count = 0;
-      first = noMessage;
-      second = noMessage;
-    })
+    (drawAnswer 6 0)
     (record {
       refusal = refl;
       site = refl;
@@ -131,13 +136,7 @@ unfoldable pub draw-refused-underway : Refuses afterItemReport afterItemReport
 unfolding valueCount
 draw-refused-underway =
     arrival-refused settingsA 0 (arrivalWith 1 7 3) 0 1048 (take 1048 (siteNumbers 1))
-    (record {
-      refusal = 5;
-      site = siteAfter 1;
-      count = 0;
-      first = noMessage;
-      second = noMessage;
-    })
+    (drawAnswer 5 1)
     (record {
       refusal = refl;
       site = refl;

@@ -1,7 +1,8 @@
 -- A history: calls one after another from the two start calls on, each given the records and memory
 -- as the calls before left them (document 01, "Whole lists of draws"). A call is known here by its
 -- contract alone: whatever it answers and leaves, if it keeps its promise. The next state is always
--- made of the call's results.
+-- made of the call's results. How much of a memory is lent may differ from call to call ("longer is
+-- fine, the rest untouched"): the first so many numbers, and of refused calls any slice.
 --
 --   Arrives settings before after      a batch call, or an accepted single arrival, at rest
 --   Delivers settings before after     one message handed over and accepted, or a kind 7 asked for

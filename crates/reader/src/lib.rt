@@ -6,7 +6,9 @@ ghost use Rattle.reader.specs.Reading.{Opened, Stepped};
 ghost use Rattle.reader.specs.Walk.{lineAfter, standing, stepAt};
 use model::ACCEPTED;
 use model::Arrival;
+use model::LINE_FEED;
 use model::MALFORMED_LINE;
+use model::SEMICOLON;
 use model::Settings;
 use worklist::read_three;
 
@@ -36,10 +38,6 @@ pub struct Reader<'a> {
     pub at: usize,
     pub line: usize,
 }
-
-const SEMICOLON: u8 = 59;
-
-const LINE_FEED: u8 = 10;
 
 // The last line number that there is. A file has fewer lines, for each takes six bytes or more.
 const LAST_LINE: usize = 18446744073709551615;

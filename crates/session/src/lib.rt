@@ -13,6 +13,7 @@ use model::ACCEPTED;
 use model::CoordinatorRecord;
 use model::MEMORY_TOO_SHORT;
 use model::Phase;
+use model::SITE_RECORDS;
 use model::Settings;
 use model::SiteRecord;
 use model::Sites;
@@ -114,7 +115,7 @@ fn fresh_session(settings: Settings, at: usize) -> Session
         going: true,
         settings: settings,
         sites: Sites {
-            records: [site; 32],
+            records: [site; SITE_RECORDS],
             messages: 0,
         },
         coordinator: CoordinatorRecord {

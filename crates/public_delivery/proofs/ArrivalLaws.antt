@@ -1,148 +1,235 @@
 -- An arrival with full delivery by the public calls: the promise, from what its parts promise.
 --
---   delivered-says                the arrival accepted, and its delivery
---   refusal-of-site               the number that the site gives
---   refused-says, accepted-says   the promise
-use mathlib.Core.Path.{_≡_, sym, ap, _∙_}
-use mathlib.Core.Bool.{true, false}
-use mathlib.Core.List.{List, [], _∷_, _++_}
+--   refused-says       the arrival is refused
+--   Delivers-it        what the parts of the code did
+--   accepted-says      the arrival is accepted, and delivered
+use mathlib.Core.Path.{_≡_, refl, sym, ap, _∙_, subst}
+use mathlib.Core.List.{List, [], _++_}
 use Prim.Native.Nat.{ℕ, _+_}
+use native.Mathlib.Omega.{arith}
+use lib.ListN.{length, length-append}
 use Rattle.model.specs.declared.Settings.{Settings}
 use Rattle.model.specs.declared.Arrival.{Arrival}
 use Rattle.model.specs.declared.Sites.{Sites}
 use Rattle.model.specs.declared.CoordinatorRecord.{CoordinatorRecord}
 use Rattle.model.specs.Refusals.{_orElse_, accepted}
-use Rattle.model.specs.Runs.{runOf}
-use Rattle.site.specs.Calls.{startRefusal}
-use Rattle.history.specs.State.{Held, State, AtRest}
+use Rattle.model.specs.Network.{Network}
+use Rattle.model.specs.Runs.{refusalIn, runOf}
+use Rattle.history.specs.State.{Held, State, AtRest, networkOf, networkWritten}
 use Rattle.history.specs.Histories.{afterSingle, Reachable, stepped, arrives, single}
+use Rattle.history.proofs.Answers.{accepted-choice, refused-choice}
+use Rattle.history.proofs.SingleState.{begins}
 use Rattle.history.proofs.Theorem.{demands}
+use Rattle.history.proofs.Underway.{SoundRest}
 use Rattle.public_delivery.specs.declared.Progress.{Progress}
 use Rattle.public_delivery.specs.declared.DeliveryAnswer.{DeliveryAnswer}
-use Rattle.public_delivery.specs.Progress.{heldBy, isComplete}
+use Rattle.public_delivery.specs.Progress.{heldBy}
 use Rattle.public_delivery.specs.Steps.{Came, DeliverSays}
-use Rattle.public_delivery.specs.Delivery.{deliveryRefusal, arrivalRefusalAt, Begun, BeginSays, HistoryGoesOn, ArrivalDelivered, DeliverySays}
-use Rattle.public_delivery.proofs.HistoryLaws.{passes-of-reachable, reachable-after, accepted-after, tails-trans, tails-after, rests-of-complete, complete-in-history}
-use Rattle.public_delivery.proofs.RulesLaws.{refused-by-rules}
+use Rattle.public_delivery.specs.Arriving.{Begun, BeginSays}
+use Rattle.public_delivery.specs.Delivery.{deliveryRefusal, deliveryIn, HistoryGoesOn, ArrivalDelivered, DeliverySays}
+use Rattle.public_delivery.proofs.EndLaws.{AtEnd, at-end}
+use Rattle.public_delivery.proofs.RestLaws.{Ended}
+use Rattle.public_delivery.proofs.OutcomeLaws.{outcome-of}
+use Rattle.public_delivery.proofs.PassedLaws.{Passed, startRefusal, rest-of}
+use Rattle.public_delivery.proofs.HeldLaws.{kept-after, held-after}
+use Rattle.public_delivery.proofs.HistoryLaws.{passes-of-reachable, reachable-after, start-accepted, never-stopped}
 
--- ---- Accepted
+-- ---- Either way
 
-module _ {settings : Settings} {arrival : Arrival} {sites : Sites}
-    {coordinator : CoordinatorRecord} {siteBefore siteAfter before after : List ℕ}
-    {first ended : Progress} (answer : DeliveryAnswer)
-    (begin-says : BeginSays settings arrival sites coordinator siteBefore siteAfter first)
-    (accepts : first .refusal ≡ accepted)
-    (deliver-says : DeliverSays settings siteAfter before after first ended)
-    (complete-is : answer .complete ≡ isComplete ended)
-    (state : State)
-    (held-is : state .held ≡ heldBy sites coordinator siteBefore before)
-    (nothing-waits : state .waiting ≡ []) where
-  begun : Begun settings state arrival first siteAfter before
-  begun = begin-says .begins accepts state before held-is nothing-waits
-
-  abbrev then : State
-  then = afterSingle settings state arrival (begun .words) (begun .part) (begun .observed)
-
-  came : Came settings then first ended siteAfter after
-  came = deliver-says .comes then (begun .stands)
-
-  module _ (at-rest : AtRest state) (reachable : Reachable settings state) where
-    reachable-then : Reachable settings then
-    reachable-then =
-        stepped state then reachable
-        (arrives (single arrival (begun .words) (begun .part) (begun .observed) at-rest
-        (begun .says) (begun .accepts)))
-
-    here : Reachable settings (came .after)
-    here = reachable-after then reachable-then (came .taken) (came .after) (came .deliveries)
-
-    complete : isComplete ended ≡ true
-    complete =
-        complete-in-history came reachable-then (begin-says .left-is) (deliver-says .none-due)
-
-    rest : AtRest (came .after)
-    rest = rests-of-complete came complete
-
-    accepted-are : came .after .accepted ≡ state .accepted ++ (arrival ∷ [])
-    accepted-are = accepted-after then (came .taken) (came .after) (came .deliveries)
-
-    goes-on : HistoryGoesOn settings state arrival (came .after)
-    goes-on =
-        let passes = passes-of-reachable state reachable in
-        let as-rules = demands .second settings (came .after) passes here .at-rest rest in
-        record {
-          reachable = here;
-          at-rest = rest;
-          accepted-are = accepted-are;
-          network-is =
-              as-rules .network-is
-              ∙ ap (λ (arrivals : List Arrival). runOf settings arrivals .network) accepted-are;
-          messages-are =
-              as-rules .messages-are
-              ∙ ap (λ (arrivals : List Arrival). runOf settings arrivals .messages) accepted-are;
-          tails-kept =
-              tails-trans then reachable-then
-              (demands .second settings state passes reachable .tails-kept then
-              (arrives (single arrival (begun .words) (begun .part) (begun .observed) at-rest
-              (begun .says) (begun .accepts))))
-              (tails-after then reachable-then (came .taken) (came .after) (came .deliveries));
-        }
-
-  pub delivered-says : ArrivalDelivered settings state arrival answer
-      (heldBy (ended .sites) (ended .coordinator) siteAfter after)
-  delivered-says = record {
-    words = begun .words;
-    part = begun .part;
-    observed = begun .observed;
-    observe-says = begun .says;
-    observe-accepts = begun .accepts;
-    calls = came .taken;
-    after = came .after;
-    deliveries = came .deliveries;
-    held-is = came .stands .held-is;
-    rests = λ complete-there. rests-of-complete came (sym complete-is ∙ complete-there);
-    completes = λ at-rest reachable. complete-is ∙ complete at-rest reachable;
-    goes-on = goes-on;
-  }
-
--- ---- The promise
-
--- The settings and the memory of all sites are in order: the arrival's own refusal.
-pub refusal-of-site : (settings : Settings) (given : Held) (arrival : Arrival) (refusal : ℕ)
-    → startRefusal settings (given .siteMemory) ≡ accepted
-    → refusal ≡ arrivalRefusalAt settings (given .sites) (given .siteMemory) arrival
+-- In a history at rest the start test passes, and the number is the rules'.
+by-rules-of : {settings : Settings} (arrival : Arrival) (given : Held) (refusal : ℕ)
     → refusal ≡ deliveryRefusal settings given arrival
-refusal-of-site settings given arrival refusal none refusal-is =
+    → (before : State)
+    → before .held ≡ given
+    → AtRest before
+    → Reachable settings before
+    → refusal ≡ refusalIn settings (networkOf settings given) arrival
+by-rules-of {settings} arrival given refusal refusal-is before held-is at-rest reachable =
+    let none : startRefusal settings given ≡ accepted =
+    subst (λ (held : Held). startRefusal settings held ≡ accepted) held-is
+    (start-accepted before reachable at-rest) in
     refusal-is
-    ∙ sym (ap (λ (start : ℕ). start orElse arrivalRefusalAt settings (given .sites)
-    (given .siteMemory) arrival) none)
+    ∙ ap (λ (start : ℕ). start orElse refusalIn settings (networkOf settings given) arrival) none
+
+-- ---- Refused
 
 pub refused-says : {settings : Settings} {arrival : Arrival} (given left : Held)
     (answer : DeliveryAnswer)
     → answer .refusal ≡ deliveryRefusal settings given arrival
     → (answer .refusal ≡ accepted → ⊥)
+    → answer .carried ≡ 0
+    → answer .stopped ≡ accepted
     → left ≡ given
-    → answer .complete ≡ false
     → DeliverySays settings arrival given left answer
-refused-says {arrival = arrival} given left answer refusal-is refused same not-complete = record {
-  refusal = refusal-is;
-  refused = λ _. record { all-same = same; not-complete = not-complete };
-  delivered = λ none. absurd (refused none);
-  by-rules = refused-by-rules arrival given (answer .refusal) refusal-is;
-}
+refused-says {settings} {arrival} given left answer refusal-is refused nothing none same =
+    let number = deliveryRefusal settings given arrival in
+    let not-accepted : number ≡ accepted → ⊥ = λ accepts. refused (refusal-is ∙ accepts) in
+    record {
+      refusal = refusal-is;
+      carried = nothing ∙ sym (refused-choice number _ _ not-accepted);
+      stopped = none ∙ sym (refused-choice number _ _ not-accepted);
+      held = same ∙ sym (refused-choice number _ _ not-accepted);
+      delivered = λ accepts. absurd (refused accepts);
+      by-rules = by-rules-of arrival given (answer .refusal) refusal-is;
+    }
 
-pub accepted-says : {settings : Settings} {arrival : Arrival} (given left : Held)
-    (answer : DeliveryAnswer)
-    → answer .refusal ≡ deliveryRefusal settings given arrival
-    → answer .refusal ≡ accepted
-    → ((before : State)
-    → before .held ≡ given
-    → before .waiting ≡ []
-    → ArrivalDelivered settings before arrival answer left)
-    → DeliverySays settings arrival given left answer
-accepted-says {arrival = arrival} given left answer refusal-is none delivers = record {
-  refusal = refusal-is;
-  refused = λ refused. absurd (refused none);
-  delivered = λ _. delivers;
-  by-rules = refused-by-rules arrival given (answer .refusal) refusal-is;
-}
+-- ---- Accepted
+
+module _ {settings : Settings} {arrival : Arrival} {sites : Sites}
+    {coordinator : CoordinatorRecord} {siteBefore siteAfter before after : List ℕ}
+    {first ended : Progress}
+    (ok : Passed settings (heldBy sites coordinator siteBefore before))
+    (begin-says : BeginSays settings arrival sites coordinator siteBefore siteAfter first)
+    (accepts : first .refusal ≡ accepted)
+    (deliver-says : DeliverSays settings siteAfter before after first ended) where
+  abbrev given : Held
+  given = heldBy sites coordinator siteBefore before
+
+  abbrev left : Held
+  left = heldBy (ended .sites) (ended .coordinator) siteAfter after
+
+  abbrev network : Network
+  network = networkOf settings given
+
+  -- From a state that holds what was given, with nothing waiting.
+  module _ (state : State) (held-is : state .held ≡ given) (nothing-waits : state .waiting ≡ [])
+    where
+      begun : Begun settings state arrival first siteAfter before
+      begun = begin-says .begins accepts state before held-is nothing-waits
+
+      abbrev then : State
+      then = afterSingle settings state arrival (begun .words) (begun .part) (begun .observed)
+
+      came : Came settings (length (state .messages)) then first ended siteAfter after
+      came = deliver-says .comes (length (state .messages)) then (begun .stands)
+
+      rest : SoundRest settings state
+      rest = rest-of ok state held-is nothing-waits
+
+      here : networkOf settings (state .held) ≡ network
+      here = ap (networkOf settings) held-is
+
+      end : AtEnd settings network arrival (state .messages) then (came .taken) (came .after)
+          (ended .refusal)
+      end =
+          subst (λ (origin : Network).
+          AtEnd settings origin arrival (state .messages) then (came .taken) (came .after)
+          (ended .refusal))
+          here
+          (at-end (ok .passes)
+          (begins (ok .passes) state rest arrival (begun .words) (begun .part) (begun .observed)
+          (begun .says) (begun .accepts))
+          came (begin-says .left-is) (deliver-says .none-due))
+
+      ends : Ended settings network arrival (state .messages) (came .after) (ended .refusal)
+      ends = outcome-of (ok .passes) (ok .within) end
+
+      -- All that is left is the network that it comes to, written over what was given.
+      left-is : left
+          ≡ networkWritten settings given (deliveryIn settings network arrival .network)
+          (given .sites .messages)
+      left-is =
+          sym (came .stands .held-is)
+          ∙ held-after (ok .passes) state rest arrival (begun .words) (begun .part)
+          (begun .observed) (begun .says) (begun .accepts) (came .taken) (came .after)
+          (came .deliveries)
+          ∙ (λ i. networkWritten settings (held-is i) (ends .network-is i)
+          (held-is i .sites .messages))
+
+      -- As many messages as went out.
+      carried-is : ended .carried ≡ length (deliveryIn settings network arrival .messages)
+      carried-is =
+          let out = deliveryIn settings network arrival .messages in
+          omega (
+            arith,
+            came .stands .carried-are,
+            ap length (ends .messages-are),
+            length-append (state .messages) out,
+          )
+
+      module _ (at-rest : AtRest state) (reachable : Reachable settings state) where
+        reachable-then : Reachable settings then
+        reachable-then =
+            stepped state then reachable
+            (arrives (single arrival (begun .words) (begun .part) (begun .observed) at-rest
+            (begun .says) (begun .accepts)))
+
+        there : Reachable settings (came .after)
+        there =
+            reachable-after then reachable-then (came .taken) (came .after) (came .deliveries)
+
+        completes : ended .refusal ≡ accepted
+        completes = never-stopped (came .after) end there
+
+        goes-on : HistoryGoesOn settings state arrival (came .after)
+        goes-on =
+            let passes = passes-of-reachable state reachable in
+            let kept = kept-after (ok .passes) state rest arrival (begun .words) (begun .part)
+            (begun .observed) (begun .says) (begun .accepts) (came .taken) (came .after)
+            (came .deliveries) .holds in
+            let rested = ends .rests completes in
+            let as-rules = demands .second settings (came .after) passes there .at-rest rested in
+            record {
+              reachable = there;
+              at-rest = rested;
+              accepted-are = kept .same-accepted;
+              network-is =
+                  as-rules .network-is
+                  ∙ ap (λ (arrivals : List Arrival). runOf settings arrivals .network)
+                  (kept .same-accepted);
+              messages-are =
+                  as-rules .messages-are
+                  ∙ ap (λ (arrivals : List Arrival). runOf settings arrivals .messages)
+                  (kept .same-accepted);
+              tails-kept = kept .from .tails;
+            }
+
+      delivered-it : (answer : DeliveryAnswer)
+          → answer .stopped ≡ ended .refusal
+          → ArrivalDelivered settings state arrival answer left
+      delivered-it answer stopped-is = record {
+        words = begun .words;
+        part = begun .part;
+        observed = begun .observed;
+        observe-says = begun .says;
+        observe-accepts = begun .accepts;
+        calls = came .taken;
+        after = came .after;
+        deliveries = came .deliveries;
+        held-is = came .stands .held-is;
+        messages-are =
+            ends .messages-are
+            ∙ ap (λ (there : Network).
+            state .messages ++ deliveryIn settings there arrival .messages) (sym here);
+        rests = λ none. ends .rests (sym stopped-is ∙ none);
+        completes = λ at-rest reachable. stopped-is ∙ completes at-rest reachable;
+        goes-on = goes-on;
+      }
+
+  -- What was given, as a state with nothing before it.
+  abbrev fresh : State
+  fresh = record { held = given; waiting = []; accepted = []; messages = []; logged = 0 }
+
+  pub accepted-says : (answer : DeliveryAnswer)
+      → answer .refusal ≡ accepted
+      → accepted ≡ deliveryRefusal settings given arrival
+      → answer .carried ≡ ended .carried
+      → answer .stopped ≡ ended .refusal
+      → DeliverySays settings arrival given left answer
+  accepted-says answer none number-is carried-same stopped-same =
+      let number = deliveryRefusal settings given arrival in
+      record {
+        refusal = none ∙ number-is;
+        carried =
+            carried-same
+            ∙ carried-is fresh refl refl
+            ∙ sym (accepted-choice number _ _ (sym number-is));
+        stopped =
+            stopped-same
+            ∙ ends fresh refl refl .stopped-is
+            ∙ sym (accepted-choice number _ _ (sym number-is));
+        held = left-is fresh refl refl ∙ sym (accepted-choice number _ _ (sym number-is));
+        delivered = λ _ state held-is nothing-waits.
+            delivered-it state held-is nothing-waits answer stopped-same;
+        by-rules = by-rules-of arrival given (answer .refusal) (none ∙ number-is);
+      }

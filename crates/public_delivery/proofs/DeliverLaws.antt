@@ -6,7 +6,7 @@
 use mathlib.Core.Path.{_≡_, refl, sym, _∙_}
 use mathlib.Core.Bool.{Bool, true, false, not, _||_, false≢true}
 use mathlib.Core.List.{List}
-use Prim.Native.Nat.{ℕ, zero, suc, _-_, _≤_}
+use Prim.Native.Nat.{ℕ, zero, suc, _+_, _-_, _≤_}
 use native.Mathlib.Omega.{arith}
 use lib.ListN.{length}
 use borrow.Author.Tests.{eqb-true, eqb-false, eq-eqb, not-true}
@@ -58,6 +58,7 @@ counting progress = record {
   sites = progress .sites;
   coordinator = progress .coordinator;
   waiting = progress .waiting;
+  carried = progress .carried;
   refusal = progress .refusal;
   left = progress .left - 1;
 }
@@ -72,10 +73,11 @@ pub record Going
     (after : List ℕ)
     (now : Progress) : Type 0 where
   pub few : now .waiting .count ≤ 2
+  pub few-carried : now .carried + now .left ≤ begun .carried + begun .left
   pub same-length : length after ≡ length before
-  pub comes : (first : State)
-      → Stands first begun siteMemory before
-      → Came settings first begun now siteMemory after
+  pub comes : (past : ℕ) (first : State)
+      → Stands past first begun siteMemory before
+      → Came settings past first begun now siteMemory after
 
 pub going-start : {settings : Settings} {siteMemory before : List ℕ} {begun : Progress}
     → begun .waiting .count ≤ 2
@@ -83,8 +85,9 @@ pub going-start : {settings : Settings} {siteMemory before : List ℕ} {begun : 
     → Going settings siteMemory before begun before begun
 going-start few none = record {
   few = few;
+  few-carried = omega arith;
   same-length = refl;
-  comes = λ first stands. record {
+  comes = λ past first stands. record {
     taken = 0;
     after = first;
     deliveries = no-step;
@@ -97,11 +100,11 @@ going-start few none = record {
 module _ {settings : Settings} {siteMemory after next : List ℕ} {begun now then : Progress}
     (due : Due now) where
   -- A step, or a refusal.
-  came-step : {first : State}
-      → (came : Came settings first begun now siteMemory after)
+  came-step : {past : ℕ} {first : State}
+      → (came : Came settings past first begun now siteMemory after)
       → then .left ≡ now .left - 1
-      → Stepped settings (came .after) then siteMemory next
-      → Came settings first begun then siteMemory next
+      → Stepped settings past (came .after) then siteMemory next
+      → Came settings past first begun then siteMemory next
   came-step came left-is (goes state step stands none) = record {
     taken = suc (came .taken);
     after = state;
@@ -128,13 +131,17 @@ module _ {settings : Settings} {siteMemory after next : List ℕ} {begun now the
       → Going settings siteMemory before begun next then
   going-on going same says = record {
     few = says .few;
+    few-carried =
+        let one = positive (now .left) (due .some-left) in
+        omega (arith, says .one-more, says .left-is, going .few-carried, one);
     same-length = same ∙ going .same-length;
-    comes = λ first stands.
-        let came = going .comes first stands in
+    comes = λ past first stands.
+        let came = going .comes past first stands in
         came-step came (says .left-is)
-        (says .steps (came .after)
+        (says .steps past (came .after)
         (record {
           held-is = came .stands .held-is;
           waiting-are = came .stands .waiting-are;
+          carried-are = came .stands .carried-are;
         }));
   }

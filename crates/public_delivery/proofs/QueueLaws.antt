@@ -3,21 +3,22 @@
 --   getD-within                     within a list the default does not matter
 --   queued-none, queued-head        nothing waits; the head, and what waits behind it
 --   few-without-head                one at most waits behind the head
---   queued-joined, few-joined       the message of an answer waits last
---   Joined, joined-is               the same of a queue that is known to be that
---   queue-two                       the messages of an arrival's answer
+--   Sends, sends                    the message of an answer waits last, and is counted
+--   queue-two, length-queued        the messages of an arrival's answer
 use mathlib.Core.Path.{_≡_, refl, sym, ap, subst, _∙_}
 use mathlib.Core.Bool.{false}
 use mathlib.Core.List.{List, [], _∷_, _++_, append-nil}
-use Prim.Native.Nat.{ℕ, zero, suc, _≤_, _<_}
+use Prim.Native.Nat.{ℕ, zero, suc, _+_, _≤_, _<_}
 use native.Mathlib.Omega.{arith}
 use lib.ListN.{length, getD, take}
+use lib.Seq.{take-nil, length-take-le}
 use borrow.Author.Tests.{ne-eqb}
 use Rattle.model.specs.declared.Message.{Message}
 use Rattle.model.specs.Choice.{isZero}
 use Rattle.sending.specs.declared.Queue.{Queue}
 use Rattle.sending.specs.Sending.{joined, withoutHead}
-use Rattle.public_delivery.specs.Progress.{queued, joinedIf, QueueSays}
+use Rattle.public_delivery.specs.declared.Progress.{Progress}
+use Rattle.public_delivery.specs.Progress.{queued, sent, QueueSays}
 
 pub getD-within : {A : Type 0} (xs : List A) (i : ℕ) (one other : A)
     → i < length xs
@@ -84,37 +85,57 @@ module _ (waiting : Queue) where
     pub few-without-head : withoutHead waiting .count ≤ 1
     few-without-head = few-behind-by (waiting .count) (waiting .first) (waiting .second) few
 
--- None or one, by the count that the answer has.
-pub queued-joined : (count : ℕ) (waiting : Queue) (m : Message)
-    → waiting .count ≤ 1
-    → queued (joinedIf count waiting m) ≡ queued waiting ++ take count (m ∷ [])
-queued-joined zero waiting m few = sym (append-nil (queued waiting))
-queued-joined (suc zero) waiting m few =
-    joined-by (waiting .count) (waiting .first) (waiting .second) m few
-queued-joined (suc (suc count)) waiting m few =
-    rw (nonzero (suc count))
-    (joined-by (waiting .count) (waiting .first) (waiting .second) m few)
+-- ---- A message that goes out
 
-pub few-joined : (count : ℕ) (waiting : Queue) (m : Message)
-    → waiting .count ≤ 1
-    → joinedIf count waiting m .count ≤ 2
-few-joined zero waiting m few = omega arith
-few-joined (suc count) waiting m few =
-    rw (nonzero count) (few-joined-by (waiting .count) (waiting .first) (waiting .second) m)
+-- It waits last and is counted, if there is one; records, refusal and calls left stay.
+pub record Sends (count : ℕ) (moved : Progress) (m : Message) (after : Progress) : Type 0 where
+  pub same-sites : after .sites ≡ moved .sites
+  pub same-coordinator : after .coordinator ≡ moved .coordinator
+  pub same-refusal : after .refusal ≡ moved .refusal
+  pub same-left : after .left ≡ moved .left
+  pub few : after .waiting .count ≤ 2
+  pub waits : queued (moved .waiting) ++ take count (m ∷ []) ≡ queued (after .waiting)
+  pub counts : after .carried ≡ moved .carried + length (take count (m ∷ []))
+  pub one-more : after .carried ≤ moved .carried + 1
 
--- The same of a queue that is known to be that.
-pub record Joined (queue : Queue) (all : List Message) : Type 0 where
-  pub few : queue .count ≤ 2
-  pub waits : all ≡ queued queue
-
-pub joined-is : {queue : Queue} (count : ℕ) (waiting : Queue) (m : Message)
-    → queue ≡ joinedIf count waiting m
-    → waiting .count ≤ 1
-    → Joined queue (queued waiting ++ take count (m ∷ []))
-joined-is count waiting m queue-is few = record {
-  few = subst (λ (q : Queue). q .count ≤ 2) (sym queue-is) (few-joined count waiting m few);
-  waits = sym (queued-joined count waiting m few) ∙ ap queued (sym queue-is);
+sends-by : (count : ℕ) (moved : Progress) (m : Message)
+    → moved .waiting .count ≤ 1
+    → Sends count moved m (sent count moved m)
+sends-by zero moved m few = record {
+  same-sites = refl;
+  same-coordinator = refl;
+  same-refusal = refl;
+  same-left = refl;
+  few = omega arith;
+  waits = append-nil (queued (moved .waiting));
+  counts = omega arith;
+  one-more = omega arith;
 }
+sends-by (suc count) moved m few =
+    let waiting = moved .waiting in
+    let one : take (suc count) (m ∷ []) ≡ m ∷ [] =
+    ap (λ (ms : List Message). m ∷ ms) (take-nil count) in
+    rw (nonzero count)
+    (record {
+      same-sites = refl;
+      same-coordinator = refl;
+      same-refusal = refl;
+      same-left = refl;
+      few = few-joined-by (waiting .count) (waiting .first) (waiting .second) m;
+      waits =
+          ap (λ (ms : List Message). queued waiting ++ ms) one
+          ∙ sym (joined-by (waiting .count) (waiting .first) (waiting .second) m few);
+      counts = omega (arith, ap length one);
+      one-more = omega arith;
+    })
+
+-- The same of a progress that is known to be that.
+pub sends : (count : ℕ) (moved : Progress) (m : Message) (after : Progress)
+    → after ≡ sent count moved m
+    → moved .waiting .count ≤ 1
+    → Sends count moved m after
+sends count moved m after after-is few =
+    subst (Sends count moved m) (sym after-is) (sends-by count moved m few)
 
 -- An answer with two messages, or a count that says more.
 pub queue-two : (count : ℕ) (first second : Message)
@@ -125,3 +146,9 @@ queue-two (suc zero) first second both = absurd (omega arith)
 queue-two (suc (suc zero)) first second both = record { messages = refl; few = omega arith }
 queue-two (suc (suc (suc count))) first second both =
     record { messages = refl; few = omega arith }
+
+-- As many wait as the queue counts.
+pub length-queued : (waiting : Queue) → waiting .count ≤ 2
+    → length (queued waiting) ≡ waiting .count
+length-queued waiting few =
+    length-take-le (waiting .count) (waiting .first ∷ (waiting .second ∷ [])) few

@@ -5,7 +5,7 @@
 -- Letter: j the site that the message names.
 use mathlib.Core.Path.{_≡_, refl, sym, ap, _∙_, subst}
 use mathlib.Core.Bool.{false}
-use mathlib.Core.List.{List, _∷_, _++_}
+use mathlib.Core.List.{List, _∷_}
 use Prim.Native.Nat.{ℕ, suc, _-_, _*_, _≤_, _<_}
 use native.Mathlib.Nat.{mul-le-mul-right}
 use native.Mathlib.Omega.{arith}
@@ -25,13 +25,13 @@ use Rattle.model.proofs.RefusalLaws.{both-accepted, passed}
 use Rattle.network_tests.specs.Contracts.{SitesFit}
 use Rattle.site_steps.specs.declared.Answered.{Answered}
 use Rattle.site.specs.Calls as SiteCalls
-use Rattle.history.specs.State.{Held, State, recordAt, sitePart, withRecord, afterSiteCall, sending}
-use Rattle.history.specs.Histories.{to-site, answeredOut}
+use Rattle.history.specs.State.{Held, State, recordAt, sitePart, withRecord, afterSiteCall}
+use Rattle.history.specs.Histories.{to-site}
 use Rattle.public_delivery.specs.declared.Progress.{Progress}
-use Rattle.public_delivery.specs.Progress.{refusedWith, recordIn, heldBy, queued, joinedIf, Stands}
-use Rattle.public_delivery.specs.Steps.{site-refuses, goes, HandAsks, StepSays}
-use Rattle.public_delivery.proofs.QueueLaws.{queued-head, few-without-head, Joined, joined-is}
-use Rattle.public_delivery.proofs.StepLaws.{movedOn, stopped}
+use Rattle.public_delivery.specs.Progress.{sent, refusedWith, recordIn, heldBy, queued, Stands}
+use Rattle.public_delivery.specs.Steps.{site-refuses, HandAsks, StepSays}
+use Rattle.public_delivery.proofs.QueueLaws.{queued-head, few-without-head}
+use Rattle.public_delivery.proofs.StepLaws.{movedOn, went, stopped}
 
 -- What a site accepts names one of the sites.
 known-of-accepted : (settings : Settings) (which first later : ℕ)
@@ -66,7 +66,7 @@ module _ {settings : Settings} {siteMemory : List ℕ} {progress : Progress}
       → StepSays settings siteMemory memory memory progress (refusedWith progress unknownSite)
   site-unknown none-such memory =
       stopped progress unknownSite memory (asks .few) (λ none. omega arith) refl
-      (λ state stands.
+      (λ past state stands.
       site-refuses message behind (siteWords settings) (stands .waiting-are ∙ message-waits)
       (asks .way-is) (omega arith)
       (λ none.
@@ -107,7 +107,8 @@ module _ {settings : Settings} {siteMemory : List ℕ} {progress : Progress}
         subst (λ (m : List ℕ). SiteCalls.ReceiveSays settings (recordAt held j) j message
         (take rest (drop (j * siteWords settings) m)) answer) (sym memory-is) at-sites
 
-    module _ {memory : List ℕ} (state : State) (stands : Stands state progress siteMemory memory)
+    module _ {memory : List ℕ} {past : ℕ} (state : State)
+        (stands : Stands past state progress siteMemory memory)
       where
         says-of : SiteCalls.ReceiveSays settings (recordAt (state .held) j) j message
             (sitePart settings (state .held) j rest) answer
@@ -121,39 +122,31 @@ module _ {settings : Settings} {siteMemory : List ℕ} {progress : Progress}
         (refusedWith progress (answer .refusal))
     site-stops refused memory =
         stopped progress (answer .refusal) memory (asks .few) refused refl
-        (λ state stands.
+        (λ past state stands.
         site-refuses message behind rest (stands .waiting-are ∙ message-waits) (asks .way-is) long
         (λ none. refused (says-of state stands .refusal ∙ none)))
 
-    module _ (sites : Sites) (queue : Queue)
-        (sites-are : sites ≡ withRecord (progress .sites) j (answer .site))
-        (queue-is : queue
-        ≡ joinedIf (answer .count) (withoutHead (progress .waiting)) (answer .reply)) where
-      replied : Joined queue (behind ++ answeredOut answer)
-      replied = joined-is (answer .count) (withoutHead (progress .waiting)) (answer .reply) queue-is
-          few-behind
-
-      pub site-goes : answer .refusal ≡ accepted
-          → (memory : List ℕ)
-          → StepSays settings siteMemory memory memory progress
-          (movedOn progress sites (progress .coordinator) queue)
-      site-goes accepts memory = record {
-        few = replied .few;
-        left-is = refl;
-        steps = λ state stands.
-            goes
-            (sending state
-            (afterSiteCall (state .held) j (answer .site) (state .held .siteMemory)) behind
-            (answeredOut answer))
-            (to-site message behind rest answer (stands .waiting-are ∙ message-waits)
-            (asks .way-is) (says-of state stands) accepts)
-            (record {
-              held-is =
-                  ap (λ (held : Held). afterSiteCall held j (answer .site) (held .siteMemory))
-                  (stands .held-is)
-                  ∙ ap (λ (s : Sites). heldBy s (progress .coordinator) siteMemory memory)
-                  (sym sites-are);
-              waiting-are = replied .waits;
-            })
-            (asks .not-refused);
-      }
+    pub site-goes : answer .refusal ≡ accepted
+        → (memory : List ℕ) (sites : Sites) (queue : Queue) (then : Progress)
+        → sites ≡ withRecord (progress .sites) j (answer .site)
+        → queue ≡ withoutHead (progress .waiting)
+        → then ≡ sent (answer .count) (movedOn progress sites (progress .coordinator) queue)
+        (answer .reply)
+        → StepSays settings siteMemory memory memory progress then
+    site-goes accepts memory sites queue then sites-are queue-is then-is =
+        went (asks .not-refused) sites (progress .coordinator) queue
+        (subst (λ (q : Queue). q .count ≤ 1) (sym queue-is) few-behind)
+        (answer .count) (answer .reply) then then-is
+        (λ past state stands. record {
+          held = afterSiteCall (state .held) j (answer .site) (state .held .siteMemory);
+          waiting = behind;
+          held-is =
+              ap (λ (held : Held). afterSiteCall held j (answer .site) (held .siteMemory))
+              (stands .held-is)
+              ∙ ap (λ (s : Sites). heldBy s (progress .coordinator) siteMemory memory)
+              (sym sites-are);
+          waiting-are = ap queued (sym queue-is);
+          delivers =
+              to-site message behind rest answer (stands .waiting-are ∙ message-waits)
+              (asks .way-is) (says-of state stands) accepts;
+        })

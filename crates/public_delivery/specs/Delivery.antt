@@ -1,102 +1,112 @@
 -- The contract of an arrival with full delivery by the public calls: whatever records and memory it
--- is given, what it leaves is reached by the arrival's call and then by calls that deliver, each of
--- them accepted; and where a history left what it is given at rest, the history goes on by this
--- arrival and comes to rest.
+-- is given, arisen or not, its numbers, both records and every place of lent memory are those of a
+-- definition; what it does are steps of a history; and where a history left what it is given at
+-- rest, the history goes on by this arrival and comes to rest.
 --
---   siteAsked settings arrival     the site that is shown the arrival
 --   deliveryRefusal ..             why the arrival is refused
---   mostCalls settings             one call more than any delivery of a history has
---   Begun, BeginSays               the arrival at its site
+--   meetsLimit, stopOf             whether a call is refused in mid-delivery, and by what number: 0
+--                                  for records and memory that arose
+--   deliveryIn ..                  the network that it comes to, and the messages that went out
+--   heldAfter, carriedBy, stoppedBy   what is left, and what is answered, refused or not
+--   refusedBy refusal ..           the answer that refuses the arrival
 --   HistoryGoesOn                  a history with one arrival more
---   ArrivalDelivered               the arrival and its delivery
+--   ArrivalDelivered               the arrival and its delivery, as steps of a history
 --   DeliverySays                   the promise
 use mathlib.Core.Path.{_≡_}
-use mathlib.Core.Bool.{true, false}
+use mathlib.Core.Bool.{Bool, _&&_}
 use mathlib.Core.List.{List, [], _∷_, _++_}
-use Prim.Native.Nat.{ℕ, _+_, _-_, _*_, _≤_}
-use lib.Dec.{leb}
-use lib.ListN.{length, take, drop}
+use Prim.Native.Nat.{ℕ, _+_}
+use lib.Dec.{ltb}
+use lib.ListN.{length}
 use Rattle.model.specs.declared.Settings.{Settings}
 use Rattle.model.specs.declared.Arrival.{Arrival}
 use Rattle.model.specs.declared.Sites.{Sites}
 use Rattle.model.specs.declared.CoordinatorRecord.{CoordinatorRecord}
-use Rattle.model.specs.Choice.{if_then_else_}
-use Rattle.model.specs.Refusals.{_orElse_, accepted}
-use Rattle.model.specs.SiteMemory.{siteWords}
-use Rattle.model.specs.Network.{deliveryFuel}
+use Rattle.model.specs.Choice.{if_then_else_, isZero}
+use Rattle.model.specs.Refusals.{when, _orElse_, accepted, memoryInconsistent}
+use Rattle.model.specs.Limits.{coordinatorLimit}
+use Rattle.model.specs.Site.{reportsItem, reportsCount}
+use Rattle.model.specs.Network.{Network, Delivered, siteAt, afterArrival}
+use Rattle.model.specs.NetworkMemory.{networkRefusal}
 use Rattle.model.specs.Runs.{refusalIn, runOf}
+use Rattle.model.specs.SoundNetwork.{estimateOf}
+use Rattle.model.specs.DeliveryClaims.{deliveryOf, deliveryStep, outcome}
 use Rattle.site_steps.specs.declared.Observed.{Observed}
-use Rattle.site.specs.Calls.{ObserveSays, observeRefusal, startRefusal}
-use Rattle.history.specs.State.{Held, State, AtRest, networkOf, recordAt, sitePart}
+use Rattle.site.specs.Calls.{ObserveSays}
+use Rattle.history.specs.State.{Held, State, AtRest, networkOf, networkWritten, recordAt, sitePart}
 use Rattle.history.specs.Histories.{afterSingle, Reachable, Deliveries}
 use Rattle.history.specs.Frame.{TailsKept}
-use Rattle.public_delivery.specs.declared.Progress.{Progress}
 use Rattle.public_delivery.specs.declared.DeliveryAnswer.{DeliveryAnswer}
-use Rattle.public_delivery.specs.Progress.{recordIn, heldBy, Stands}
 
 -- ---- Refusals
 
--- The one that it names, or site 0 if there is none of that number: every site refuses it then.
-abbrev pub siteAsked : Settings → Arrival → ℕ
-siteAsked settings arrival =
-    if leb (settings .sites) (arrival .site) then 0 else arrival .site
-
--- The sites' memory from the start of one site's part on.
-abbrev pub restFrom : Settings → List ℕ → ℕ → List ℕ
-restFrom settings memory which =
-    take (length memory - which * siteWords settings) (drop (which * siteWords settings) memory)
-
--- By that site's record and part: 1, 2, 3, 4, 11; then 5, 6, 7, 8.
-abbrev pub arrivalRefusalAt : Settings → Sites → List ℕ → Arrival → ℕ
-arrivalRefusalAt settings sites memory arrival =
-    observeRefusal settings (recordIn sites (siteAsked settings arrival)) arrival
-    (restFrom settings memory (siteAsked settings arrival))
-
--- First 1, 2, 3, 4 for the memory of all sites.
+-- "Order: 1, 2, 3; then 4, 11; for a draw 5, 6, 7, 8": 1 to 4 and 11 of the whole network at rest,
+-- as the batch call tests it when it starts.
 abbrev pub deliveryRefusal : Settings → Held → Arrival → ℕ
 deliveryRefusal settings held arrival =
-    startRefusal settings (held .siteMemory)
-    orElse arrivalRefusalAt settings (held .sites) (held .siteMemory) arrival
+    networkRefusal settings (held .sites) (held .coordinator) (held .siteMemory)
+    (held .coordinatorMemory)
+    orElse refusalIn settings (networkOf settings held) arrival
 
--- ---- The arrival
+-- ---- What the delivery comes to
 
-abbrev pub mostCalls : Settings → ℕ
-mostCalls settings = deliveryFuel settings + 1
+-- Kinds 1 and 2 both go out, and kind 1 brings the item's estimate above 100,000,000,000: kind 2
+-- meets a coordinator whose memory is inconsistent. No estimate that arose comes near.
+abbrev pub meetsLimit : Settings → Network → Arrival → Bool
+meetsLimit settings network arrival =
+    let site = siteAt network (arrival .site) in
+    reportsItem settings site arrival
+    && reportsCount site
+    && ltb coordinatorLimit (estimateOf network (arrival .item) + site .threshold)
 
--- The call on the site is accepted, and the progress stands for the state after it.
-pub record Begun
-    (settings : Settings)
-    (before : State)
-    (arrival : Arrival)
-    (begun : Progress)
-    (siteMemory coordinatorMemory : List ℕ) : Type 0 where
-  pub words : ℕ
-  pub part : List ℕ
-  pub observed : Observed
-  pub says : ObserveSays settings (recordAt (before .held) (arrival .site)) arrival
-      (sitePart settings (before .held) (arrival .site) words) part observed
-  pub accepts : observed .refusal ≡ accepted
-  pub stands : Stands (afterSingle settings before arrival words part observed) begun siteMemory
-      coordinatorMemory
+-- The number of the call that stops it: 11, of kind 2; 0 where none does.
+abbrev pub stopOf : Settings → Network → Arrival → ℕ
+stopOf settings network arrival = when (meetsLimit settings network arrival) memoryInconsistent
 
-pub record BeginSays
-    (settings : Settings)
-    (arrival : Arrival)
-    (sites : Sites)
-    (coordinator : CoordinatorRecord)
-    (before after : List ℕ)
-    (begun : Progress) : Type 0 where
-  pub refusal : begun .refusal ≡ arrivalRefusalAt settings sites before arrival
-  pub refused : (begun .refusal ≡ accepted → ⊥) → after ≡ before
-  pub few : begun .waiting .count ≤ 2
-  pub left-is : begun .left ≡ mostCalls settings
-  pub begins : begun .refusal ≡ accepted
-      → (state : State) (coordinatorMemory : List ℕ)
-      → state .held ≡ heldBy sites coordinator before coordinatorMemory
-      → state .waiting ≡ []
-      → Begun settings state arrival begun after coordinatorMemory
+-- The rules' full delivery; where it stops, the arrival with its kind 1 handed over and its kind 2
+-- not.
+abbrev pub deliveryIn : Settings → Network → Arrival → Delivered
+deliveryIn settings network arrival =
+    if meetsLimit settings network arrival
+    then outcome (deliveryStep settings (deliveryOf settings network arrival))
+    else afterArrival settings network arrival
 
--- ---- The arrival with its delivery
+-- Refused, all is "left as it was". Otherwise it is the network that the delivery comes to, written
+-- over what was given: unused counters, records k to 31 and what lies past the network stay, and so
+-- does the network's own count of messages, "to which the many-draw call alone adds".
+abbrev pub heldAfter : Settings → Held → Arrival → Held
+heldAfter settings given arrival =
+    if isZero (deliveryRefusal settings given arrival)
+    then networkWritten settings given
+    (deliveryIn settings (networkOf settings given) arrival .network) (given .sites .messages)
+    else given
+
+-- Each message that went out, once.
+abbrev pub carriedBy : Settings → Held → Arrival → ℕ
+carriedBy settings given arrival =
+    if isZero (deliveryRefusal settings given arrival)
+    then length (deliveryIn settings (networkOf settings given) arrival .messages)
+    else 0
+
+abbrev pub stoppedBy : Settings → Held → Arrival → ℕ
+stoppedBy settings given arrival =
+    if isZero (deliveryRefusal settings given arrival)
+    then stopOf settings (networkOf settings given) arrival
+    else accepted
+
+-- ---- Refused
+
+-- Nothing went out, and the records are as they were.
+abbrev pub refusedBy : ℕ → Sites → CoordinatorRecord → DeliveryAnswer
+refusedBy refusal sites coordinator = record {
+  refusal = refusal;
+  carried = 0;
+  stopped = accepted;
+  sites = sites;
+  coordinator = coordinator;
+}
+
+-- ---- As steps of a history
 
 -- A history at rest goes on by one arrival, and is at rest again: the rules' run with one more.
 pub record HistoryGoesOn
@@ -134,18 +144,19 @@ pub record ArrivalDelivered
   pub deliveries : Deliveries settings (afterSingle settings before arrival words part observed)
       calls after
   pub held-is : after .held ≡ left
-  -- what `complete` says
-  pub rests : answer .complete ≡ true → AtRest after
-  -- in a history the delivery always comes to rest
-  pub completes : AtRest before → Reachable settings before → answer .complete ≡ true
+  -- the messages that went out, after those before
+  pub messages-are : after .messages
+      ≡ before .messages
+      ++ deliveryIn settings (networkOf settings (before .held)) arrival .messages
+  -- not stopped, it has come to rest
+  pub rests : answer .stopped ≡ accepted → AtRest after
+  -- in a history nothing stops it
+  pub completes : AtRest before → Reachable settings before → answer .stopped ≡ accepted
   pub goes-on : AtRest before
       → Reachable settings before
       → HistoryGoesOn settings before arrival after
 
--- Records and memory as they were.
-pub record Untouched (given left : Held) (answer : DeliveryAnswer) : Type 0 where
-  pub all-same : left ≡ given
-  pub not-complete : answer .complete ≡ false
+-- ---- The promise
 
 pub record DeliverySays
     (settings : Settings)
@@ -153,14 +164,19 @@ pub record DeliverySays
     (given left : Held)
     (answer : DeliveryAnswer) : Type 0 where
   pub refusal : answer .refusal ≡ deliveryRefusal settings given arrival
-  pub refused : (answer .refusal ≡ accepted → ⊥) → Untouched given left answer
+  pub carried : answer .carried ≡ carriedBy settings given arrival
+  pub stopped : answer .stopped ≡ stoppedBy settings given arrival
+  -- both records and both memories
+  pub held : left ≡ heldAfter settings given arrival
+  -- accepted, it is the arrival's call and then calls that deliver
   pub delivered : answer .refusal ≡ accepted
       → (before : State)
       → before .held ≡ given
       → before .waiting ≡ []
       → ArrivalDelivered settings before arrival answer left
-  -- in a history an arrival is refused by the rules' number alone: 5, 6, 7, 8
+  -- in a history at rest an arrival is refused by the rules' number alone: 5, 6, 7, 8
   pub by-rules : (before : State)
       → before .held ≡ given
+      → AtRest before
       → Reachable settings before
       → answer .refusal ≡ refusalIn settings (networkOf settings given) arrival

@@ -3,16 +3,16 @@
 --   heldBy ..                      records and memory as a history has them
 --   recordIn sites which           a site's record; a fresh one past the array's end
 --   queued queue                   the messages that wait, in order; never more than two
---   joinedIf count queue m         a message waits last if the count is not 0
 --   QueueSays                      the messages of an arrival's answer wait
+--   sent count progress m          a message waits last and is counted, if the count is not 0
 --   refusedWith progress refusal   the progress with the refusal of a call
---   isDue, isComplete              whether the next call is due; whether all has come to rest
---   Stands state progress ..       the state of a history that records, queue and memory are
+--   isDue                          whether the next call is due
+--   Stands past state progress ..  the state of a history that records, queue and memory are
 use mathlib.Core.Path.{_≡_}
 use mathlib.Core.Bool.{Bool, not, _&&_, _||_}
 use mathlib.Core.List.{List, [], _∷_}
-use Prim.Native.Nat.{ℕ, _≤_}
-use lib.ListN.{getD, take}
+use Prim.Native.Nat.{ℕ, _+_, _≤_}
+use lib.ListN.{length, getD, take}
 use Rattle.model.specs.declared.Message.{Message}
 use Rattle.model.specs.declared.SiteRecord.{SiteRecord}
 use Rattle.model.specs.declared.Sites.{Sites}
@@ -20,7 +20,7 @@ use Rattle.model.specs.declared.CoordinatorRecord.{CoordinatorRecord}
 use Rattle.model.specs.Choice.{if_then_else_, isZero}
 use Rattle.model.specs.Site.{freshSite}
 use Rattle.model.specs.SiteMemory.{siteRecord}
-use Rattle.model.specs.Coordinator.{isIdle, isAnnouncing}
+use Rattle.model.specs.Coordinator.{isAnnouncing}
 use Rattle.sending.specs.declared.Queue.{Queue}
 use Rattle.sending.specs.Sending.{joined}
 use Rattle.history.specs.State.{Held, State}
@@ -44,13 +44,22 @@ recordIn sites which = getD (sites .records) which (siteRecord freshSite)
 abbrev pub queued : Queue → List Message
 queued queue = take (queue .count) (queue .first ∷ (queue .second ∷ []))
 
-abbrev pub joinedIf : ℕ → Queue → Message → Queue
-joinedIf count queue m = if isZero count then queue else joined queue m
-
 -- As many as the answer counts: none, the first, or both.
 pub record QueueSays (count : ℕ) (first second : Message) (queue : Queue) : Type 0 where
   pub messages : queued queue ≡ take count (first ∷ (second ∷ []))
   pub few : queue .count ≤ 2
+
+-- A message went out: it waits last, and is one more that was carried.
+abbrev pub sent : ℕ → Progress → Message → Progress
+sent count progress m =
+    if isZero count then progress else record {
+      sites = progress .sites;
+      coordinator = progress .coordinator;
+      waiting = joined (progress .waiting) m;
+      carried = progress .carried + 1;
+      refusal = progress .refusal;
+      left = progress .left;
+    }
 
 -- ---- Refused
 
@@ -60,6 +69,7 @@ refusedWith progress refusal = record {
   sites = progress .sites;
   coordinator = progress .coordinator;
   waiting = progress .waiting;
+  carried = progress .carried;
   refusal = refusal;
   left = progress .left;
 }
@@ -78,15 +88,15 @@ mayGoOn progress = isZero (progress .refusal) && not (isZero (progress .left))
 abbrev pub isDue : Progress → Bool
 isDue progress = mayGoOn progress && goesOn progress
 
--- Nothing waits, and the coordinator is idle.
-abbrev pub isComplete : Progress → Bool
-isComplete progress =
-    isZero (progress .waiting .count) && isIdle (progress .coordinator .phase)
-
 -- ---- The state of a history
 
-pub record Stands (state : State) (progress : Progress) (siteMemory coordinatorMemory : List ℕ)
-    : Type 0 where
+-- Where so many messages had gone out before the arrival.
+pub record Stands
+    (past : ℕ)
+    (state : State)
+    (progress : Progress)
+    (siteMemory coordinatorMemory : List ℕ) : Type 0 where
   pub held-is : state .held
       ≡ heldBy (progress .sites) (progress .coordinator) siteMemory coordinatorMemory
   pub waiting-are : state .waiting ≡ queued (progress .waiting)
+  pub carried-are : length (state .messages) ≡ past + progress .carried

@@ -2,16 +2,16 @@
 -- queue and the memory stand for, arisen or not, each call that is accepted is a step from it, and
 -- a call that is refused leaves it.
 --
---   Blocked settings state        a call that is due is refused: in no history (crate `history`)
---   Stepped settings state ..     a step of delivery, or the state as it was with a refusal
---   AskAsks, HandAsks, DueAsks    what each call requires of the progress
---   StepSays                      what each call promises
---   Came settings first ..        steps of delivery since a first state
---   DeliverAsks, DeliverSays      call by call, until none is due
+--   Blocked settings state refusal   a call that is due is refused by this number
+--   Stepped settings past state ..   a step of delivery, or the state as it was with a refusal
+--   AskAsks, HandAsks, DueAsks       what each call requires of the progress
+--   StepSays                         what each call promises
+--   Came settings past first ..      steps of delivery since a first state
+--   DeliverAsks, DeliverSays         call by call, until none is due
 use mathlib.Core.Path.{_≡_}
 use mathlib.Core.Bool.{Bool, true, false}
 use mathlib.Core.List.{List, _∷_}
-use Prim.Native.Nat.{ℕ, _+_, _≤_}
+use Prim.Native.Nat.{ℕ, _+_, _≤_, _<_}
 use Rattle.model.specs.declared.Settings.{Settings}
 use Rattle.model.specs.declared.Message.{Message}
 use Rattle.model.specs.Refusals.{accepted}
@@ -29,14 +29,14 @@ use Rattle.public_delivery.specs.Progress.{isDue, Stands}
 -- ---- One call
 
 -- What is due and refused.
-pub data Blocked (settings : Settings) (state : State) : Type 0 where
+pub data Blocked (settings : Settings) (state : State) (refusal : ℕ) : Type 0 where
   coordinator-refuses : (m : Message) (later : List Message)
       → state .waiting ≡ m ∷ later
       → toCoordinator m ≡ true
-      → (CoordinatorCalls.receiveRefusal settings (state .held .coordinator) m
+      → CoordinatorCalls.receiveRefusal settings (state .held .coordinator) m
       (state .held .coordinatorMemory)
-      ≡ accepted → ⊥)
-      → Blocked settings state
+      ≡ refusal
+      → Blocked settings state refusal
   site-refuses : (m : Message) (later : List Message) (words : ℕ)
       → state .waiting ≡ m ∷ later
       → toCoordinator m ≡ false
@@ -44,40 +44,43 @@ pub data Blocked (settings : Settings) (state : State) : Type 0 where
       → (SiteCalls.receiveRefusal settings (recordAt (state .held) (m .site)) (m .site) m
       (sitePart settings (state .held) (m .site) words)
       ≡ accepted → ⊥)
-      → Blocked settings state
+      → Blocked settings state refusal
   announcement-refused :
       isAnnouncing (state .held .coordinator .phase) ≡ true
-      → (CoordinatorCalls.announceRefusal settings (state .held .coordinator)
+      → CoordinatorCalls.announceRefusal settings (state .held .coordinator)
       (state .held .coordinatorMemory)
-      ≡ accepted → ⊥)
-      → Blocked settings state
+      ≡ refusal
+      → Blocked settings state refusal
 
 pub data Stepped
     (settings : Settings)
+    (past : ℕ)
     (state : State)
     (after : Progress)
     (siteMemory coordinatorMemory : List ℕ) : Type 0 where
   -- the call is accepted: a step of a history
   goes : (next : State)
       → Delivers settings state next
-      → Stands next after siteMemory coordinatorMemory
+      → Stands past next after siteMemory coordinatorMemory
       → after .refusal ≡ accepted
-      → Stepped settings state after siteMemory coordinatorMemory
+      → Stepped settings past state after siteMemory coordinatorMemory
   -- it is refused: all is as it was
-  stops : Stands state after siteMemory coordinatorMemory
+  stops : Stands past state after siteMemory coordinatorMemory
       → (after .refusal ≡ accepted → ⊥)
-      → Blocked settings state
-      → Stepped settings state after siteMemory coordinatorMemory
+      → Blocked settings state (after .refusal)
+      → Stepped settings past state after siteMemory coordinatorMemory
 
 -- Nothing waits, and the coordinator announces.
 pub record AskAsks (progress : Progress) : Type 0 where
   pub not-refused : progress .refusal ≡ accepted
+  pub few-carried : progress .carried < 4294967295
   pub nothing-waits : progress .waiting .count ≡ 0
   pub announces : isAnnouncing (progress .coordinator .phase) ≡ true
 
 -- A message waits, and it is for the coordinator, or for a site.
 pub record HandAsks (way : Bool) (progress : Progress) : Type 0 where
   pub not-refused : progress .refusal ≡ accepted
+  pub few-carried : progress .carried < 4294967295
   pub some : progress .waiting .count ≡ 0 → ⊥
   pub few : progress .waiting .count ≤ 2
   pub way-is : toCoordinator (progress .waiting .first) ≡ way
@@ -85,6 +88,7 @@ pub record HandAsks (way : Bool) (progress : Progress) : Type 0 where
 -- One of them.
 pub record DueAsks (progress : Progress) : Type 0 where
   pub not-refused : progress .refusal ≡ accepted
+  pub few-carried : progress .carried < 4294967295
   pub few : progress .waiting .count ≤ 2
   pub announces : progress .waiting .count ≡ 0
       → isAnnouncing (progress .coordinator .phase) ≡ true
@@ -94,10 +98,11 @@ pub record StepSays
     (siteMemory coordinatorBefore coordinatorAfter : List ℕ)
     (before after : Progress) : Type 0 where
   pub few : after .waiting .count ≤ 2
+  pub one-more : after .carried ≤ before .carried + 1
   pub left-is : after .left ≡ before .left
-  pub steps : (state : State)
-      → Stands state before siteMemory coordinatorBefore
-      → Stepped settings state after siteMemory coordinatorAfter
+  pub steps : (past : ℕ) (state : State)
+      → Stands past state before siteMemory coordinatorBefore
+      → Stepped settings past state after siteMemory coordinatorAfter
 
 -- ---- All calls
 
@@ -105,20 +110,22 @@ pub record StepSays
 -- refused, it was the last.
 pub record Came
     (settings : Settings)
+    (past : ℕ)
     (first : State)
     (begun now : Progress)
     (siteMemory coordinatorMemory : List ℕ) : Type 0 where
   pub taken : ℕ
   pub after : State
   pub deliveries : Deliveries settings first taken after
-  pub stands : Stands after now siteMemory coordinatorMemory
+  pub stands : Stands past after now siteMemory coordinatorMemory
   pub counted : now .refusal ≡ accepted → taken + now .left ≡ begun .left
-  pub blocked : (now .refusal ≡ accepted → ⊥) → Blocked settings after
+  pub blocked : (now .refusal ≡ accepted → ⊥) → Blocked settings after (now .refusal)
 
 pub record DeliverAsks (settings : Settings) (siteMemory : List ℕ) (begun : Progress) : Type 0
   where
     pub fits : SitesFit settings siteMemory
     pub few : begun .waiting .count ≤ 2
+    pub few-carried : begun .carried + begun .left ≤ 4294967295
     pub not-refused : begun .refusal ≡ accepted
 
 -- From every state that the progress stands for; and then no call is due.
@@ -127,6 +134,6 @@ pub record DeliverSays
     (siteMemory coordinatorBefore coordinatorAfter : List ℕ)
     (begun ended : Progress) : Type 0 where
   pub none-due : isDue ended ≡ false
-  pub comes : (first : State)
-      → Stands first begun siteMemory coordinatorBefore
-      → Came settings first begun ended siteMemory coordinatorAfter
+  pub comes : (past : ℕ) (first : State)
+      → Stands past first begun siteMemory coordinatorBefore
+      → Came settings past first begun ended siteMemory coordinatorAfter

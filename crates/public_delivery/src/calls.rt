@@ -1,13 +1,12 @@
 // The calls of a delivery, one by one: kind 7 is asked for, or the message that waits first is
-// handed to the coordinator or to its site, and what the call hands out waits last. The functions
-// are internal: `begin` and `deliver` alone call them, and what they require follows from what
-// those require and from `call_due`.
+// handed to the coordinator or to its site. What the call hands out waits last. The functions are
+// internal: what they require follows from what `deliver` requires and from `call_due`.
 ghost use mathlib.Core.Path.{_≡_};
 ghost use mathlib.Core.Bool.{true, false};
 ghost use mathlib.Core.List.{List};
 ghost use Prim.Native.Nat.{ℕ, _<_};
 ghost use Rattle.network_tests.specs.Contracts.{SitesFit};
-ghost use Rattle.public_delivery.specs.Progress.{joinedIf, refusedWith, recordIn};
+ghost use Rattle.public_delivery.specs.Progress.{sent, refusedWith, recordIn};
 ghost use Rattle.public_delivery.specs.Steps.{AskAsks, HandAsks, DueAsks, StepSays};
 use crate::Progress;
 use counters::Word;
@@ -17,32 +16,29 @@ use model::Settings;
 use model::SiteRecord;
 use model::Sites;
 use model::UNKNOWN_SITE;
-use sending::Queue;
 
-// The message that an answer hands out waits last, if there is one.
-fn join_answer(queue: Queue, count: u32, message: Message) -> Queue
-    ensures { λ r. ⌜ r ≡ joinedIf count queue message ⌝ }
+// The message that a call handed out, if it handed out one: it waits last, and is counted.
+fn send(progress: Progress, count: u32, message: Message) -> Progress
+    requires { ⌜ progress .carried < 4294967295 ⌝ }
+    ensures { λ r. ⌜ r ≡ sent count progress message ⌝ }
 {
     if count == 0 {
-        return queue;
+        return progress;
     }
-    sending::join(queue, message)
+    let waiting = progress.waiting;
+    let mut next = progress;
+    next.waiting = sending::join(waiting, message);
+    next.carried = progress.carried + 1;
+    next
 }
 
-// A call was refused: all else is as it was.
+// A call was refused: its number is kept, and all else is as it was.
 fn stop(progress: Progress, refusal: u32) -> Progress
     ensures { λ r. ⌜ r ≡ refusedWith progress refusal ⌝ }
 {
-    let sites = progress.sites;
-    let coordinator = progress.coordinator;
-    let waiting = progress.waiting;
-    Progress {
-        sites: sites,
-        coordinator: coordinator,
-        waiting: waiting,
-        refusal: refusal,
-        left: progress.left,
-    }
+    let mut next = progress;
+    next.refusal = refusal;
+    next
 }
 
 // The record of one site. Internal: its callers test that there is such a site.
@@ -53,7 +49,7 @@ pub fn record_at(sites: Sites, which: usize) -> SiteRecord
     sites.records[which]
 }
 
-// The next kind 7 is asked for, and waits.
+// The next kind 7 is asked for.
 fn ask(settings: Settings, progress: Progress, coordinator_memory: &[u64]) -> Progress
     requires { ⌜ AskAsks progress ⌝ }
     ensures { λ r. ⌜ ((siteMemory : List ℕ) → StepSays settings siteMemory
@@ -65,15 +61,13 @@ fn ask(settings: Settings, progress: Progress, coordinator_memory: &[u64]) -> Pr
         return stop(progress, answer.refusal);
     }
     let after = answer.coordinator;
-    let out = answer.out;
-    let waiting = progress.waiting;
+    let announcement = answer.out;
     let mut next = progress;
     next.coordinator = after;
-    next.waiting = join_answer(waiting, answer.count, out);
-    next
+    send(next, answer.count, announcement)
 }
 
-// The message that waits first is handed to the coordinator; the answer waits last.
+// The message that waits first is handed to the coordinator.
 fn hand_to_coordinator(
     settings: Settings,
     progress: Progress,
@@ -94,11 +88,12 @@ fn hand_to_coordinator(
     let out = answer.out;
     let mut next = progress;
     next.coordinator = after;
-    next.waiting = join_answer(sending::take_head(waiting), answer.count, out);
-    next
+    next.waiting = sending::take_head(waiting);
+    send(next, answer.count, out)
 }
 
-// The message that waits first is handed to the site that it names; the reply waits last.
+// The message that waits first is handed to the site that it names, with that site's record and
+// the memory from the start of its part on.
 fn hand_to_site(settings: Settings, progress: Progress, site_memory: &[Word]) -> Progress
     requires { ⌜ SitesFit settings (now «site_memory») × HandAsks false progress ⌝ }
     ensures { λ r. ⌜ ((coordinatorMemory : List ℕ) → StepSays settings
@@ -119,14 +114,14 @@ fn hand_to_site(settings: Settings, progress: Progress, site_memory: &[Word]) ->
         return stop(progress, answer.refusal);
     }
     let after = answer.site;
-    let out = answer.reply;
+    let reply = answer.reply;
     let mut next = progress;
     next.sites = delivery::with_record(sites, which, after);
-    next.waiting = join_answer(sending::take_head(waiting), answer.count, out);
-    next
+    next.waiting = sending::take_head(waiting);
+    send(next, answer.count, reply)
 }
 
-// The call that is due. Internal: `deliver` alone calls it, where `call_due` says that one is.
+// The call that is due: while messages wait, the first of them; else the next kind 7.
 pub fn take_step(
     settings: Settings,
     progress: Progress,

@@ -5,22 +5,16 @@
 --   heldBefore, heldAfter         records and memory, as a history has them
 --   DeliveryExported ..           the promise
 use mathlib.Core.Path.{_≡_}
-use mathlib.Core.Bool.{Bool}
 use mathlib.Core.List.{List, [], _∷_}
 use Prim.Native.Nat.{ℕ, _≤_}
 use lib.ListN.{length}
 use Rattle.model.specs.declared.Arrival.{Arrival}
-use Rattle.model.specs.Choice.{if_then_else_}
 use Rattle.history.specs.State.{Held}
 use Rattle.public_delivery.specs.declared.DeliveryAnswer.{DeliveryAnswer}
 use Rattle.public_delivery.specs.Progress.{heldBy}
 use Rattle.public_delivery.specs.Delivery.{deliveryRefusal, DeliverySays}
 use Rattle.testing_numbers.specs.Numbers.{greatestNarrow, greatestHeld, settingsFrom, sitesFrom, sitesNumbers, coordinatorFrom, coordinatorNumbers}
 use Rattle.testing_numbers.specs.Openings.{Slice, Lent, lent, networkLent, Writes, Kept, Exported}
-
--- A truth value as a number.
-abbrev pub oneIf : Bool → ℕ
-oneIf truth = if truth then 1 else 0
 
 pub record DeliveryLends : Type 0 where
   pub sites : Lent
@@ -50,7 +44,7 @@ pub record DeliveryAsks (settings sites coordinator out : List ℕ) : Type 0 whe
   pub sites-long : 129 ≤ length sites
   pub coordinator-long : 10 ≤ length coordinator
   pub coordinator-held : greatestHeld coordinator ≤ greatestNarrow
-  pub out-long : 1 ≤ length out
+  pub out-long : 2 ≤ length out
 
 -- The records that the numbers stand for, and the memory as it is lent.
 abbrev pub heldBefore : DeliveryLends → Held
@@ -64,7 +58,7 @@ heldAfter lends done =
     heldBy (done .sites) (done .coordinator)
     (lends .siteMemory .after) (lends .coordinatorMemory .after)
 
--- The records go back to their numbers; whether the delivery came to rest goes to `out`.
+-- The records go back to their numbers; what was carried, and what stopped it, goes to `out`.
 pub record HandsDelivery (settings : List ℕ) (arrival : Arrival) (lends : DeliveryLends)
     (answer : ℕ) : Type 0 where
   pub refusal : answer ≡ deliveryRefusal (settingsFrom settings) (heldBefore lends) arrival
@@ -73,12 +67,12 @@ pub record HandsDelivery (settings : List ℕ) (arrival : Arrival) (lends : Deli
       (heldAfter lends done) done
   pub sites-are : Writes (sitesNumbers (done .sites)) (lends .sites)
   pub coordinator-is : Writes (coordinatorNumbers (done .coordinator)) (lends .coordinator)
-  pub out-is : Writes (oneIf (done .complete) ∷ []) (lends .out)
+  pub out-is : Writes (done .carried ∷ (done .stopped ∷ [])) (lends .out)
 
 abbrev pub DeliveryExported : List ℕ → Arrival → DeliveryLends → ℕ → Type 0
 DeliveryExported settings arrival lends answer =
     Exported
     (networkLent settings (lends .sites .before) (lends .coordinator .before)
-    (length (lends .out .before)) 1)
+    (length (lends .out .before)) 2)
     (HandsDelivery settings arrival lends answer)
     (Kept (allLent lends) answer)

@@ -1,8 +1,7 @@
 // An arrival with full delivery by the public calls.
-ghost use mathlib.Core.Path.{_≡_};
 ghost use Rattle.model.specs.Instances.{arrivalWith};
 ghost use Rattle.testing_numbers.specs.Openings.{given};
-ghost use Rattle.testing.specs.Delivery.{oneIf, deliveryLends, DeliveryAsks, HandsDelivery, DeliveryExported};
+ghost use Rattle.testing.specs.Delivery.{deliveryLends, DeliveryAsks, HandsDelivery, DeliveryExported};
 use model::Arrival;
 use testing_numbers::coordinator_numbers::coordinator_from;
 use testing_numbers::coordinator_numbers::write_coordinator;
@@ -11,16 +10,6 @@ use testing_numbers::numbers::sites_from;
 use testing_numbers::numbers::write_sites;
 use testing_numbers::openings::UNFIT;
 use testing_numbers::openings::network_lent;
-
-// A truth value as a number.
-fn one_if(truth: bool) -> u64
-    ensures { λ r. ⌜ r ≡ oneIf truth ⌝ }
-{
-    if truth {
-        return 1;
-    }
-    0
-}
 
 // The records are made from the numbers, and go back to them. Internal: `testing_deliver_arrival`
 // tests the lengths.
@@ -45,13 +34,14 @@ fn deliver_lent(
     let then = done.coordinator;
     write_sites(sites, records_then);
     write_coordinator(coordinator, then);
-    out[0] = one_if(done.complete);
+    out[0] = done.carried;
+    out[1] = done.stopped as u64;
     done.refusal
 }
 
 // `public_delivery::deliver_arrival`, with the sites' memory `words` and the coordinator's memory
-// `tables`: the records go back to `sites` and `coordinator`; `out` gets 1 where the delivery came
-// to rest, else 0.
+// `tables`: the records go back to `sites` and `coordinator`; `out` gets the count of messages that
+// went out, and the number of a call that stopped the delivery, or 0.
 #[no_mangle]
 pub extern "C" fn testing_deliver_arrival(
     settings: &[u32],
@@ -67,7 +57,7 @@ pub extern "C" fn testing_deliver_arrival(
     ensures { λ r. ⌜ DeliveryExported (given settings) (arrivalWith at item value)
         (deliveryLends sites coordinator words tables out) r ⌝ }
 {
-    if network_lent(settings, sites, coordinator, out.len(), 1) {
+    if network_lent(settings, sites, coordinator, out.len(), 2) {
         let arrival = Arrival {
             site: at,
             item: item,

@@ -20,8 +20,8 @@ extern "C" {
     ) -> u32;
 }
 
-/// What a delivery works on: all records and all lent memory, and `out`, which gets 1 where the
-/// delivery came to rest, else 0.
+/// What a delivery works on: all records and all lent memory, and `out`, which gets how many
+/// messages went out, and the number of a call that stopped the delivery, or 0.
 pub struct Delivery<'a> {
     pub sites: &'a mut [u64],
     pub coordinator: &'a mut [u64],

@@ -96,7 +96,7 @@ fn short_arrays_at_the_coordinator() {
 #[test]
 fn short_arrays_of_a_delivery() {
     let fresh_sites = [&[FRESH_SITE; 32].concat()[..], &[0]].concat();
-    for_short(&[6, 129, 10, 1], 0, |lengths| {
+    for_short(&[6, 129, 10, 2], 0, |lengths| {
         let mut sites = fresh_sites.clone();
         sites.truncate(lengths[1]);
         let mut coordinator = FRESH_COORDINATOR[..lengths[2]].to_vec();

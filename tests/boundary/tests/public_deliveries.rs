@@ -1,7 +1,8 @@
 //! Arrivals with full delivery by the public calls, on the proved code and on the separate
 //! implementation: after every arrival answers, records and memory are the same. In histories from
 //! a fresh start every delivery comes to rest, and the batch call leaves the same network and
-//! writes the same messages. Networks that never arose and damaged ones are tried as well.
+//! writes the same messages. Networks that never arose are tried as well, damaged ones, and such as
+//! are near the coordinator's limit, where alone a delivery stops on its way.
 
 mod both;
 mod forge;
@@ -10,6 +11,7 @@ mod support;
 
 use both::Both;
 use forge::networks::{damage_network, some_network};
+use reference::coordinator::MAX_NUMBER;
 use reference::message::{Arrival, Message};
 use reference::refusal::*;
 use support::streams::{Source, Stream, ALL};
@@ -45,7 +47,7 @@ impl Trial {
         let delivered = both.deliver_arrival(&mut self.singles, next);
         self.waiting.push(next);
         if delivered.refusal == ACCEPTED {
-            assert!(delivered.complete, "{next:?}");
+            assert_eq!(delivered.stopped, ACCEPTED, "{next:?}");
             assert_eq!(self.singles.refusal(), ACCEPTED, "{next:?}");
             self.accepted += 1;
             self.messages += delivered.messages.len();
@@ -125,8 +127,8 @@ fn histories_agree() {
     both.enough(40_000, &[UNKNOWN_SITE, UNKNOWN_ITEM, UNKNOWN_VALUE], 200);
 }
 
-/// Consistent networks that never arose, then damaged ones: a delivery may stop on the way, where
-/// a call is refused.
+/// Consistent networks that never arose, then damaged ones: whatever is inconsistent, coordinator
+/// and all, is met before anything changes.
 #[test]
 fn forged_networks_agree() {
     let mut random = Random::new(4_001);
@@ -143,15 +145,73 @@ fn forged_networks_agree() {
             let (site, item) = (random.below32(sites + 1), random.below32(universe));
             let delivered =
                 both.deliver_arrival(&mut network, arrival(site, item, random.below32(1025)));
-            if delivered.refusal == ACCEPTED {
-                complete += u64::from(delivered.complete);
-                stopped += u64::from(!delivered.complete);
-            }
+            complete += u64::from(delivered.refusal == ACCEPTED && delivered.stopped == ACCEPTED);
+            stopped += u64::from(delivered.stopped != ACCEPTED);
         }
     }
-    println!("{complete} deliveries came to rest, {stopped} did not");
-    assert!(complete > 2_000 && stopped > 200);
+    println!("{complete} deliveries came to rest, {stopped} were stopped");
+    assert!(complete > 2_000 && stopped > 0);
     let met = [SETTING_RANGE, TOO_FEW_COUNTERS, SHORT_MEMORY, UNKNOWN_SITE, SITE_FULL];
     both.enough(12_000, &met, 30);
     both.enough(12_000, &[INCONSISTENT, ACCEPTED, boundary::UNFIT as u8], 50);
+}
+
+/// A coordinator's memory too short by one number, or empty: 4, before the site changes.
+#[test]
+fn short_coordinator_memory_is_met_first() {
+    let mut both = Both::new();
+    for length in [0, 1, 1033] {
+        let mut network = TestNetwork::start([1, 1000, 1000, 500, 6, 10]);
+        network.coordinator_memory.truncate(length);
+        let delivered = both.deliver_arrival(&mut network, arrival(0, 7, 3));
+        assert_eq!((delivered.refusal, delivered.messages.len()), (SHORT_MEMORY, 0));
+    }
+}
+
+/// Settings A, fresh but for the estimate of item 7: with room for one more the arrival costs its
+/// five messages; at 100,000,000,000 kind 1 brings it above, and kind 2 meets 11; above it nothing
+/// is taken at all.
+#[test]
+fn an_estimate_at_the_limit() {
+    let mut both = Both::new();
+    let cases = [
+        (MAX_NUMBER - 1, ACCEPTED, ACCEPTED, 5),
+        (MAX_NUMBER, ACCEPTED, INCONSISTENT, 2),
+        (MAX_NUMBER + 1, INCONSISTENT, ACCEPTED, 0),
+    ];
+    for (estimate, refusal, stopped, carried) in cases {
+        let mut network = TestNetwork::start([1, 1000, 1000, 500, 6, 10]);
+        network.coordinator_memory[7] = estimate;
+        let delivered = both.deliver_arrival(&mut network, arrival(0, 7, 3));
+        assert_eq!((delivered.refusal, delivered.stopped), (refusal, stopped));
+        assert_eq!(delivered.messages.len(), carried);
+    }
+}
+
+/// Consistent networks whose estimates are about as near to the limit as the threshold is large: a
+/// delivery stops at kind 2, or kind 1 goes out alone and it comes to rest above the limit.
+#[test]
+fn estimates_near_the_limit_agree() {
+    let mut random = Random::new(4_002);
+    let mut both = Both::new();
+    let (mut rested, mut stopped, mut above) = (0, 0, 0);
+    for _ in 0..4_000 {
+        let mut network = some_network(&mut random);
+        let (sites, universe) = (network.settings.sites, network.settings.universe);
+        let threshold = network.coordinator.threshold;
+        let item = random.below32(universe);
+        let room = random.pick(&[0, threshold - 1, threshold, threshold + 1]);
+        network.coordinator_memory[item as usize] = MAX_NUMBER - room;
+        let site = random.below32(sites);
+        let next = arrival(site, item, random.below32(1024));
+        let delivered = both.deliver_arrival(&mut network, next);
+        if delivered.refusal == ACCEPTED {
+            rested += u64::from(delivered.stopped == ACCEPTED);
+            stopped += u64::from(delivered.stopped == INCONSISTENT);
+            let estimate = network.coordinator_memory[item as usize];
+            above += u64::from(delivered.stopped == ACCEPTED && estimate > MAX_NUMBER);
+        }
+    }
+    println!("{rested} came to rest, {above} of them above the limit; {stopped} were stopped");
+    assert!(rested > 500 && stopped > 100 && above > 10);
 }

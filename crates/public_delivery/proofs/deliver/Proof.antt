@@ -39,6 +39,13 @@ take-step-requires c κs =
       looped .before .before .before .pre .fits,
       record {
         not-refused = due .not-refused;
+        few-carried =
+            omega (
+              arith,
+              looped .before .before .before .pre .few-carried,
+              looped .loop .inv .few-carried,
+              positive (looped .loop .progress .left) (due .some-left),
+            );
         few = looped .loop .inv .few;
         announces = due .announces;
       },

@@ -6,32 +6,31 @@ use std::collections::VecDeque;
 use boundary::{Delivery, UNFIT};
 use reference::coordinator::Phase;
 use reference::message::{Arrival, Message};
-use reference::refusal::{ACCEPTED, SHORT_MEMORY};
-use reference::settings::settings_refusal;
+use reference::refusal::{ACCEPTED, UNKNOWN_SITE};
 use reference::site;
 
 use super::batch::{numbers_of, Records};
 use super::{fits, Both, JUNK};
 use crate::support::TestNetwork;
 
-/// Why the arrival was refused, if it was; whether its delivery came to rest; and its messages, in
-/// the order of going out.
+/// Why the arrival was refused, if it was; the number of a call that stopped its delivery, if one
+/// did; and the messages that went out, in order.
 pub struct Delivered {
     pub refusal: u8,
-    pub complete: bool,
+    pub stopped: u8,
     pub messages: Vec<Message>,
 }
 
 impl Delivered {
     fn refused(refusal: u8) -> Delivered {
-        Delivered { refusal, complete: false, messages: Vec::new() }
+        Delivered { refusal, stopped: ACCEPTED, messages: Vec::new() }
     }
 }
 
 impl Both {
     /// Records, both memories and the answer are the same on both sides; a refused arrival changes
-    /// nothing. The proved call hands out no messages: those of the separate implementation are
-    /// answered.
+    /// nothing. The proved call hands out how many messages went out: those of the separate
+    /// implementation are answered.
     pub fn deliver_arrival(&mut self, network: &mut TestNetwork, next: Arrival) -> Delivered {
         let before = network.clone();
         let mut proved = network.clone();
@@ -43,18 +42,22 @@ impl Both {
         };
         self.count(number, delivered.refusal, "deliver_arrival");
         let call = || format!("deliver_arrival {:?} {next:?}", before.settings);
-        let complete = if number == UNFIT { JUNK } else { u64::from(delivered.complete) };
-        assert_eq!(out, [complete, JUNK], "{}", call());
+        let (carried, stopped) = if number == UNFIT {
+            (JUNK, JUNK)
+        } else {
+            (delivered.messages.len() as u64, u64::from(delivered.stopped))
+        };
+        assert_eq!(out, [carried, stopped, JUNK], "{}", call());
         assert!(proved == *network, "{}", call());
         assert!(delivered.refusal == ACCEPTED || *network == before, "{}", call());
         delivered
     }
 }
 
-/// The call on the proved code: its refusal, and what it left in two numbers.
-fn proved_delivery(network: &mut TestNetwork, next: Arrival) -> (u32, [u64; 2]) {
+/// The call on the proved code: its refusal, and what it left in three numbers.
+fn proved_delivery(network: &mut TestNetwork, next: Arrival) -> (u32, [u64; 3]) {
     let mut records = Records::of(network);
-    let mut out = [JUNK; 2];
+    let mut out = [JUNK; 3];
     let delivery = Delivery {
         sites: &mut records.sites,
         coordinator: &mut records.coordinator,
@@ -69,20 +72,20 @@ fn proved_delivery(network: &mut TestNetwork, next: Arrival) -> (u32, [u64; 2]) 
     (answer, out)
 }
 
-/// The arrival at its site, then call by call until none is due or one is refused. Settings and the
-/// memory of all sites are tested first; site 0 is shown an arrival that no site has.
+/// The whole network is tested first, as the batch call tests it; then the arrival goes to its site,
+/// and then call by call, until none is due or one is refused.
 fn by_single_calls(network: &mut TestNetwork, next: Arrival) -> Delivered {
     let settings = network.settings;
-    let refusal = settings_refusal(&settings);
+    let refusal = network.refusal();
     if refusal != ACCEPTED {
         return Delivered::refused(refusal);
     }
-    if network.site_memory.len() < settings.sites_memory_len() {
-        return Delivered::refused(SHORT_MEMORY);
+    if next.site >= settings.sites {
+        return Delivered::refused(UNKNOWN_SITE);
     }
-    let asked = if next.site < settings.sites { next.site as usize } else { 0 };
-    let memory = &mut network.site_memory[settings.site_memory_len() * asked..];
-    let outgoing = site::observe(&settings, next, &mut network.sites.records[asked], memory);
+    let site = next.site as usize;
+    let memory = &mut network.site_memory[settings.site_memory_len() * site..];
+    let outgoing = site::observe(&settings, next, &mut network.sites.records[site], memory);
     if outgoing.refusal != ACCEPTED {
         return Delivered::refused(outgoing.refusal);
     }
@@ -95,14 +98,14 @@ fn by_single_calls(network: &mut TestNetwork, next: Arrival) -> Delivered {
             None => break,
         };
         if refusal != ACCEPTED {
-            break;
+            return Delivered { refusal: ACCEPTED, stopped: refusal, messages };
         }
         waiting.pop_front();
         messages.extend(&sent);
         waiting.extend(sent);
     }
-    let complete = waiting.is_empty() && network.coordinator.phase == Phase::Idle;
-    Delivered { refusal: ACCEPTED, complete, messages }
+    assert_eq!(network.coordinator.phase, Phase::Idle);
+    Delivered { refusal: ACCEPTED, stopped: ACCEPTED, messages }
 }
 
 fn is_announcing(network: &TestNetwork) -> bool {

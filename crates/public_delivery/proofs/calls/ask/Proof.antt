@@ -1,14 +1,8 @@
 -- `public_delivery::ask` meets its contract: by whether the coordinator accepts.
-use Rattle.public_delivery.proofs.StepLaws.{ask-goes, ask-stops}
+use Rattle.public_delivery.proofs.CoordinatorStepLaws.{ask-goes, ask-stops}
 use borrow.Author.Needs.{needs}
 use Rattle.public_delivery.proofs.calls.ask.Statement.{statement}
 use Rattle.public_delivery.proofs.calls.ask.Tie as tie
-
-next-announcement-requires : tie.Need-next-announcement-requires
-next-announcement-requires c κs = search needs
-
-stop-requires : tie.Need-stop-requires
-stop-requires c κs = search needs
 
 returns : tie.Need-returns
 returns c =
@@ -18,17 +12,22 @@ returns c =
     rw (c .stop .ensures)
     (ask-stops (start .pre) (answer .result) (answer .ensures) (c .before .if1 .taken) siteMemory)
 
-join-answer-requires : tie.Need-join-answer-requires
-join-answer-requires c κs = search needs
+send-requires : tie.Need-send-requires
+send-requires c κs =
+    let start = c .before .before .before .before .before .before .before in
+    start .pre .few-carried
 
 returns-2 : tie.Need-returns-2
 returns-2 c =
-    let start = c .before .before .before .before .before .before .before .before .before in
-    let answer = c .before .before .before .before .before .before .next-announcement in
-    ask-goes (start .pre) (answer .result) (answer .ensures) (c .join-answer .result)
-    (c .join-answer .ensures) (c .before .before .before .before .if1 .left)
+    let accepts = c .before .before .before in
+    let announced = accepts .before .before in
+    let start = announced .before .before .before in
+    let answer = announced .next-announcement in
+    λ siteMemory.
+    ask-goes (start .pre) (answer .result) (answer .ensures) (accepts .if1 .left) siteMemory
+    (c .send .result) (c .send .ensures)
 
 pub ask-spec : {M : Type 1} → statement M
 ask-spec =
     tie.close
-    (tie.spec next-announcement-requires stop-requires returns join-answer-requires returns-2)
+    (tie.spec (λ c κs. search needs) (λ c κs. search needs) returns send-requires returns-2)

@@ -1,11 +1,8 @@
 -- `public_delivery::hand_to_site` meets its contract: no site has the number, or by whether the
 -- site accepts.
-use mathlib.Core.Path.{ap, _∙_}
 use native.Mathlib.Omega.{arith}
 use denote.Ref.{now}
-use Rattle.sending.specs.declared.Queue.{Queue}
 use Rattle.network_tests.proofs.PartLaws.{site-few, PartStarts, starts-at}
-use Rattle.public_delivery.specs.Progress.{joinedIf}
 use Rattle.public_delivery.proofs.SiteStepLaws.{site-unknown, site-stops, site-goes}
 use borrow.Author.Needs.{needs}
 use Rattle.public_delivery.proofs.calls.hand_to_site.Statement.{statement}
@@ -68,6 +65,13 @@ with-record-requires c κs =
     let start = known .before .before .before .before .before .before .before in
     site-few (start .pre .0) (start .args .progress .waiting .first .site) (known .if1 .left)
 
+send-requires : tie.Need-send-requires
+send-requires c κs =
+    let known = c .before .before .before .before .before .before .before .before .before .before
+    .before in
+    let start = known .before .before .before .before .before .before .before in
+    start .pre .1 .few-carried
+
 returns-3 : tie.Need-returns-3
 returns-3 c =
     let accepts = c .before .before .before .before .before in
@@ -80,13 +84,12 @@ returns-3 c =
     let words = sized .site-words in
     let answer = received .receive in
     let changed = c .before .before .with-record in
+    let headless = c .before .take-head in
+    λ memory.
     site-goes (start .pre .0) (start .pre .1) (known .if1 .left) (numbers .result)
     (words .result) (numbers .ensures) (words .ensures) (answer .result) (answer .ensures)
-    (changed .result) (c .join-answer .result) (changed .ensures)
-    (c .join-answer .ensures
-    ∙ ap (λ (q : Queue). joinedIf (answer .result .count) q (answer .result .reply))
-    (c .before .take-head .ensures))
-    (accepts .if2 .left)
+    (accepts .if2 .left) memory (changed .result) (headless .result) (c .send .result)
+    (changed .ensures) (headless .ensures) (c .send .ensures)
 
 pub hand-to-site-spec : {M : Type 1} → statement M
 hand-to-site-spec =
@@ -104,5 +107,6 @@ hand-to-site-spec =
     (λ c κs. search needs) (λ c κs. search needs)
     returns-2
     with-record-requires
-    (λ c κs. search needs) (λ c κs. search needs)
+    (λ c κs. search needs)
+    send-requires
     returns-3)

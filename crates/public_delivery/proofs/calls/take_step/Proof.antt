@@ -12,6 +12,7 @@ ask-requires c κs =
     let none = c .before .if1 .taken in
     record {
       not-refused = asks .not-refused;
+      few-carried = asks .few-carried;
       nothing-waits = none;
       announces = asks .announces none;
     }
@@ -32,6 +33,7 @@ hand-to-coordinator-requires c κs =
     let asks = c .before .before .before .before .before .before .before .before .before .pre .1 in
     record {
       not-refused = asks .not-refused;
+      few-carried = asks .few-carried;
       some = c .before .before .before .before .if1 .left;
       few = asks .few;
       way-is = sym (c .before .before .to-coordinator .ensures) ∙ c .before .if2 .taken;
@@ -54,6 +56,7 @@ hand-to-site-requires c κs =
       start .pre .0,
       record {
         not-refused = asks .not-refused;
+        few-carried = asks .few-carried;
         some = c .before .before .before .if1 .left;
         few = asks .few;
         way-is = sym (c .before .to-coordinator .ensures) ∙ c .if2 .left;

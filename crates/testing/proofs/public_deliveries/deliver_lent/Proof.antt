@@ -1,8 +1,7 @@
 -- The records of the numbers, the public delivery, and the numbers of the records.
-use Prim.Native.Nat.{ℕ}
-use mathlib.Core.Path.{ap, _∙_}
 use mathlib.Core.List.{[], _∷_}
-use Rattle.model.specs.SiteMemory.{overwrite}
+use native.Mathlib.Omega.{arith}
+use lib.ListN.{length-set}
 use Rattle.testing_numbers.proofs.Writing.{written}
 use Rattle.testing.proofs.Delivering.{says-of-numbers}
 use borrow.Author.Needs.{needs}
@@ -25,12 +24,24 @@ write-coordinator-requires c κs =
 
 slice-write-out : tie.Need-slice-write-out
 slice-write-out c =
+    let at-write-sites = c .before .before .before .before .before .before in
+    let at-deliver =
+    at-write-sites .before .before .before .before
+    .before .before .before .before in
+    let at-settings-from = at-deliver .before .before .before .before .before .before .before in
+    let start = at-settings-from .before .before .before .before .before .before .before in
+    omega (arith, start .pre .out-long)
+
+slice-write-out-2 : tie.Need-slice-write-out-2
+slice-write-out-2 c =
     let at-write-sites = c .before .before .before .before .before .before .before in
     let at-deliver =
     at-write-sites .before .before .before .before
     .before .before .before .before in
     let at-settings-from = at-deliver .before .before .before .before .before .before .before in
-    at-settings-from .before .before .before .before .before .before .before .pre .out-long
+    let start = at-settings-from .before .before .before .before .before .before .before in
+    let carried = at-deliver .deliver-arrival .result .carried in
+    omega (arith, start .pre .out-long, length-set (start .args .out .now) 0 carried)
 
 returns : tie.Need-returns
 returns c =
@@ -50,15 +61,14 @@ returns c =
     (at-sites-from .sites-from .ensures)
     (at-coordinator-from .coordinator-from .ensures)
     (at-deliver .deliver-arrival .ensures) in
+    let done = at-deliver .deliver-arrival .result in
     record {
       refusal = says .refusal;
-      done = at-deliver .deliver-arrival .result;
+      done = done;
       says = says;
       sites-are = at-write-sites .write-sites .ensures;
       coordinator-is = at-write-coordinator .write-coordinator .ensures;
-      out-is =
-          written (c .one-if .result ∷ []) (a .out .now) (start .pre .out-long)
-          ∙ ap (λ (n : ℕ). overwrite (n ∷ []) (a .out .now)) (c .one-if .ensures);
+      out-is = written (done .carried ∷ (done .stopped ∷ [])) (a .out .now) (start .pre .out-long);
     }
 
 pub deliver-lent-spec : {M : Type 1} → statement M
@@ -69,8 +79,9 @@ deliver-lent-spec =
     (λ c κs. search needs)
     write-sites-requires
     write-coordinator-requires
-    (λ c κs. search needs)
     slice-write-out
+    (λ c. search needs)
+    slice-write-out-2
     (λ c. search needs) (λ c. search needs) (λ c. search needs) (λ c. search needs)
     (λ c. search needs)
     returns)

@@ -15,7 +15,7 @@ deliver-lent-requires c κs =
     at-network-lent .before .before .before .before .before
     .before .before .before .before .args in
     let room =
-    network-is (a .settings .now) (a .sites .now) (a .coordinator .now) (length (a .out .now)) 1
+    network-is (a .settings .now) (a .sites .now) (a .coordinator .now) (length (a .out .now)) 2
     fit in
     record {
       settings-long = room .lends .lends .settings-long;

@@ -2,8 +2,8 @@
 use native.Mathlib.Omega.{arith}
 use Rattle.public_delivery.proofs.QueueLaws.{queue-two}
 use borrow.Author.Needs.{needs}
-use Rattle.public_delivery.proofs.queue_of.Statement.{statement}
-use Rattle.public_delivery.proofs.queue_of.Tie as tie
+use Rattle.public_delivery.proofs.arrivals.queue_of.Statement.{statement}
+use Rattle.public_delivery.proofs.arrivals.queue_of.Tie as tie
 
 returns : tie.Need-returns
 returns c = search needs

@@ -1,5 +1,5 @@
 -- In mid-delivery every number is small enough for the steps: what the steps of the sites and of
--- the coordinator require, from the stage that the delivery is at. PROOF.md section 7.
+-- the coordinator require, from the stage that the delivery is at. PROOF.md section 8.
 --
 --   total-small, sum-small, arrivals-small    at most k * 10^9 each
 --   site-ready                                a sound site as the steps on it ask for it

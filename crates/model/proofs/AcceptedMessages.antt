@@ -1,5 +1,5 @@
 -- Messages that are due and carry the right amount are accepted: refusals 5, 9, 6, 7 and 10 row by
--- row, one law for each kind. PROOF.md section 7, "Never 9 or 10 in a full delivery".
+-- row, one law for each kind. PROOF.md section 8.
 --
 --   itemReport-accepted, countReport-accepted    kinds 1 and 2 at an idle coordinator
 --   pollAnswer-accepted, probeAnswer-accepted    kinds 4 and 6 from the site that the phase names

@@ -1,5 +1,5 @@
 -- The coordinator's numbers stay sound whichever message it takes, for a coordinator of any
--- content. PROOF.md section 7, "phase by phase".
+-- content. PROOF.md section 8.
 --
 --   numbers-fresh, numbers-phase, numbers-rest     a fresh one; another phase; at rest again
 --   numbers-item, numbers-count                    kinds 1 and 2

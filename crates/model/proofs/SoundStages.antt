@@ -1,5 +1,5 @@
 -- From rest into a delivery and back: a sound network with an accepted arrival is at the first
--- stage, and a stage with nothing left to do is a sound network. PROOF.md section 7.
+-- stage, and a stage with nothing left to do is a sound network. PROOF.md section 8.
 --
 --   together-of-sound, sound-of-together   a sound network as `Together`
 --   start-stage                            the stage that an arrival begins

@@ -1,6 +1,6 @@
 -- Every sound network stays sound, and its deliveries may be done by any caller: the claims of
 -- specs/SoundClaims.antt. Each step of a delivery keeps a stage from which it finishes as the
--- model's does; where it ends, the network is sound again. PROOF.md section 7.
+-- model's does; where it ends, the network is sound again. PROOF.md section 8.
 use mathlib.Core.Path.{_≡_, refl, sym, ap, _∙_, subst}
 use mathlib.Core.Bool.{Bool, true, false}
 use mathlib.Core.List.{List, [], _∷_}

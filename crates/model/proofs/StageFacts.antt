@@ -1,5 +1,5 @@
 -- What holds at every stage of a delivery: each site and the coordinator are sound by themselves,
--- and neither the total nor the sum of a halving passes the limit 10^11. PROOF.md section 7.
+-- and neither the total nor the sum of a halving passes the limit 10^11. PROOF.md section 8.
 --
 --   stage-sites, stage-coordinator   each by itself
 --   stage-total, stage-sum           within the limit

@@ -72,8 +72,8 @@ fn proved_delivery(network: &mut TestNetwork, next: Arrival) -> (u32, [u64; 3]) 
     (answer, out)
 }
 
-/// The whole network is tested first, as the batch call tests it; then the arrival goes to its site,
-/// and then call by call, until none is due or one is refused.
+/// The whole network is tested first, as the batch call tests it; then the arrival goes to its
+/// site, and then call by call, until none is due or one is refused.
 fn by_single_calls(network: &mut TestNetwork, next: Arrival) -> Delivered {
     let settings = network.settings;
     let refusal = network.refusal();

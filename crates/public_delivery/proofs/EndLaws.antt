@@ -19,9 +19,10 @@ use Rattle.model.specs.declared.Arrival.{Arrival}
 use Rattle.model.specs.declared.Message.{Message}
 use Rattle.model.specs.Choice.{isZero}
 use Rattle.model.specs.Refusals.{accepted}
+use Rattle.model.specs.Limits.{mostSteps}
 use Rattle.model.specs.Settings.{settingsRefusal}
 use Rattle.model.specs.Coordinator.{isAnnouncing}
-use Rattle.model.specs.Network.{Network, deliveryFuel}
+use Rattle.model.specs.Network.{Network}
 use Rattle.coordinator.specs.Calls as CoordinatorCalls
 use Rattle.history.specs.State.{Held, State, networkOf}
 use Rattle.history.specs.Histories.{Deliveries}
@@ -130,7 +131,7 @@ module _ {settings : Settings} (passes : settingsRefusal settings ≡ accepted)
   -- A delivery has fewer calls than are allowed, so none is due for another reason.
   quiet-end : ended .refusal ≡ accepted → Quiet (came .after)
   quiet-end not-refused =
-      let few : came .taken ≤ deliveryFuel settings = in-mid passes there .few-steps in
+      let few : came .taken ≤ mostSteps (settings .sites) = in-mid passes there .firm-steps in
       let some-left : ended .left ≡ 0 → ⊥ =
       λ none. omega (arith, few, came .counted not-refused, allowed, none) in
       let may : mayGoOn ended ≡ true =

@@ -12,8 +12,8 @@ use Rattle.model.specs.declared.Arrival.{Arrival}
 use Rattle.model.specs.declared.Sites.{Sites}
 use Rattle.model.specs.declared.CoordinatorRecord.{CoordinatorRecord}
 use Rattle.model.specs.Refusals.{accepted}
+use Rattle.model.specs.Limits.{mostSteps}
 use Rattle.model.specs.SiteMemory.{siteWords}
-use Rattle.model.specs.Network.{deliveryFuel}
 use Rattle.network_tests.specs.Contracts.{SitesFit}
 use Rattle.site_steps.specs.declared.Observed.{Observed}
 use Rattle.site.specs.Calls.{ObserveSays, observeRefusal}
@@ -27,9 +27,9 @@ abbrev pub restFrom : Settings → List ℕ → ℕ → List ℕ
 restFrom settings memory which =
     take (length memory - which * siteWords settings) (drop (which * siteWords settings) memory)
 
--- The model's fuel is enough for every delivery; the code's loop ends by itself before it.
+-- No delivery has more steps than the model's claim says, so one call more is never needed.
 abbrev pub mostCalls : Settings → ℕ
-mostCalls settings = deliveryFuel settings + 1
+mostCalls settings = mostSteps (settings .sites) + 1
 
 -- The call on the site is accepted, and the progress stands for the state after it.
 pub record Begun

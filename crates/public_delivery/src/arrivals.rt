@@ -13,12 +13,13 @@ use model::Settings;
 use model::Sites;
 use sending::Queue;
 
-// The model's bound on the calls of one delivery, and one more: 50 for each site, and 11. The loop
-// ends by itself long before; it counts down from here only so that it plainly ends.
-const CALLS_EACH_SITE: u64 = 50;
+// No delivery has more than 24 calls for each site and 2 beside; here is one more. The loop ends by
+// itself before them: it counts down from here only so that it plainly ends.
+const CALLS_EACH_SITE: u64 = 24;
 
-const CALLS_BESIDE: u64 = 11;
+const CALLS_BESIDE: u64 = 3;
 
+// How many calls a delivery may take.
 fn most_calls(settings: Settings) -> u64
     ensures { λ r. ⌜ r ≡ mostCalls settings ⌝ }
 {

@@ -4,6 +4,7 @@
 --   recordIn sites which           a site's record; a fresh one past the array's end
 --   queued queue                   the messages that wait, in order; never more than two
 --   QueueSays                      the messages of an arrival's answer wait
+--   carriedLimit                   what the count of messages stays below
 --   sent count progress m          a message waits last and is counted, if the count is not 0
 --   refusedWith progress refusal   the progress with the refusal of a call
 --   isDue                          whether the next call is due
@@ -48,6 +49,10 @@ queued queue = take (queue .count) (queue .first ∷ (queue .second ∷ []))
 pub record QueueSays (count : ℕ) (first second : Message) (queue : Queue) : Type 0 where
   pub messages : queued queue ≡ take count (first ∷ (second ∷ []))
   pub few : queue .count ≤ 2
+
+-- More messages than any delivery carries, by far; so the count of them fits its number.
+abbrev pub carriedLimit : ℕ
+carriedLimit = 4294967295
 
 -- A message went out: it waits last, and is one more that was carried.
 abbrev pub sent : ℕ → Progress → Message → Progress

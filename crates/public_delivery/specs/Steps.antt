@@ -24,7 +24,7 @@ use Rattle.coordinator.specs.Calls as CoordinatorCalls
 use Rattle.history.specs.State.{State, recordAt, sitePart}
 use Rattle.history.specs.Histories.{Delivers, Deliveries}
 use Rattle.public_delivery.specs.declared.Progress.{Progress}
-use Rattle.public_delivery.specs.Progress.{isDue, Stands}
+use Rattle.public_delivery.specs.Progress.{carriedLimit, isDue, Stands}
 
 -- ---- One call
 
@@ -73,14 +73,14 @@ pub data Stepped
 -- Nothing waits, and the coordinator announces.
 pub record AskAsks (progress : Progress) : Type 0 where
   pub not-refused : progress .refusal ≡ accepted
-  pub few-carried : progress .carried < 4294967295
+  pub few-carried : progress .carried < carriedLimit
   pub nothing-waits : progress .waiting .count ≡ 0
   pub announces : isAnnouncing (progress .coordinator .phase) ≡ true
 
 -- A message waits, and it is for the coordinator, or for a site.
 pub record HandAsks (way : Bool) (progress : Progress) : Type 0 where
   pub not-refused : progress .refusal ≡ accepted
-  pub few-carried : progress .carried < 4294967295
+  pub few-carried : progress .carried < carriedLimit
   pub some : progress .waiting .count ≡ 0 → ⊥
   pub few : progress .waiting .count ≤ 2
   pub way-is : toCoordinator (progress .waiting .first) ≡ way
@@ -88,7 +88,7 @@ pub record HandAsks (way : Bool) (progress : Progress) : Type 0 where
 -- One of them.
 pub record DueAsks (progress : Progress) : Type 0 where
   pub not-refused : progress .refusal ≡ accepted
-  pub few-carried : progress .carried < 4294967295
+  pub few-carried : progress .carried < carriedLimit
   pub few : progress .waiting .count ≤ 2
   pub announces : progress .waiting .count ≡ 0
       → isAnnouncing (progress .coordinator .phase) ≡ true
@@ -125,7 +125,7 @@ pub record DeliverAsks (settings : Settings) (siteMemory : List ℕ) (begun : Pr
   where
     pub fits : SitesFit settings siteMemory
     pub few : begun .waiting .count ≤ 2
-    pub few-carried : begun .carried + begun .left ≤ 4294967295
+    pub few-carried : begun .carried + begun .left ≤ carriedLimit
     pub not-refused : begun .refusal ≡ accepted
 
 -- From every state that the progress stands for; and then no call is due.

@@ -6,7 +6,7 @@ ghost use mathlib.Core.Bool.{true, false};
 ghost use mathlib.Core.List.{List};
 ghost use Prim.Native.Nat.{ℕ, _<_};
 ghost use Rattle.network_tests.specs.Contracts.{SitesFit};
-ghost use Rattle.public_delivery.specs.Progress.{sent, refusedWith, recordIn};
+ghost use Rattle.public_delivery.specs.Progress.{carriedLimit, sent, refusedWith, recordIn};
 ghost use Rattle.public_delivery.specs.Steps.{AskAsks, HandAsks, DueAsks, StepSays};
 use crate::Progress;
 use counters::Word;
@@ -19,7 +19,7 @@ use model::UNKNOWN_SITE;
 
 // The message that a call handed out, if it handed out one: it waits last, and is counted.
 fn send(progress: Progress, count: u32, message: Message) -> Progress
-    requires { ⌜ progress .carried < 4294967295 ⌝ }
+    requires { ⌜ progress .carried < carriedLimit ⌝ }
     ensures { λ r. ⌜ r ≡ sent count progress message ⌝ }
 {
     if count == 0 {

@@ -38,6 +38,67 @@ pub struct DeliveryAnswer {
     pub coordinator: CoordinatorRecord,
 }
 
+// One arrival with full delivery. Refused, it changes nothing: 1, 2, 3; then 4 and 11 of the whole
+// network, coordinator and all; then 5, 6, 7, 8. Accepted at records and memory that a history left
+// at rest, it leaves them at rest, one arrival later.
+pub fn deliver_arrival(
+    settings: Settings,
+    sites: Sites,
+    coordinator: CoordinatorRecord,
+    arrival: Arrival,
+    site_memory: &mut [Word],
+    coordinator_memory: &mut [u64],
+) -> DeliveryAnswer
+    ensures { λ r. ⌜ DeliverySays settings arrival (heldBy sites coordinator
+        (now («site_memory» .entry)) (now («coordinator_memory» .entry)))
+        (heldBy (r .sites) (r .coordinator) (now («site_memory» .exit))
+        (now («coordinator_memory» .exit))) r ⌝ }
+{
+    // 1, 2, 3; then 4 and 11: what is short or inconsistent is met before anything changes.
+    let refusal = network_refusal(
+        settings,
+        sites,
+        coordinator,
+        site_memory,
+        coordinator_memory,
+    );
+    if refusal != ACCEPTED {
+        return refuse(refusal, sites, coordinator);
+    }
+    // 5, since the site's record and memory are looked up by its number; then 6, 7, 8.
+    if settings.sites <= arrival.site {
+        return refuse(UNKNOWN_SITE, sites, coordinator);
+    }
+    let begun = begin(settings, sites, coordinator, arrival, site_memory);
+    if begun.refusal != ACCEPTED {
+        return refuse(begun.refusal, sites, coordinator);
+    }
+    // Every message handed over, answers included, and kind 7 asked for until all is at rest.
+    let ended = deliver(settings, begun, site_memory, coordinator_memory);
+    let sites_then = ended.sites;
+    let coordinator_then = ended.coordinator;
+    DeliveryAnswer {
+        refusal: ACCEPTED,
+        carried: ended.carried,
+        stopped: ended.refusal,
+        sites: sites_then,
+        coordinator: coordinator_then,
+    }
+}
+
+// The arrival is refused: nothing went out, and the records are as they were.
+fn refuse(refusal: u32, sites: Sites, coordinator: CoordinatorRecord) -> DeliveryAnswer
+    ensures { λ r. ⌜ r ≡ refusedBy refusal sites coordinator ⌝ }
+{
+    DeliveryAnswer {
+        refusal: refusal,
+        carried: 0,
+        stopped: ACCEPTED,
+        sites: sites,
+        coordinator: coordinator,
+    }
+}
+
 // A delivery in progress: both records, the messages that wait, how many went out so far, the
 // refusal of the last call, and how many calls may still be made.
 pub struct Progress {
@@ -47,37 +108,6 @@ pub struct Progress {
     pub carried: u64,
     pub refusal: u32,
     pub left: u64,
-}
-
-// Whether kind 7 is still to go out.
-fn is_announcing(phase: Phase) -> bool
-    ensures { λ r. ⌜ r ≡ isAnnouncing phase ⌝ }
-{
-    match phase {
-        Phase::Idle => false,
-        Phase::Collecting(_) => false,
-        Phase::Probing(_, _, _, _) => false,
-        Phase::Announcing(_) => true,
-    }
-}
-
-// Whether a call is due, and may be made: a message waits, or the coordinator announces.
-fn call_due(progress: Progress) -> bool
-    ensures { λ r. ⌜ r ≡ isDue progress ⌝ }
-{
-    if progress.refusal != ACCEPTED {
-        return false;
-    }
-    if progress.left == 0 {
-        return false;
-    }
-    let waiting = progress.waiting;
-    if waiting.count != 0 {
-        return true;
-    }
-    let coordinator = progress.coordinator;
-    let phase = coordinator.phase;
-    is_announcing(phase)
 }
 
 // Call by call, until none is due.
@@ -99,60 +129,33 @@ fn deliver(
     progress
 }
 
-// The arrival is refused: nothing went out, and the records are as they were.
-fn refuse(refusal: u32, sites: Sites, coordinator: CoordinatorRecord) -> DeliveryAnswer
-    ensures { λ r. ⌜ r ≡ refusedBy refusal sites coordinator ⌝ }
+// Whether a call is due, and may be made: a message waits, or the coordinator announces.
+fn call_due(progress: Progress) -> bool
+    ensures { λ r. ⌜ r ≡ isDue progress ⌝ }
 {
-    DeliveryAnswer {
-        refusal: refusal,
-        carried: 0,
-        stopped: ACCEPTED,
-        sites: sites,
-        coordinator: coordinator,
+    if progress.refusal != ACCEPTED {
+        return false;
     }
+    if progress.left == 0 {
+        return false;
+    }
+    let waiting = progress.waiting;
+    if waiting.count != 0 {
+        return true;
+    }
+    let coordinator = progress.coordinator;
+    let phase = coordinator.phase;
+    is_announcing(phase)
 }
 
-// One arrival with full delivery. Refused, it changes nothing: 1, 2, 3; then 4 and 11 of the whole
-// network, coordinator and all; then 5, 6, 7, 8. Accepted at records and memory that a history left
-// at rest, it leaves them at rest, one arrival later.
-pub fn deliver_arrival(
-    settings: Settings,
-    sites: Sites,
-    coordinator: CoordinatorRecord,
-    arrival: Arrival,
-    site_memory: &mut [Word],
-    coordinator_memory: &mut [u64],
-) -> DeliveryAnswer
-    ensures { λ r. ⌜ DeliverySays settings arrival (heldBy sites coordinator
-        (now («site_memory» .entry)) (now («coordinator_memory» .entry)))
-        (heldBy (r .sites) (r .coordinator) (now («site_memory» .exit))
-        (now («coordinator_memory» .exit))) r ⌝ }
+// Whether kind 7 is still to go out.
+fn is_announcing(phase: Phase) -> bool
+    ensures { λ r. ⌜ r ≡ isAnnouncing phase ⌝ }
 {
-    let refusal = network_refusal(
-        settings,
-        sites,
-        coordinator,
-        site_memory,
-        coordinator_memory,
-    );
-    if refusal != ACCEPTED {
-        return refuse(refusal, sites, coordinator);
-    }
-    if settings.sites <= arrival.site {
-        return refuse(UNKNOWN_SITE, sites, coordinator);
-    }
-    let begun = begin(settings, sites, coordinator, arrival, site_memory);
-    if begun.refusal != ACCEPTED {
-        return refuse(begun.refusal, sites, coordinator);
-    }
-    let ended = deliver(settings, begun, site_memory, coordinator_memory);
-    let sites_then = ended.sites;
-    let coordinator_then = ended.coordinator;
-    DeliveryAnswer {
-        refusal: ACCEPTED,
-        carried: ended.carried,
-        stopped: ended.refusal,
-        sites: sites_then,
-        coordinator: coordinator_then,
+    match phase {
+        Phase::Idle => false,
+        Phase::Collecting(_) => false,
+        Phase::Probing(_, _, _, _) => false,
+        Phase::Announcing(_) => true,
     }
 }

@@ -34,6 +34,7 @@ pub mod DeliveredState
 pub mod GoesOn
 pub mod Kept
 pub mod FromStart
+pub mod FirmShares
 pub mod ListReading
 pub mod Readings
 pub mod FewFollow
@@ -45,3 +46,4 @@ pub mod KeptOut
 pub mod Theorem
 pub mod Example
 pub mod ExampleHistory
+pub mod FirmInstances

@@ -30,10 +30,11 @@ use Rattle.model.proofs.Theorem.{demands-over-runs}
 use Rattle.listing.specs.declared.Listed.{Listed}
 use Rattle.listing.specs.Contracts.{Lists, listRefusal}
 use Rattle.history.specs.State.{State, networkOf, coordinatorPart}
-use Rattle.history.specs.Reading.{rulesCoordinator, listedIn, ListRight}
+use Rattle.history.specs.Reading.{rulesCoordinator, listedIn, FirmShare, ListRight}
 use Rattle.history.proofs.Invariant.{StateOk, Resting}
 use Rattle.history.proofs.Accepted.{coordinator-front, refused-by-rules}
 use Rattle.history.proofs.Answers.{accepted-choice, refused-choice}
+use Rattle.history.proofs.FirmShares.{listed-firm}
 
 module _ {settings : Settings} (passes : settingsRefusal settings ≡ accepted)
     {n : ℕ} {state : State}
@@ -181,6 +182,10 @@ module _ {settings : Settings} (passes : settingsRefusal settings ≡ accepted)
       light-unlisted = λ accepts item light.
           of-list (λ (items : List ℕ). contains item items ≡ false) accepts
           (light-not-in-list item light);
+      listed-firm = λ accepts item holds.
+          over (FirmShare settings item)
+          (listed-firm settings passes (state .accepted) item
+          (sym (ap (contains item) (list-is accepts)) ∙ holds));
       rising = λ accepts.
           of-list (λ (items : List ℕ).
           (i : ℕ) → i + 1 < length items → getD items i 0 < getD items (i + 1) 0) accepts

@@ -4,7 +4,7 @@
 --   demands     the theorem
 use mathlib.Core.Path.{_≡_, sym, ap, _∙_, subst}
 use mathlib.Core.List.{List}
-use Prim.Native.Nat.{_+_, _-_, _*_, _≤_}
+use Prim.Native.Nat.{ℕ, _+_, _-_, _*_, _≤_}
 use native.Mathlib.Nat.{mul-le-mul-left}
 use native.Mathlib.Omega.{arith}
 use lib.ListN.{length, take, drop, length-append, take-append-drop}
@@ -20,6 +20,7 @@ use Rattle.model.specs.Claims.{counted, FewMessages}
 use Rattle.model.proofs.Theorem.{demands-over-runs}
 use Rattle.history.specs.State.{State, networkWritten}
 use Rattle.history.specs.Histories.{Reachable, heldAtStart}
+use Rattle.history.specs.Reading.{FirmShare}
 use Rattle.history.specs.First.{First}
 use Rattle.history.specs.Second.{Second}
 use Rattle.history.specs.Whole.{Whole}
@@ -27,6 +28,7 @@ use Rattle.history.specs.Third.{Third}
 use Rattle.history.specs.Demands.{Demands}
 use Rattle.history.proofs.Invariant.{BeginsRun, run-of-standing}
 use Rattle.history.proofs.Accepted.{memory-accepted, refused-by-rules, resting-of, sound-rest-of}
+use Rattle.history.proofs.FirmShares.{listed-firm}
 use Rattle.history.proofs.Readings.{reads-right}
 use Rattle.history.proofs.FewFollow.{few-follow}
 use Rattle.history.proofs.Refused.{refused-same}
@@ -59,6 +61,15 @@ module _ (settings : Settings) (state : State) (passes : settingsRefusal setting
   abbrev run : Run
   run = runOf settings (state .accepted)
 
+  -- Each front of the arrivals accepted is accepted again, one and all.
+  fronts : (n : ℕ)
+      → runOf settings (take n (state .accepted)) .accepted ≡ take n (state .accepted)
+  fronts n =
+      subst (λ (arrivals : List Arrival).
+      runOf settings (take n arrivals) .accepted ≡ take n arrivals)
+      (begins .accepted-are)
+      (demands-over-runs .cuts settings (state .accepted) .fronts-accepted n)
+
   second : Second settings state
   second = record {
     at-rest = λ rest.
@@ -72,11 +83,7 @@ module _ (settings : Settings) (state : State) (passes : settingsRefusal setting
         sym (ap (take (length (state .messages))) (begins .messages-are)
         ∙ take-append-seam (state .messages) (begins .later));
     accepted-are = begins .accepted-are;
-    fronts-accepted = λ n.
-        subst (λ (arrivals : List Arrival).
-        runOf settings (take n arrivals) .accepted ≡ take n arrivals)
-        (begins .accepted-are)
-        (demands-over-runs .cuts settings (state .accepted) .fronts-accepted n);
+    fronts-accepted = fronts;
     messages-after-each = λ n.
         let front = runOf settings (take n (state .accepted)) .messages in
         ap (λ (arrivals : List Arrival). take (length front) (runOf settings arrivals .messages))
@@ -87,6 +94,9 @@ module _ (settings : Settings) (state : State) (passes : settingsRefusal setting
         demands-over-runs .tracks settings (take n (state .accepted)) passes;
     estimates-after-each = λ n.
         demands-over-runs .estimates-near settings (take n (state .accepted)) passes;
+    firm-after-each = λ n item holds.
+        subst (FirmShare settings item) (fronts n)
+        (listed-firm settings passes (take n (state .accepted)) item holds);
     tails-kept = tails-kept passes state (there .ok);
     others-kept = λ arrival words part answer rest says accepts.
         others-kept passes state (sound-rest-of passes (there .ok) rest) arrival words part answer

@@ -10,3 +10,4 @@ pub mod Whole
 pub mod Third
 pub mod Demands
 pub mod Example
+pub mod FirmInstances

@@ -1,6 +1,7 @@
 -- What the reading calls answer at rest (document 01, "Reading the desk" and "Within e"), of any
 -- answer that keeps the call's contract. All of it is about the arrivals accepted so far.
 --
+--   FirmShare settings item arrivals                 request N10's word on a listed item
 --   ListRight settings state before after answer    the list call on a list of so many places
 --   MarginRight settings state item answer          the margin call
 --   QuantileRight settings state answer             the quantile call
@@ -12,6 +13,7 @@ use mathlib.Core.List.{List}
 use Prim.Native.Nat.{ℕ, _+_, _-_, _*_, _≤_, _<_}
 use lib.ListN.{length, getD, take}
 use Rattle.model.specs.declared.Settings.{Settings}
+use Rattle.model.specs.declared.Arrival.{Arrival}
 use Rattle.model.specs.declared.Quantile.the-variants.{Nothing, Value}
 use Rattle.model.specs.Refusals.{accepted, unknownItem, listTooShort}
 use Rattle.model.specs.Coordinator.{Coordinator}
@@ -36,6 +38,13 @@ rulesCoordinator settings state = runOf settings (state .accepted) .network .coo
 -- The items that a list call hands back: the first of the lent list, as many as it answers.
 abbrev pub listedIn : Listed → List ℕ → List ℕ
 listedIn answer after = take (answer .count) after
+
+-- Request N10: "6000 × its draws ≥ (6p - 5e) × all draws". The leeway stands on the side of the
+-- item's arrivals, so that no difference can be cut off at 0.
+abbrev pub FirmShare : Settings → ℕ → List Arrival → Type 0
+FirmShare settings item arrivals =
+    6 * settings .phi * counted arrivals
+    ≤ 6000 * countOf item arrivals + 5 * settings .epsilon * counted arrivals
 
 -- The list call, with a list of so many places before and after it.
 pub record ListRight (settings : Settings) (state : State) (before after : List ℕ) (answer : Listed)
@@ -63,6 +72,11 @@ pub record ListRight (settings : Settings) (state : State) (before after : List 
       → 1000 * countOf item (state .accepted)
       < (settings .phi - settings .epsilon) * counted (state .accepted)
       → contains item (listedIn answer after) ≡ false
+  -- request N10, "for each listed code after at least one draw": before the first the list is empty
+  pub listed-firm : answer .refusal ≡ accepted
+      → (item : ℕ)
+      → contains item (listedIn answer after) ≡ true
+      → FirmShare settings item (state .accepted)
   -- "The list is in rising code order."
   pub rising : answer .refusal ≡ accepted
       → (i : ℕ)

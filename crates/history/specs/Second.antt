@@ -5,18 +5,20 @@
 --   AsRulesAtRest settings state   what holds between arrivals
 --   Second settings state          all of demand 2
 use mathlib.Core.Path.{_≡_}
+use mathlib.Core.Bool.{true}
 use mathlib.Core.List.{List}
 use Prim.Native.Nat.{ℕ}
 use lib.ListN.{length, take}
 use Rattle.model.specs.declared.Settings.{Settings}
 use Rattle.model.specs.declared.Arrival.{Arrival}
 use Rattle.model.specs.Refusals.{accepted}
+use Rattle.model.specs.Reading.{heavyHitters}
 use Rattle.model.specs.Runs.{Run, runOf}
-use Rattle.model.specs.Claims.{Tracks, Estimates}
+use Rattle.model.specs.Claims.{contains, Tracks, Estimates}
 use Rattle.site_steps.specs.declared.Observed.{Observed}
 use Rattle.site.specs.Calls.{ObserveSays}
 use Rattle.history.specs.State.{State, AtRest, networkOf, recordAt, sitePart}
-use Rattle.history.specs.Reading.{ReadsRight}
+use Rattle.history.specs.Reading.{FirmShare, ReadsRight}
 use Rattle.history.specs.Frame.{TailsKept, OthersKept}
 use Rattle.history.specs.Histories.{afterSingle, Step}
 
@@ -55,6 +57,12 @@ pub record Second (settings : Settings) (state : State) : Type 0 where
   -- and how far the coordinator's numbers lag behind
   pub estimates-after-each : (n : ℕ)
       → Estimates settings (runOf settings (take n (state .accepted)))
+  -- request N10 after each of them: every item of the rules' list then
+  pub firm-after-each : (n item : ℕ)
+      → contains item
+      (heavyHitters settings
+      (runOf settings (take n (state .accepted)) .network .coordinator)) ≡ true
+      → FirmShare settings item (take n (state .accepted))
   -- every step leaves what lies past the network as it was
   pub tails-kept : (after : State)
       → Step settings state after

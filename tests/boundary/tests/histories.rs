@@ -1,6 +1,7 @@
 //! Histories of batches cut anyhow, single arrivals and junk calls, from a fresh start, on the
 //! proved code and on the separate implementation: after every call answers, records, memory and
-//! logs are the same, and at rest the readings too. Demands 2 and 3 are held against exact counts.
+//! logs are the same, and at rest the readings too. Demands 2 and 3 are held against exact counts,
+//! and request N10 after each arrival, with the most of the leeway that a listed item used.
 
 mod both;
 mod forge;
@@ -12,8 +13,10 @@ use both::Both;
 use history::History;
 use reference::message::Arrival;
 use reference::refusal::*;
+use reference::settings::Settings;
+use support::firm::LeewayUsed;
 use support::streams::{Source, Stream, ALL};
-use support::{Random, TestNetwork};
+use support::{Random, TestNetwork, A};
 
 /// A run of arrivals of which some may be refused.
 fn some_run(
@@ -47,7 +50,8 @@ fn some_log(length: u64, network: &TestNetwork, random: &mut Random) -> usize {
     (4 * records + random.pick(&[0, 0, 1, 3])) as usize
 }
 
-/// Histories of so many rounds, each a batch or some single arrivals, then readings.
+/// Histories of so many rounds, each a batch or some single arrivals, then readings. How much of the
+/// leeway they used is answered.
 fn run(
     both: &mut Both,
     numbers: [u32; 6],
@@ -55,7 +59,7 @@ fn run(
     seed: u64,
     rounds: u64,
     lengths: &[u64],
-) {
+) -> LeewayUsed {
     let mut random = Random::new(seed + 1);
     let mut history = History::start(both, numbers, seed);
     let mut source = Source::new(stream, seed + 2);
@@ -77,6 +81,12 @@ fn run(
         }
         history.read(both);
     }
+    history.truth.leeway_used
+}
+
+/// Nothing used yet, under whatever settings.
+fn nothing_used() -> LeewayUsed {
+    LeewayUsed::none(&Settings::from_numbers(A))
 }
 
 /// Settings that pass their test, with the least capacity for their epsilon or some more.
@@ -112,14 +122,17 @@ const MET: [u8; 14] = [
 fn few_sites() {
     let mut random = Random::new(2_001);
     let mut both = Both::new();
+    let mut tightest = nothing_used();
     for round in 0..120 {
         for (kind, &stream) in ALL.iter().enumerate() {
             let sites = random.pick(&[1, 1, 2, 3, 4, 7]);
             let numbers = some_settings(&mut random, sites);
             let seed = 10_000 + 100 * round + 10 * kind as u64;
-            run(&mut both, numbers, stream, seed, 60, &[0, 1, 2, 7, 40]);
+            let used = run(&mut both, numbers, stream, seed, 60, &[0, 1, 2, 7, 40]);
+            tightest.or_tighter(&used);
         }
     }
+    tightest.show("few sites");
     both.enough(600_000, &MET, 500);
 }
 
@@ -127,13 +140,15 @@ fn few_sites() {
 fn many_sites() {
     let mut random = Random::new(2_002);
     let mut both = Both::new();
+    let mut tightest = nothing_used();
     for (kind, &stream) in ALL.iter().enumerate() {
         for sites in [9, 16, 25, 31, 32, 32, 32, 32] {
             let numbers = some_settings(&mut random, sites);
             let seed = 20_000 + 100 * kind as u64 + random.below(100);
-            run(&mut both, numbers, stream, seed, 80, &[0, 1, 5, 60]);
+            tightest.or_tighter(&run(&mut both, numbers, stream, seed, 80, &[0, 1, 5, 60]));
         }
     }
+    tightest.show("many sites");
     both.enough(50_000, &[ACCEPTED, SHORT_LOG, INCONSISTENT], 500);
 }
 
@@ -141,6 +156,7 @@ fn many_sites() {
 #[test]
 fn many_counters() {
     let mut both = Both::new();
+    let mut tightest = nothing_used();
     for (place, numbers) in [
         [1, 2, 3, 500, 3000, 4000],
         [2, 10, 12, 900, 700, 1000],
@@ -156,8 +172,9 @@ fn many_counters() {
             [Stream::Uniform, Stream::RoundRobin, Stream::Flood].into_iter().enumerate()
         {
             let seed = 30_000 + 100 * place as u64 + 10 * kind as u64;
-            run(&mut both, numbers, stream, seed, 30, &[0, 1, 300, 600]);
+            tightest.or_tighter(&run(&mut both, numbers, stream, seed, 30, &[0, 1, 300, 600]));
         }
     }
+    tightest.show("many counters");
     both.enough(5_000, &[ACCEPTED, SHORT_LOG], 50);
 }

@@ -1,16 +1,28 @@
-//! Random and adversarial runs: demands 2 and 3 after every arrival.
+//! Random and adversarial runs: demands 2 and 3, and request N10, after every arrival.
 
 mod support;
 
 use reference::message::Message;
 use reference::refusal;
+use reference::settings::Settings;
+use support::firm::LeewayUsed;
 use support::streams::{unreported, Source, Stream, ALL};
 use support::truth::Truth;
-use support::{arrival, Random, TestNetwork};
+use support::{arrival, Random, TestNetwork, A};
 
 /// Takes arrivals of a stream one by one and checks all demands after each.
 /// The network that remains is answered.
 fn run(numbers: [u32; 6], stream: Stream, seed: u64, arrivals: u64) -> TestNetwork {
+    run_measured(numbers, stream, seed, arrivals).0
+}
+
+/// The same, and how much of the leeway a listed item used.
+fn run_measured(
+    numbers: [u32; 6],
+    stream: Stream,
+    seed: u64,
+    arrivals: u64,
+) -> (TestNetwork, LeewayUsed) {
     println!("settings {numbers:?}");
     let mut network = TestNetwork::start(numbers);
     let mut truth = Truth::new(&network.settings);
@@ -25,7 +37,7 @@ fn run(numbers: [u32; 6], stream: Stream, seed: u64, arrivals: u64) -> TestNetwo
         truth.check(&network);
     }
     assert_eq!(network.sites.messages, truth.messages);
-    network
+    (network, truth.leeway_used)
 }
 
 /// Takes random arrivals in batches of 1000 and checks all demands after each
@@ -68,11 +80,14 @@ fn random_settings(random: &mut Random) -> [u32; 6] {
 #[test]
 fn every_stream_under_random_settings() {
     let mut random = Random::new(101);
+    let mut tightest = LeewayUsed::none(&Settings::from_numbers(A));
     for round in 0..24 {
         for stream in ALL {
-            run(random_settings(&mut random), stream, 1000 + round, 2500);
+            let settings = random_settings(&mut random);
+            tightest.or_tighter(&run_measured(settings, stream, 1000 + round, 2500).1);
         }
     }
+    tightest.show("every stream, separate implementation");
 }
 
 #[test]

@@ -77,14 +77,25 @@ impl History {
             } else if places < messages.len() + 23 * settings.sites as usize + 2 {
                 SHORT_LOG
             } else {
-                let sent = self.plain.take(*next);
-                self.truth.count(&settings, next, sent.len());
-                messages.extend(sent);
+                messages.extend(self.count(next));
                 continue;
             };
             return (accepted, messages, refusal);
         }
         (arrivals.len(), messages, ACCEPTED)
+    }
+
+    /// Counts an accepted arrival. Its messages by the plain loops are answered, and what these
+    /// list then has a firm share: request N10 after each arrival, inside a batch too.
+    fn count(&mut self, next: &Arrival) -> Vec<Message> {
+        let settings = self.network.settings;
+        let sent = self.plain.take(*next);
+        self.truth.count(&settings, next, sent.len());
+        let Truth { items, arrivals, leeway_used, .. } = &mut self.truth;
+        for item in self.plain.listed() {
+            leeway_used.listed(&settings, items[item], *arrivals);
+        }
+        sent
     }
 
     /// A single arrival with full delivery by the public calls, and junk on the way.
@@ -113,8 +124,7 @@ impl History {
             sent.extend(&more);
             waiting.extend(more);
         }
-        assert_eq!(sent, self.plain.take(next));
-        self.truth.count(&self.network.settings, &next, sent.len());
+        assert_eq!(sent, self.count(&next));
         // Single arrivals don't count in the network's own count.
         assert_eq!(self.network.sites.messages, self.written);
     }

@@ -5,6 +5,7 @@
 #![allow(dead_code)]
 
 pub mod defects;
+pub mod firm;
 pub mod plain;
 pub mod streams;
 pub mod truth;

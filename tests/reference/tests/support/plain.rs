@@ -102,6 +102,14 @@ impl PlainNetwork {
         sent
     }
 
+    /// The items that the list rule lists, in rising order.
+    pub fn listed(&self) -> impl Iterator<Item = usize> + '_ {
+        let asked = u64::from(2 * self.settings.phi - self.settings.epsilon) * self.total;
+        let is_listed =
+            move |&(_, &number): &(usize, &u64)| self.total >= 1 && 2000 * number >= asked;
+        self.estimates.iter().enumerate().filter(is_listed).map(|(item, _)| item)
+    }
+
     fn close(&mut self, sent: &mut Vec<Message>) {
         for site in &mut self.sites {
             sent.push(message(3, site.site, 0, 0));

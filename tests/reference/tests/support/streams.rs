@@ -25,9 +25,12 @@ pub enum Stream {
     Hovering,
     /// Item 0 hovers around phi and the values around the rank.
     Borderline,
+    /// Item 0 stays listed with as few arrivals as can be: others come wherever the coordinator
+    /// does not hear of them, and elsewhere as long as item 0 stays listed.
+    BarelyListed,
 }
 
-pub const ALL: [Stream; 7] = [
+pub const ALL: [Stream; 8] = [
     Stream::Uniform,
     Stream::OneSite,
     Stream::RoundRobin,
@@ -35,6 +38,7 @@ pub const ALL: [Stream; 7] = [
     Stream::OneShort,
     Stream::Hovering,
     Stream::Borderline,
+    Stream::BarelyListed,
 ];
 
 /// A stream with what it remembers.
@@ -66,6 +70,7 @@ impl Source {
             Stream::OneShort => self.one_short(network),
             Stream::Hovering => self.hovering(network),
             Stream::Borderline => self.borderline(network),
+            Stream::BarelyListed => self.barely_listed(network),
         };
         self.sent += 1;
         self.of_item_0 += u64::from(next.item == 0);
@@ -148,6 +153,27 @@ impl Source {
         let low = self.random.below32(1000) < settings.rank;
         let value = if low { 511 - self.random.below32(2) } else { 512 };
         arrival(self.turn(network), item % settings.universe, value)
+    }
+
+    fn barely_listed(&mut self, network: &TestNetwork) -> Arrival {
+        let settings = &network.settings;
+        let (total, threshold) = (network.coordinator.total, network.coordinator.threshold);
+        let held = 2000 * network.coordinator_memory[0];
+        let needed = u64::from(2 * settings.phi - settings.epsilon);
+        let sites = 0..settings.sites;
+        let silent = sites.clone().find(|&site| {
+            let record = &network.sites.records[site as usize];
+            record.pending + 1 < record.threshold
+        });
+        let is_listed = total >= 1 && held >= needed * total;
+        let stays_listed = held >= needed * (total + threshold);
+        if is_listed && (stays_listed || silent.is_some()) {
+            let item = (1 + self.random.below32(settings.universe)) % settings.universe;
+            return arrival(silent.unwrap_or(self.turn(network)), item, 1);
+        }
+        // Where the site holds back most of item 0, the coordinator hears of it soonest.
+        let site = sites.max_by_key(|&site| unreported(network, site, 0)).unwrap_or(0);
+        arrival(site, 0, 1)
     }
 }
 

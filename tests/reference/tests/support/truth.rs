@@ -1,9 +1,10 @@
-//! The true counts of a stream, and demands 2 and 3 held against them.
+//! The true counts of a stream, and demands 2 and 3 held against them, with request N10.
 
 use reference::coordinator::{self, Phase};
 use reference::message::Arrival;
 use reference::settings::{allowance, digits, Settings};
 
+use super::firm::LeewayUsed;
 use super::TestNetwork;
 
 /// What really arrived, and how many messages it took.
@@ -12,6 +13,7 @@ pub struct Truth {
     pub values: Vec<u64>,
     pub arrivals: u64,
     pub messages: u64,
+    pub leeway_used: LeewayUsed,
     listed: Vec<u32>,
 }
 
@@ -23,6 +25,7 @@ impl Truth {
             values: vec![0; 1024],
             arrivals: 0,
             messages: 0,
+            leeway_used: LeewayUsed::none(settings),
             listed: vec![0; universe],
         }
     }
@@ -45,7 +48,7 @@ impl Truth {
         self.check_messages(&network.settings);
     }
 
-    /// Whoever has p thousandths is listed, and nobody below p - e.
+    /// Whoever has p thousandths is listed, and nobody below p - e, nor below p - 5e / 6.
     fn check_heavy_hitters(&mut self, network: &TestNetwork) {
         let count = coordinator::list_heavy_hitters(
             &network.settings,
@@ -63,6 +66,9 @@ impl Truth {
             assert!(is_listed || !heavy, "item {item} is missing at {}", self.arrivals);
             let light = share < u64::from(phi - epsilon) * self.arrivals;
             assert!(!is_listed || !light, "item {item} is too light at {}", self.arrivals);
+            if is_listed {
+                self.leeway_used.listed(&network.settings, times, self.arrivals);
+            }
         }
         assert_eq!(listed.next(), None, "the list is in rising order");
         assert!(self.arrivals > 0 || count == 0, "nothing arrived, so nothing is listed");

@@ -4,25 +4,19 @@
 --   seven-reached      the history
 --   firm-instances     the table
 use mathlib.Core.Path.{_≡_, refl, ap}
-use mathlib.Core.List.{List, [], _∷_, _++_}
-use Prim.Native.Nat.{ℕ, _+_, _-_, _*_, _≤_}
+use mathlib.Core.List.{_++_}
+use Prim.Native.Nat.{ℕ, _+_, _-_, _*_}
 use native.Mathlib.Omega.{arith}
 use lib.ListN.{take, replicate}
-use Rattle.model.specs.declared.Settings.{Settings}
-use Rattle.model.specs.declared.Arrival.{Arrival}
-use Rattle.model.specs.Refusals.{accepted}
 use Rattle.model.specs.Limits.{valueCount}
-use Rattle.model.specs.Settings.{settingsRefusal}
-use Rattle.model.specs.Claims.{counted, countOf}
+use Rattle.model.specs.Claims.{counted}
 use Rattle.model.specs.Instances.{settingsA}
 use Rattle.model.proofs.SettingsLaws.{settled}
-use Rattle.listing.specs.Contracts.{Lists}
 use Rattle.tracker.specs.Batch.{messageNumbers}
-use Rattle.history.specs.State.{coordinatorPart}
 use Rattle.history.specs.Histories.{Arrives, batch, arrives, Reachable, stepped}
-use Rattle.history.specs.Reading.{FirmShare, ListRight}
+use Rattle.history.specs.Reading.{ListRight}
 use Rattle.history.specs.Example.{startedState}
-use Rattle.history.specs.FirmInstances.{sevenDraws, afterSeven, settings400, fortyFour, FirmInstances}
+use Rattle.history.specs.FirmInstances.{sevenDraws, afterSeven, threeBefore, threeAfter, answerOfTwo, settings400, fortyFour, FirmInstances}
 use Rattle.history.proofs.FirmShares.{listed-firm}
 use Rattle.history.proofs.Theorem.{demands}
 use Rattle.history.proofs.Example.{begins}
@@ -59,38 +53,21 @@ seven-arrive =
 seven-reached : Reachable settingsA afterSeven
 seven-reached = stepped startedState afterSeven begins (arrives seven-arrive)
 
--- What the list call answers there.
-two-listed : Lists settingsA (afterSeven .held .coordinator)
-    (coordinatorPart (afterSeven .held) 0 1034) (8 ∷ (8 ∷ (8 ∷ []))) (0 ∷ (1 ∷ (8 ∷ [])))
-    (record { refusal = 0; count = 2 })
-unfolding valueCount
-two-listed = record { refusal = refl; count = refl; list = refl }
-
--- What is promised of it.
-list-right : ListRight settingsA afterSeven (8 ∷ (8 ∷ (8 ∷ []))) (0 ∷ (1 ∷ (8 ∷ [])))
-    (record { refusal = 0; count = 2 })
+-- What is promised of the list there.
+list-right : ListRight settingsA afterSeven threeBefore threeAfter answerOfTwo
 unfolding valueCount
 list-right =
     demands .second settingsA afterSeven refl seven-reached
     .at-rest (record { nothing-waits = refl; idle = refl })
-    .reads-right .list 1034 _ _ _ (omega arith) two-listed
-
--- 6 × (p - e) × n + 6e × n is 6p × n, and e ≤ p.
-within-leeway : (settings : Settings) (item : ℕ) (arrivals : List Arrival)
-    → settingsRefusal settings ≡ accepted
-    → FirmShare settings item arrivals
-    → (settings .phi - settings .epsilon) * counted arrivals ≤ 1000 * countOf item arrivals
-within-leeway settings item arrivals passes firm =
-    let whole : settings .phi - settings .epsilon + settings .epsilon ≡ settings .phi =
-    omega (arith, settled settings passes .phi-epsilon) in
-    omega (arith, firm, ap (λ (z : ℕ). z * counted arrivals) whole)
+    .reads-right .list 1034 _ _ _ (omega arith)
+    (record { refusal = refl; count = refl; list = refl })
 
 pub firm-instances : FirmInstances
 unfolding valueCount
 firm-instances = record {
   seven-reached = seven-reached;
   total-6 = refl;
-  two-listed = two-listed;
+  two-listed = record { refusal = refl; count = refl; list = refl };
   three-of-code-0 = refl;
   seven-in-all = refl;
   firm-0 = list-right .listed-firm refl 0 refl;
@@ -100,6 +77,9 @@ firm-instances = record {
   forty-four = refl;
   firm-32 = listed-firm settings400 refl fortyFour 0 refl;
   not-four = omega arith;
-  within-leeway = within-leeway;
+  within-leeway = λ settings item arrivals passes firm.
+      let whole : settings .phi - settings .epsilon + settings .epsilon ≡ settings .phi =
+      omega (arith, settled settings passes .phi-epsilon) in
+      omega (arith, firm, ap (λ (z : ℕ). z * counted arrivals) whole);
   a-quarter = λ item arrivals firm. omega (arith, firm);
 }

@@ -21,6 +21,7 @@ use Rattle.model.specs.SiteMemory.{siteRecord}
 use Rattle.model.specs.Reading.{heavyHitters}
 use Rattle.model.specs.Claims.{counted, countOf}
 use Rattle.model.specs.Instances.{settingsA, arrivalWith, coordinatorAfter}
+use Rattle.listing.specs.declared.Listed.{Listed}
 use Rattle.listing.specs.Contracts.{Lists}
 use Rattle.history.specs.State.{State, coordinatorPart}
 use Rattle.history.specs.Histories.{Reachable}
@@ -95,6 +96,16 @@ afterSeven = record {
   logged = 50;
 }
 
+-- The list call on three places: it writes codes 0 and 1.
+abbrev pub threeBefore : List ℕ
+threeBefore = 8 ∷ (8 ∷ (8 ∷ []))
+
+abbrev pub threeAfter : List ℕ
+threeAfter = 0 ∷ (1 ∷ (8 ∷ []))
+
+abbrev pub answerOfTwo : Listed
+answerOfTwo = record { refusal = 0; count = 2 }
+
 -- ---- Forty-four draws that use the leeway
 
 -- "1;400;1000;500;15;10": share 1000 with leeway 400.
@@ -114,11 +125,10 @@ settings300 = settingsWith 4 60 300 500 100 100
 pub record FirmInstances : Type 0 where
   -- "A, codes 0 1 0 1 0 1 1 (class 1)": a batch call comes there from a fresh start
   pub seven-reached : Reachable settingsA afterSeven
-  -- "total 6, codes 0 and 1 listed": what the list call then answers on three places
+  -- "total 6, codes 0 and 1 listed": what the list call then answers
   pub total-6 : afterSeven .held .coordinator .total ≡ 6
   pub two-listed : Lists settingsA (afterSeven .held .coordinator)
-      (coordinatorPart (afterSeven .held) 0 1034) (8 ∷ (8 ∷ (8 ∷ []))) (0 ∷ (1 ∷ (8 ∷ [])))
-      (record { refusal = 0; count = 2 })
+      (coordinatorPart (afterSeven .held) 0 1034) threeBefore threeAfter answerOfTwo
   -- "code 0: 6000 × 3 ≥ 1000 × 7"
   pub three-of-code-0 : countOf 0 sevenDraws ≡ 3
   pub seven-in-all : counted sevenDraws ≡ 7

@@ -1,7 +1,7 @@
 -- What the reading calls answer at rest (document 01, "Reading the desk" and "Within e"), of any
 -- answer that keeps the call's contract. All of it is about the arrivals accepted so far.
 --
---   FirmShare settings item arrivals                 request N10's word on a listed item
+--   FirmShare settings item arrivals                request N10's word on a listed item
 --   ListRight settings state before after answer    the list call on a list of so many places
 --   MarginRight settings state item answer          the margin call
 --   QuantileRight settings state answer             the quantile call

@@ -1,6 +1,6 @@
-//! Request N10: each code that the list call answers has 6000 × (its draws) + 5e × (all draws) ≥
-//! 6p × (all draws). The list is asked for after each draw, on the proved code and on the separate
-//! implementation; the request's instances; and how much of the leeway is used.
+//! Request N10: each item that the list call answers has 6000 × (its arrivals) + 5e × (all
+//! arrivals) ≥ 6p × (all arrivals). The list is asked for after each arrival, on the proved code and
+//! on the separate implementation; the request's instances; and how much of the leeway is used.
 
 mod both;
 mod forge;
@@ -18,9 +18,9 @@ use support::streams::{Source, ALL};
 use support::truth::Truth;
 use support::{arrival, Random, TestNetwork, A};
 
-/// Single draws and batches of one, and the list after each.
+/// Single arrivals and batches of one, and the list after each.
 #[test]
-fn after_each_draw() {
+fn after_each_arrival() {
     let mut random = Random::new(3_001);
     let mut both = Both::new();
     let mut tightest = LeewayUsed::none(&Settings::from_numbers(A));
@@ -55,34 +55,34 @@ fn after_each_draw() {
 /// Places of a log that is long enough for every batch here.
 const LOG_PLACES: usize = 30_000;
 
-/// A bench that takes draws of class 1 in batches, and its true counts.
-struct Bench {
+/// A network that takes arrivals in batches, and their true counts.
+struct Taken {
     both: Both,
     network: TestNetwork,
     truth: Truth,
 }
 
-impl Bench {
-    fn start(numbers: [u32; 6]) -> Bench {
+impl Taken {
+    fn start(numbers: [u32; 6]) -> Taken {
         let network = TestNetwork::start(numbers);
         let truth = Truth::new(&network.settings);
-        Bench { both: Both::new(), network, truth }
+        Taken { both: Both::new(), network, truth }
     }
 
-    fn take(&mut self, draws: &[Arrival]) {
+    fn take(&mut self, arrivals: &[Arrival]) {
         // Long batches come late, when messages are few.
         let places = LOG_PLACES + self.network.settings.messages_per_arrival();
-        let (answer, _) = self.both.run_batch(&mut self.network, draws, 4 * places);
-        assert_eq!((answer.accepted, answer.refusal), (draws.len(), ACCEPTED));
-        for draw in draws {
-            self.truth.count(&self.network.settings, draw, 0);
+        let (answer, _) = self.both.run_batch(&mut self.network, arrivals, 4 * places);
+        assert_eq!((answer.accepted, answer.refusal), (arrivals.len(), ACCEPTED));
+        for next in arrivals {
+            self.truth.count(&self.network.settings, next, 0);
         }
         self.truth.messages += answer.written as u64;
     }
 
-    /// So many draws of a code at a deck.
-    fn take_of(&mut self, deck: u32, code: u32, draws: u64) {
-        self.take(&vec![arrival(deck, code, 1); draws as usize]);
+    /// So many arrivals of an item at a site.
+    fn take_of(&mut self, site: u32, item: u32, times: usize) {
+        self.take(&vec![arrival(site, item, 1); times]);
     }
 
     /// What the list call answers, on the proved code as on the other.
@@ -97,34 +97,34 @@ impl Bench {
     }
 }
 
-/// Settings A, codes 0 1 0 1 0 1 1: total 6, both listed; of code 0 6000 × 3 ≥ 1000 × 7.
+/// Settings A, items 0 1 0 1 0 1 1: total 6, both listed; of item 0 6000 × 3 ≥ 1000 × 7.
 #[test]
-fn seven_draws() {
-    let mut bench = Bench::start(A);
-    bench.take(&[0, 1, 0, 1, 0, 1, 1].map(|code| arrival(0, code, 1)));
-    assert_eq!(bench.network.coordinator.total, 6);
-    assert_eq!(bench.listed(), [0, 1]);
-    assert_eq!((bench.truth.items[0], bench.truth.arrivals), (3, 7));
+fn seven_arrivals() {
+    let mut taken = Taken::start(A);
+    taken.take(&[0, 1, 0, 1, 0, 1, 1].map(|item| arrival(0, item, 1)));
+    assert_eq!(taken.network.coordinator.total, 6);
+    assert_eq!(taken.listed(), [0, 1]);
+    assert_eq!((taken.truth.items[0], taken.truth.arrivals), (3, 7));
 }
 
-/// Share 1000 with leeway 400: code 0 is listed with 32 of 44 draws, and 4e would not do.
+/// Share 1000 with leeway 400: item 0 is listed with 32 of 44 arrivals, and 4e would not do.
 #[test]
 fn four_fifths_of_the_leeway() {
-    let mut bench = Bench::start([1, 400, 1000, 500, 15, 10]);
-    bench.take_of(0, 0, 32);
-    bench.take_of(0, 1, 12);
-    assert_eq!(bench.listed(), [0]);
+    let mut taken = Taken::start([1, 400, 1000, 500, 15, 10]);
+    taken.take_of(0, 0, 32);
+    taken.take_of(0, 1, 12);
+    assert_eq!(taken.listed(), [0]);
     assert!(6000 * 32 + 4 * 400 * 44 < 6 * 1000 * 44);
-    assert!(bench.truth.leeway_used.fraction() > 0.8);
+    assert!(taken.truth.leeway_used.fraction() > 0.8);
 }
 
-/// Share 1000 with leeway 2 at two decks: 18,192,662 draws, 18,162,365 of a listed code. Rounds of
-/// a threshold's draws at each deck, so that nothing is held back at a close: then the desk knows
-/// all draws, and 18,180 are of another code, as many as the list rule lets pass. After the last
-/// close each deck draws one less than the threshold.
+/// Share 1000 with leeway 2 at two sites: 18,192,662 arrivals, 18,162,365 of a listed item. Rounds
+/// of a threshold's arrivals at each site, so that nothing is held back at a close: then the
+/// coordinator knows them all, and 18,180 are of another item, as many as the list rule lets pass.
+/// After the last close each site takes one less than the threshold.
 #[test]
 fn nearly_all_of_the_leeway() {
-    let mut bench = Bench::start([2, 2, 1000, 500, 3000, 2]);
+    let mut taken = Taken::start([2, 2, 1000, 500, 3000, 2]);
     let threshold = |base: u64| (2 * base / 6000).max(1);
     let (mut base, mut thresholds) = (0, Vec::new());
     while base < 18_180_544 {
@@ -132,32 +132,32 @@ fn nearly_all_of_the_leeway() {
         base += 2 * threshold(base);
     }
     assert_eq!((base, threshold(base)), (18_180_544, 6060));
-    // The other code takes whole turns of a deck, the last ones that fit.
+    // Item 1 takes whole turns of a site, the last ones that fit.
     let mut others = 18_180;
-    let mut codes = vec![0; thresholds.len()];
-    for (code, &draws) in codes.iter_mut().zip(&thresholds).rev() {
-        if draws <= others {
-            *code = 1;
-            others -= draws;
+    let mut items = vec![0; thresholds.len()];
+    for (item, &times) in items.iter_mut().zip(&thresholds).rev() {
+        if times <= others {
+            *item = 1;
+            others -= times;
         }
     }
     assert_eq!(others, 0);
     let mut batch: Vec<Arrival> = Vec::new();
-    for (turn, (&draws, &code)) in thresholds.iter().zip(&codes).enumerate() {
-        let length = batch.len() + draws as usize;
-        batch.resize(length, arrival(turn as u32 % 2, code, 1));
-        if length as u64 >= (bench.truth.arrivals / 4).clamp(1000, 500_000) {
-            bench.take(&batch);
+    for (turn, (&times, &item)) in thresholds.iter().zip(&items).enumerate() {
+        let length = batch.len() + times as usize;
+        batch.resize(length, arrival(turn as u32 % 2, item, 1));
+        if length as u64 >= (taken.truth.arrivals / 4).clamp(1000, 500_000) {
+            taken.take(&batch);
             batch.clear();
         }
     }
-    bench.take(&batch);
-    assert_eq!(bench.network.coordinator.base, base);
-    bench.take_of(0, 1, 6059);
-    bench.take_of(1, 1, 6058);
-    bench.take_of(1, 0, 1);
-    assert_eq!(bench.listed(), [0]);
-    assert_eq!((bench.truth.items[0], bench.truth.arrivals), (18_162_365, 18_192_662));
-    bench.truth.leeway_used.show("as much as can be");
-    assert_eq!((10_000.0 * bench.truth.leeway_used.fraction()) as u64, 9992);
+    taken.take(&batch);
+    assert_eq!(taken.network.coordinator.base, base);
+    taken.take_of(0, 1, 6059);
+    taken.take_of(1, 1, 6058);
+    taken.take_of(1, 0, 1);
+    assert_eq!(taken.listed(), [0]);
+    assert_eq!((taken.truth.items[0], taken.truth.arrivals), (18_162_365, 18_192_662));
+    taken.truth.leeway_used.show("as much as can be");
+    assert_eq!((10_000.0 * taken.truth.leeway_used.fraction()) as u64, 9992);
 }

@@ -50,8 +50,8 @@ fn some_log(length: u64, network: &TestNetwork, random: &mut Random) -> usize {
     (4 * records + random.pick(&[0, 0, 1, 3])) as usize
 }
 
-/// Histories of so many rounds, each a batch or some single arrivals, then readings. How much of the
-/// leeway they used is answered.
+/// Histories of so many rounds, each a batch or some single arrivals, then readings. Answers how
+/// much of the leeway they used.
 fn run(
     both: &mut Both,
     numbers: [u32; 6],

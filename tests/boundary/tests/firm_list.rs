@@ -1,6 +1,6 @@
 //! Request N10: each item that the list call answers has 6000 × (its arrivals) + 5e × (all
-//! arrivals) ≥ 6p × (all arrivals). The list is asked for after each arrival, on the proved code and
-//! on the separate implementation; the request's instances; and how much of the leeway is used.
+//! arrivals) ≥ 6p × (all arrivals). The list is asked for after each arrival, on the proved code
+//! and on the separate implementation; the request's instances; how much of the leeway is used.
 
 mod both;
 mod forge;

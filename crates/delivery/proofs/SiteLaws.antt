@@ -21,9 +21,9 @@ use Rattle.model.proofs.NeverFewer.{observed-grows}
 use Rattle.site_memory.specs.Ready.{SiteReady}
 use Rattle.site_steps.specs.declared.Observed.{Observed}
 use Rattle.site_steps.specs.Steps.{ObserveAsks, ObserveStepSays}
-use Rattle.network_memory.specs.Records.{noRecord}
-use Rattle.network_memory.proofs.SitesMemoryLaws.{sitesMemory-set}
-use Rattle.network_memory.proofs.SitePart.{few-sites, start-small, part, part-is}
+use Rattle.site_memory.specs.Records.{noRecord}
+use Rattle.site_memory.proofs.SitesMemoryLaws.{sitesMemory-set}
+use Rattle.site_memory.proofs.SitePart.{few-sites, start-small, part, part-is}
 use Rattle.sending.specs.Sending.{queueOf}
 use Rattle.delivery.specs.Holding.{State, state, Holds, Fits}
 use Rattle.delivery.specs.Arriving.{ArrivalAsks, stepAt, takenAt, Taken, outOf, putBack}

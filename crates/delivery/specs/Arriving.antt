@@ -17,7 +17,7 @@ use Rattle.model.specs.Site.{SiteStep, observed}
 use Rattle.model.specs.Network.{Network, siteAt, withSite, afterArrival}
 use Rattle.model.specs.DeliveryClaims.{Delivery, delivery}
 use Rattle.site_steps.specs.declared.Observed.{Observed}
-use Rattle.network_memory.specs.Records.{noRecord, withRecord}
+use Rattle.site_memory.specs.Records.{noRecord, withRecord}
 use Rattle.sending.specs.declared.Queue.{Queue}
 use Rattle.delivery.specs.declared.Underway.{Underway}
 use Rattle.sending.specs.Sending.{queueOf}

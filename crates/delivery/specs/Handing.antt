@@ -19,7 +19,7 @@ use Rattle.model.specs.Choice.{if_then_else_, isZero}
 use Rattle.model.specs.Messages.{toCoordinator}
 use Rattle.model.specs.DeliveryClaims.{deliveryStep}
 use Rattle.coordinator_kinds.specs.declared.Answered.{Answered}
-use Rattle.network_memory.specs.Records.{noRecord}
+use Rattle.site_memory.specs.Records.{noRecord}
 use Rattle.sending.specs.declared.Queue.{Queue}
 use Rattle.sending.specs.declared.Traffic.{Traffic}
 use Rattle.delivery.specs.declared.Underway.{Underway}

@@ -8,7 +8,7 @@ ghost use mathlib.Core.Path.{_≡_};
 ghost use Prim.Native.Nat.{_<_};
 ghost use lib.ListN.{getD};
 ghost use Rattle.model.specs.Messages.{toCoordinator};
-ghost use Rattle.network_memory.specs.Records.{noRecord, withRecord};
+ghost use Rattle.site_memory.specs.Records.{noRecord, withRecord};
 ghost use Rattle.delivery.specs.UnderwayParts.{resting, underwayOf};
 ghost use Rattle.delivery.specs.Holding.{state, Delivering, EndSays};
 ghost use Rattle.delivery.specs.Arriving.{SiteAsks, SiteSays, MessagesAsk, MessagesSay};

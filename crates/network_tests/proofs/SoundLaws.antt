@@ -33,8 +33,8 @@ use Rattle.model.proofs.ConsistentCoordinator.{CoordinatorWithin, coordinator-s
 use Rattle.counters.proofs.CounterMemory.{length-countersIn}
 use Rattle.site_memory.specs.Ready.{SiteReady}
 use Rattle.coordinator_kinds.proofs.MemoryLaws.{estimates-long, histogram-long}
-use Rattle.network_memory.specs.Records.{noRecord}
-use Rattle.network_memory.proofs.SitesReading.{length-sitesIn, getD-sitesIn}
+use Rattle.site_memory.specs.Records.{noRecord}
+use Rattle.site_memory.proofs.SitesReading.{length-sitesIn, getD-sitesIn}
 use Rattle.delivery.specs.Bounded.{Bounded}
 use Rattle.delivery.proofs.BoundedLaws.{bounded-start}
 use Rattle.network_tests.specs.Contracts.{NetworkFits}

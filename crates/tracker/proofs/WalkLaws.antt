@@ -23,8 +23,8 @@ use Rattle.model.specs.Network.{Network}
 use Rattle.model.specs.NetworkMemory.{networkIn}
 use Rattle.model.specs.Runs.{Batch, batchFrom, freshBatch}
 use Rattle.coordinator_kinds.proofs.MemoryLaws.{memory-kept}
-use Rattle.network_memory.specs.Records.{noRecord}
-use Rattle.network_memory.proofs.SitesReading.{siteRecords-sitesIn, sitesMemory-sitesIn}
+use Rattle.site_memory.specs.Records.{noRecord}
+use Rattle.site_memory.proofs.SitesReading.{siteRecords-sitesIn, sitesMemory-sitesIn}
 use Rattle.sending.specs.Log.{logRoom}
 use Rattle.delivery.specs.Holding.{Given}
 use Rattle.network_tests.proofs.SoundLaws.{Passing, passing}

@@ -26,7 +26,7 @@ use Rattle.model.proofs.DeliveryTheorem.{delivery-claims}
 use Rattle.model.proofs.SitesInvariant.{arrivalsAt}
 use Rattle.model.proofs.ClosedSites.{sumBelow-allArrivals}
 use Rattle.laws.proofs.Sums.{sumBelow-le, sumBelow-const}
-use Rattle.network_memory.specs.Records.{noRecord}
+use Rattle.site_memory.specs.Records.{noRecord}
 use Rattle.delivery.specs.declared.Underway.{Underway}
 use Rattle.sending.specs.Log.{logRoom}
 use Rattle.delivery.specs.UnderwayParts.{resting}

@@ -16,7 +16,7 @@ use Rattle.model.specs.declared.SiteRecord.{SiteRecord}
 use Rattle.model.specs.Refusals.{accepted}
 use Rattle.model.specs.Runs.{Batch}
 use Rattle.site_steps.specs.declared.Observed.{Observed}
-use Rattle.network_memory.specs.Records.{noRecord}
+use Rattle.site_memory.specs.Records.{noRecord}
 use Rattle.sending.specs.Log.{logRoom}
 use Rattle.delivery.specs.Holding.{state}
 use Rattle.delivery.specs.Arriving.{ArrivalAsks, SiteAsks, SiteSays, MessagesAsk, outOf, putBack}

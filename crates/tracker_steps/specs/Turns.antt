@@ -20,7 +20,7 @@ use Rattle.model.specs.Choice.{if_then_else_}
 use Rattle.model.specs.Refusals.{accepted}
 use Rattle.model.specs.Limits.{mostSites, siteLimit}
 use Rattle.model.specs.Runs.{Batch}
-use Rattle.network_memory.specs.Records.{noRecord, withRecord}
+use Rattle.site_memory.specs.Records.{noRecord, withRecord}
 use Rattle.sending.specs.Log.{logRoom}
 use Rattle.sending.specs.Sending.{nothingWaits}
 use Rattle.delivery.specs.Holding.{Given, state}

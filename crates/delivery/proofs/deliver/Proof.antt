@@ -5,7 +5,7 @@ use Prim.Native.Nat.{ℕ}
 use native.Mathlib.Omega.{arith}
 use lib.ListN.{length, getD}
 use borrow.Author.Needs.{needs}
-use Rattle.network_memory.specs.Records.{noRecord}
+use Rattle.site_memory.specs.Records.{noRecord}
 use Rattle.delivery.specs.UnderwayParts.{underwayOf}
 use Rattle.delivery.specs.Holding.{state, Delivering}
 use Rattle.delivery.proofs.HoldingLaws.{coordinator-memory-length, log-length}

@@ -31,7 +31,7 @@ use denote.Struct.Laws as LL
 use denote.Triple.Call.{calls-at}
 use denote.Triple.Clauses.{lasts}
 use Rattle.model.specs.declared.Arrival.{Arrival}
-use Rattle.network_memory.specs.Records.{noRecord}
+use Rattle.site_memory.specs.Records.{noRecord}
 use Rattle.tracker_steps.specs.Steps.{OneAsks, OneSays}
 use Rattle.tracker_steps.specs.Turns.{placeOf, ownOf, TurnAsks, TurnSays}
 use Rattle.model.proofs.Arrival as T

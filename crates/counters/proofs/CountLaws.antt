@@ -15,11 +15,12 @@ use borrow.Author.Tests.{lt-ltb, le-ltb}
 use Rattle.model.specs.Counters.{Counter, noCounter, counterAt, find, leastPlace, Placement, placeOf, oneMoreOf, firstOf, replacing}
 use Rattle.model.specs.Counters.Placement.{own, unused, replaced}
 use Rattle.model.specs.SiteMemory.{countersIn}
+use Rattle.model.proofs.CounterLaws.{leastPlace-is}
+use Rattle.model.proofs.ConsistentSites.{length-countersIn}
 use Rattle.counters.specs.declared.Counted.{Counted}
 use Rattle.counters.specs.Stored.{storedAt, setCounter, counterOf}
 use Rattle.counters.specs.Count.{greatestWord, CountAsks, CountSays, placement, placeIn, countersThen}
-use Rattle.counters.proofs.Search.{leastPlace-lt}
-use Rattle.counters.proofs.CounterMemory.{length-countersIn, counterAt-countersIn, overwrite-set, overwrite-append}
+use Rattle.counters.proofs.CounterMemory.{counterAt-countersIn, overwrite-set, overwrite-append}
 
 -- ---- Places and counts within their bounds
 
@@ -31,7 +32,7 @@ module _ (memory : List ℕ) (capacity used : ℕ) (asks : CountAsks memory capa
       omega (
         arith,
         count,
-        leastPlace-lt (countersIn used memory) (omega (arith, count, asks .some)),
+        leastPlace-is (countersIn used memory) (omega (arith, count, asks .some)) .inside,
       )
 
   -- A count in memory can grow by one.

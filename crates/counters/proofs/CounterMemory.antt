@@ -1,12 +1,11 @@
 -- Counters read from a memory and written to it: that reading gives back what was written, and that
 -- storing one counter in memory is setting one counter of the list.
 --
---   length-countersIn, length-counterNumbers
+--   length-counterNumbers   four numbers for each counter
 --   counters-kept       the counters that a memory holds, written over it, leave it as it is
 --   counters-read       counters written in front are read back
 --   counterAt-countersIn   one counter of these
 --   setCounter-set      a counter stored at a place in use
---   setCounter-append   a counter stored at the next unused place
 --   set-reported        the last number of a counter set
 --   overwrite-set, overwrite-append   the same, over the memory that the counters were read from
 use Prim.Native.Nat.{ℕ, zero, suc, _+_, _*_, _<_, _≤_}
@@ -18,13 +17,10 @@ use lib.Seq.{getD-drop}
 use Rattle.laws.proofs.FlatMemory.{four, four-suc}
 use Rattle.model.specs.Counters.{Counter, counterAt}
 use Rattle.model.specs.SiteMemory.{countersIn, counterNumbers, overwrite}
+use Rattle.model.proofs.ConsistentSites.{length-countersIn}
 use Rattle.counters.specs.Stored.{storedAt, setCounter}
 
 -- ---- Lengths
-
-pub length-countersIn : (n : ℕ) (memory : List ℕ) → length (countersIn n memory) ≡ n
-length-countersIn zero memory = refl
-length-countersIn (suc n) memory = ap suc (length-countersIn n (drop 4 memory))
 
 pub length-counterNumbers : (counters : List Counter)
     → length (counterNumbers counters) ≡ 4 * length counters
@@ -96,14 +92,6 @@ setCounter-set (counter ∷ counters) rest zero x within = refl
 setCounter-set (counter ∷ counters) rest (suc i) x within =
     setCounter-suc counter x (counterNumbers counters ++ rest) i
     ∙ ap (in-front counter) (setCounter-set counters rest i x (omega arith))
-
-pub setCounter-append : (counters : List Counter) (old x : Counter) (rest : List ℕ)
-    → setCounter (counterNumbers counters ++ in-front old rest) (length counters) x
-    ≡ counterNumbers (counters ++ (x ∷ [])) ++ rest
-setCounter-append [] old x rest = refl
-setCounter-append (counter ∷ counters) old x rest =
-    setCounter-suc counter x (counterNumbers counters ++ in-front old rest) (length counters)
-    ∙ ap (in-front counter) (setCounter-append counters old x rest)
 
 -- A counter with another reported number.
 abbrev pub withReported : Counter → ℕ → Counter

@@ -4,15 +4,13 @@
 --   countersFrom memory used i     the counters in use from place i on
 --   Searching, find-start, find-end, find-here, find-on   the search at place i
 --   Scanning, least-start, least-end, least-new, least-old   the scan at place i
---   find-le, leastPlace-lt         where the answers lie
 use Prim.Native.Nat.{ℕ, zero, suc, _+_, _-_, _*_, _<_, _≤_}
 use mathlib.Core.Path.{_≡_, refl, sym, _∙_}
 use mathlib.Core.List.{List, [], _∷_}
-use mathlib.Core.Bool.{Bool, true, false}
+use mathlib.Core.Bool.{true, false}
 use native.Mathlib.Omega.{arith}
-use lib.ListN.{length, getD, drop}
+use lib.ListN.{getD, drop}
 use lib.Seq.{drop-drop, getD-drop}
-use lib.Dec.{eqb}
 use borrow.Author.Tests.{eq-eqb, ne-eqb}
 use Rattle.model.specs.Counters.{Counter, find, precedes, leastFrom, leastPlace}
 use Rattle.model.specs.SiteMemory.{countersIn}
@@ -78,17 +76,6 @@ module _ (memory : List ℕ) (used i item : ℕ) (searching : Searching memory u
       rw (counters-cons memory used i inside, ne-eqb _ _ other, find) (omega arith) in
       record { within = omega arith; later = searching .later ∙ further }
 
--- The search ends at a counter, or one past the last.
-pub find-le : (item : ℕ) (counters : List Counter) → find item counters ≤ length counters
-find-le item [] = omega arith
-find-le item (counter ∷ counters) = by-item (eqb (counter .item) item) refl (find-le item counters)
-  where
-    by-item : (test : Bool) → eqb (counter .item) item ≡ test
-        → find item counters ≤ length counters
-        → find item (counter ∷ counters) ≤ length (counter ∷ counters)
-    by-item true e later = rw (e, find) (omega arith)
-    by-item false e later = rw (e, find) (omega arith)
-
 -- ---- The scan for the least count
 
 -- The scan goes on from place i, with the best place so far.
@@ -124,27 +111,3 @@ module _ (memory : List ℕ) (used i best : ℕ) (scanning : Scanning memory use
     best-before = omega (arith, scanning .best-before);
     later = scanning .later ∙ rw (counters-cons memory used i inside, old, leastFrom);
   }
-
--- The place of the least count is one of the places.
-leastFrom-lt : (i best : ℕ) (least : Counter) (counters : List Counter)
-    → best < i
-    → leastFrom i best least counters < i + length counters
-leastFrom-lt i best least [] below = omega arith
-leastFrom-lt i best least (counter ∷ counters) below =
-    by-order (precedes counter least) refl
-    (leastFrom-lt (i + 1) i counter counters (omega arith))
-    (leastFrom-lt (i + 1) best least counters (omega arith))
-  where
-    by-order : (test : Bool) → precedes counter least ≡ test
-        → leastFrom (i + 1) i counter counters < i + 1 + length counters
-        → leastFrom (i + 1) best least counters < i + 1 + length counters
-        → leastFrom i best least (counter ∷ counters) < i + length (counter ∷ counters)
-    by-order true e new old = rw (e, leastFrom) (omega arith)
-    by-order false e new old = rw (e, leastFrom) (omega arith)
-
-pub leastPlace-lt : (counters : List Counter)
-    → 0 < length counters
-    → leastPlace counters < length counters
-leastPlace-lt [] some = absurd (omega arith)
-leastPlace-lt (counter ∷ counters) some =
-    omega (arith, leastFrom-lt 1 0 counter counters (omega arith))

@@ -25,6 +25,7 @@ use Rattle.model.proofs.SoundSites.{ArrivalTaken, taken-of-no-refusal}
 use Rattle.model.proofs.DeliveryTheorem.{delivery-claims}
 use Rattle.model.proofs.Stages.{Stage}
 use Rattle.model.proofs.SoundTheorem.{StillLeft, reached-left, sound-claims}
+use Rattle.site_memory.proofs.SitesMemoryLaws.{all-storable}
 use Rattle.delivery.specs.Bounded.{Bounded}
 use Rattle.delivery.specs.Holding.{Given, Accepting, Going, rested}
 use Rattle.delivery.proofs.StageNumbers.{at-stage}
@@ -73,11 +74,7 @@ pub stored-of-sound : {settings : Settings} {network : Network}
     → Stored settings network
 stored-of-sound {settings} {network} all sites numbers = record {
   all-sites = all;
-  sites-stored = record {
-    at = λ j j<.
-        let site = sites j (omega (arith, all)) in
-        record { few-counters = site .few-counters; all-values = site .histogram-length };
-  };
+  sites-stored = all-storable all sites;
   coordinator-stored = stored-coordinator numbers;
 }
 

@@ -22,7 +22,7 @@ use Rattle.model.specs.Site.{Site, SiteStep, siteReceives}
 use Rattle.model.specs.SiteMemory.{siteWords, siteIn, siteRecord}
 use Rattle.model.specs.Network.{Network, siteAt, withSite}
 use Rattle.model.specs.DeliveryClaims.{delivery, deliveryStep}
-use Rattle.site_memory.specs.Ready.{SiteReady}
+use Rattle.model.specs.SoundNetwork.{SoundSite}
 use Rattle.site_steps.specs.declared.Answered as SiteAnswer
 use Rattle.site_steps.specs.Steps.{ReceiveAsks, ReceiveStepSays}
 use Rattle.site_steps.proofs.ReceiveLaws.{Due, message-due}
@@ -34,7 +34,7 @@ use Rattle.sending.specs.Sending.{withoutHead, SendAsks}
 use Rattle.delivery.specs.UnderwayParts.{trafficOf}
 use Rattle.delivery.specs.Holding.{State, state, answered, Holds, Fits, Delivering}
 use Rattle.delivery.specs.Handing.{siteOfHead}
-use Rattle.delivery.proofs.StageNumbers.{at-stage, site-ready}
+use Rattle.delivery.proofs.StageNumbers.{at-stage}
 use Rattle.site_memory.proofs.SitePart.{few-sites, start-small, part, part-is}
 use Rattle.delivery.proofs.QuietSteps.{quiet-site}
 use Rattle.delivery.proofs.HoldingLaws.{part-long, part-starts, site-read, holds-answer, holds-site}
@@ -105,9 +105,8 @@ module _ {settings : Settings} {held : State} (u : Delivering settings held)
           settings-accepted = fits .settings-accepted;
           long-enough = rw own-is
               (part-long fits (going-stored (hand .going)) (hand .holds) j site-known);
-          site-ready = subst⁻¹ (SiteReady settings) read
-              (site-ready
-              (at-stage (going-stage (hand .going)) .together .sites-sound j site-known));
+          site-sound = subst⁻¹ (SoundSite settings) read
+              (at-stage (going-stage (hand .going)) .together .sites-sound j site-known);
         };
         value-known = due .value-known;
       }

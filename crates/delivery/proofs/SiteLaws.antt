@@ -16,18 +16,18 @@ use Rattle.model.specs.Site.{Site, SiteStep, observed}
 use Rattle.model.specs.SiteMemory.{siteWords, siteIn, siteRecord, siteMemory}
 use Rattle.model.specs.Network.{siteAt}
 use Rattle.model.specs.NetworkMemory.{sitesMemory}
+use Rattle.model.specs.SoundNetwork.{SoundSite}
 use Rattle.model.proofs.SoundSites.{sound-observed}
 use Rattle.model.proofs.NeverFewer.{observed-grows}
-use Rattle.site_memory.specs.Ready.{SiteReady}
 use Rattle.site_steps.specs.declared.Observed.{Observed}
 use Rattle.site_steps.specs.Steps.{ObserveAsks, ObserveStepSays}
 use Rattle.site_memory.specs.Records.{noRecord}
+use Rattle.site_memory.proofs.OneSite.{storable}
 use Rattle.site_memory.proofs.SitesMemoryLaws.{sitesMemory-set}
 use Rattle.site_memory.proofs.SitePart.{few-sites, start-small, part, part-is}
 use Rattle.sending.specs.Sending.{queueOf}
 use Rattle.delivery.specs.Holding.{State, state, Holds, Fits}
 use Rattle.delivery.specs.Arriving.{ArrivalAsks, stepAt, takenAt, Taken, outOf, putBack}
-use Rattle.delivery.proofs.StageNumbers.{site-ready}
 use Rattle.delivery.proofs.HoldingLaws.{Stored, part-long, part-starts, site-read, holds-site}
 use Rattle.delivery.proofs.GoingLaws.{stored-of-sound, going-fit, going-taken}
 
@@ -80,8 +80,8 @@ module _ {settings : Settings} {arrival : Arrival} {held : State}
       ready = record {
         settings-accepted = fits .settings-accepted;
         long-enough = rw own-is (part-long fits stored (u .holds) j site-known);
-        site-ready = subst⁻¹ (SiteReady settings) read
-            (site-ready (u .accepting .sound .sites-sound j site-known));
+        site-sound = subst⁻¹ (SoundSite settings) read
+            (u .accepting .sound .sites-sound j site-known);
       };
       not-refused = rw read (u .accepting .taken);
     }
@@ -107,17 +107,13 @@ module _ {settings : Settings} {arrival : Arrival} {held : State}
           says .memory
           ∙ ap (λ (x : Site). siteMemory settings (observed settings x arrival .site) own) read
           ∙ ap (siteMemory settings (after .site)) own-is in
-          let sound = u .accepting .sound .sites-sound j site-known in
           let sound-after =
           sound-observed (going-fit (u .accepting) .capacity .at-least) (going-taken (u .accepting))
-          sound in
+          (u .accepting .sound .sites-sound j site-known) in
           rw (words-are, nothing-past, append-nil part-after, written, u .holds .site-memory)
           (sitesMemory-set settings (u .network .sites) (u .given .siteMemory) j (after .site)
           (stored .sites-stored)
-          (record {
-            few-counters = sound-after .few-counters;
-            all-values = sound-after .histogram-length;
-          })
+          (storable sound-after)
           (observed-grows settings site arrival)
           (rw (stored .all-sites) (fits .site-memory-long))
           (omega (arith, site-known, stored .all-sites)))

@@ -1,8 +1,7 @@
--- In mid-delivery every number is small enough for the steps: what the steps of the sites and of
--- the coordinator require, from the stage that the delivery is at. PROOF.md section 8.
+-- In mid-delivery every number is small enough for the steps: what the steps of the coordinator
+-- require, from the stage that the delivery is at. PROOF.md section 8.
 --
 --   total-small, sum-small, arrivals-small    at most k * 10^9 each
---   site-ready                                a sound site as the steps on it ask for it
 --   coordinator-ready                         the coordinator as its steps ask for it
 -- Letters: k the sites, j one of them.
 use mathlib.Core.Path.{_≡_, refl}
@@ -17,42 +16,17 @@ use Rattle.model.specs.declared.Settings.{Settings}
 use Rattle.model.specs.declared.Message.{Message}
 use Rattle.model.specs.declared.Phase.the-variants.{Idle, Announcing}
 use Rattle.model.specs.Limits.{siteLimit}
-use Rattle.model.specs.Site.{Site}
 use Rattle.model.specs.Network.{Network}
 use Rattle.model.specs.NetworkMemory.{allArrivals}
-use Rattle.model.specs.SoundNetwork.{SoundSite, sumOfPhase}
+use Rattle.model.specs.SoundNetwork.{sumOfPhase}
 use Rattle.model.proofs.SettingsLaws.{Settled}
 use Rattle.model.proofs.SitesInvariant.{arrivalsAt}
 use Rattle.model.proofs.ClosedSites.{sumBelow-allArrivals}
 use Rattle.model.proofs.Together.{Together, total-bounded}
 use Rattle.model.proofs.Stages.{Announces, Stage, reporting, polling, halving, announcing}
 use Rattle.model.proofs.StageFacts.{stage-coordinator}
-use Rattle.site_memory.specs.Ready.{SiteReady}
 use Rattle.coordinator_steps.specs.Ready.{CoordinatorReady}
 use Rattle.delivery.specs.Bounded.{Bounded}
-
--- ---- A site
-
-pub site-ready : {settings : Settings} {site : Site}
-    → SoundSite settings site
-    → SiteReady settings site
-site-ready {settings} {site} sound = record {
-  counters-within = sound .few-counters;
-  counters-ready = λ place inside.
-      let counter = sound .counters-sound place inside in
-      record {
-        item-known = counter .item-known;
-        parts-within = counter .within-count;
-        count-within = counter .count-within;
-        report-not-due = counter .unreported-below;
-      };
-  arrivals-within = sound .arrivals-within;
-  values-counted = sound .histogram-length;
-  values-sum = sound .histogram-sum;
-  pending-within = sound .pending-below;
-  threshold-positive = sound .threshold-positive;
-  threshold-within = sound .threshold-within;
-}
 
 -- ---- All sites together, at every stage
 

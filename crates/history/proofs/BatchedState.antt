@@ -22,7 +22,7 @@ use Rattle.model.specs.Runs.{Run, runFrom, runOf, Batch, batchOf}
 use Rattle.model.specs.SoundNetwork.{Sound}
 use Rattle.model.proofs.SettingsLaws.{Settled, settled}
 use Rattle.model.proofs.RunLaws.{runFrom-append}
-use Rattle.site_memory.proofs.SitesMemoryLaws.{AllStorable, length-siteRecords, length-sitesMemory}
+use Rattle.site_memory.proofs.SitesMemoryLaws.{AllStorable, all-storable, length-siteRecords, length-sitesMemory}
 use Rattle.site_memory.proofs.SitesReading.{sitesIn-sitesMemory}
 use Rattle.coordinator_kinds.proofs.MemoryLaws.{written-coordinator}
 use Rattle.tracker_steps.specs.declared.BatchAnswer.{BatchAnswer}
@@ -45,15 +45,8 @@ module _ {settings : Settings} (passes : settingsRefusal settings ≡ accepted) 
   fit : Settled settings
   fit = settled settings passes
 
-  pub storable : AllStorable settings (network .sites)
-  storable = record {
-    at = λ j inside.
-        let site-sound = sound .sites-sound j (omega (arith, sound .all-sites)) in
-        record {
-          few-counters = site-sound .few-counters;
-          all-values = site-sound .histogram-length;
-        };
-  }
+  sites-fit : AllStorable settings (network .sites)
+  sites-fit = all-storable (sound .all-sites) (sound .sites-sound)
 
   long : length (network .sites) * siteWords settings ≤ length (held .siteMemory)
   long = rw (sound .all-sites) (lengths .sites-long)
@@ -72,7 +65,7 @@ module _ {settings : Settings} (passes : settingsRefusal settings ≡ accepted) 
       (sitesMemory settings (network .sites) (held .siteMemory)))
       (sym (sound .all-sites))
       ∙ sitesIn-sitesMemory settings (network .sites) (held .sites .records) (held .siteMemory)
-      storable enough long in
+      sites-fit enough long in
       let coordinator : coordinatorIn settings (coordinatorRecord (network .coordinator))
       (coordinatorMemory (network .coordinator) (held .coordinatorMemory))
       ≡ network .coordinator =
@@ -90,7 +83,7 @@ module _ {settings : Settings} (passes : settingsRefusal settings ≡ accepted) 
     sites-long =
         omega (
           arith,
-          length-sitesMemory settings (network .sites) (held .siteMemory) storable long,
+          length-sitesMemory settings (network .sites) (held .siteMemory) sites-fit long,
           lengths .sites-long,
         );
     coordinator-long =

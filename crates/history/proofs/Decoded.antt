@@ -25,13 +25,14 @@ use Rattle.model.specs.CoordinatorMemory.{coordinatorWords, coordinatorIn, coor
 use Rattle.model.specs.Network.{siteAt, withSite}
 use Rattle.model.specs.NetworkMemory.{sitesWords, sitesIn}
 use Rattle.model.specs.SoundNetwork.{SoundSite}
-use Rattle.model.proofs.SettingsLaws.{Settled, settled}
-use Rattle.model.proofs.ConsistentSites.{length-countersIn, consistent-of-sound}
+use Rattle.model.proofs.SettingsLaws.{settled}
+use Rattle.model.proofs.ConsistentSites.{consistent-of-sound}
 use Rattle.site_memory.proofs.SiteMemoryLaws.{siteIn-siteMemory}
 use Rattle.site_memory.proofs.OneSite.{Storable}
-use Rattle.site_memory.proofs.SitesReading.{getD-sitesIn}
+use Rattle.site_memory.proofs.SitesReading.{getD-sitesIn, length-sitesIn, used-within}
+use Rattle.site_steps.proofs.ReceiveLaws.{siteIn-received}
 use Rattle.history.specs.State.{Held, networkOf, recordAt, siteStart, sitePart, withPart, afterSiteCall}
-use Rattle.history.proofs.SiteParts.{siteIn-take, front-long, siteIn-received}
+use Rattle.history.proofs.SiteParts.{siteIn-take, front-long}
 use Rattle.history.proofs.SitesMemory.{offset, offset-is, sitesIn-set, written, length-written, part-written, sitesIn-written}
 
 -- 32 records, and as much memory as the network needs.
@@ -45,6 +46,23 @@ abbrev pub SitesSound : Settings → Held → Type 0
 SitesSound settings held =
     (j : ℕ) → j < settings .sites → SoundSite settings (siteAt (networkOf settings held) j)
 
+-- ---- All records
+
+module _ {settings : Settings} (passes : settingsRefusal settings ≡ accepted) (held : Held)
+    (lengths : Lengths settings held) where
+  enough : settings .sites ≤ length (held .sites .records)
+  enough = omega (arith, lengths .all-records, settled settings passes .sites .at-most)
+
+  -- No more counters in use than there are.
+  pub used-at : SitesSound settings held
+      → (j : ℕ) → j < settings .sites
+      → recordAt held j .used ≤ settings .capacity
+  used-at sound j known =
+      let records = held .sites .records in
+      used-within (siteRecord freshSite) (settings .sites) settings records (held .siteMemory)
+      (length-sitesIn (settings .sites) settings records (held .siteMemory) enough) j known
+      (sound j known)
+
 -- ---- One site
 
 module _ {settings : Settings} (passes : settingsRefusal settings ≡ accepted) (held : Held)
@@ -55,12 +73,6 @@ module _ {settings : Settings} (passes : settingsRefusal settings ≡ accepted) 
 
   abbrev rest : List ℕ
   rest = drop (siteStart settings j) (held .siteMemory)
-
-  fit : Settled settings
-  fit = settled settings passes
-
-  enough-records : settings .sites ≤ length (held .sites .records)
-  enough-records = omega (arith, lengths .all-records, fit .sites .at-most)
 
   -- The part of site j lies within the memory: (j + 1) * words ≤ k * words.
   pub in-memory : siteStart settings j + words ≤ length (held .siteMemory)
@@ -75,23 +87,15 @@ module _ {settings : Settings} (passes : settingsRefusal settings ≡ accepted) 
   site-is : siteAt (networkOf settings held) j ≡ siteIn settings (recordAt held j) rest
   site-is =
       getD-sitesIn (siteRecord freshSite) (settings .sites) settings (held .sites .records)
-      (held .siteMemory) j known enough-records
-
-  -- The site that is read there is sound.
-  pub rest-sound : SoundSite settings (siteIn settings (recordAt held j) rest)
-  rest-sound = rw site-is at (sound j known)
-
-  -- No more counters in use than there are.
-  pub used-at : recordAt held j .used ≤ settings .capacity
-  used-at =
-      omega (arith, rest-sound .few-counters, length-countersIn (recordAt held j .used) rest)
+      (held .siteMemory) j known (enough passes held lengths)
 
   -- A part of at least the site's own numbers holds the site.
   pub site-part : (n : ℕ) → words ≤ n
       → siteIn settings (recordAt held j) (sitePart settings held j n)
       ≡ siteAt (networkOf settings held) j
-  site-part n enough =
-      siteIn-take settings (recordAt held j) n rest used-at enough rest-long
+  site-part n within =
+      siteIn-take settings (recordAt held j) n rest (used-at passes held lengths sound j known)
+      within rest-long
       ∙ sym site-is
 
   -- A part of at least the site's own numbers is long enough.
@@ -112,18 +116,6 @@ module _ {settings : Settings} (passes : settingsRefusal settings ≡ accepted) 
       )
 
   -- ---- Put back
-
-  -- Every site before this one has its counters within its own part.
-  earlier-within : (i : ℕ) → i < j → recordAt held i .used ≤ settings .capacity
-  earlier-within i i<j =
-      let known-i : i < settings .sites = omega arith in
-      let at = drop (siteStart settings i) (held .siteMemory) in
-      let here : siteAt (networkOf settings held) i ≡ siteIn settings (recordAt held i) at =
-      getD-sitesIn (siteRecord freshSite) (settings .sites) settings (held .sites .records)
-      (held .siteMemory) i known-i enough-records in
-      let sound-i : SoundSite settings (siteIn settings (recordAt held i) at) =
-      rw here at (sound i known-i) in
-      omega (arith, sound-i .few-counters, length-countersIn (recordAt held i .used) at)
 
   module _ (site : Site) (fits : Storable settings site) where
     abbrev putBack : ℕ → Held
@@ -170,7 +162,8 @@ module _ {settings : Settings} (passes : settingsRefusal settings ≡ accepted) 
         ∙ ap (λ (from : ℕ). written settings from site (held .siteMemory))
         (sym (offset-is words j)))
         ∙ sitesIn-written settings site fits (settings .sites) j (held .sites .records)
-        (siteRecord site) (siteRecord freshSite) (held .siteMemory) in-memory-at earlier-within
+        (siteRecord site) (siteRecord freshSite) (held .siteMemory) in-memory-at
+        (λ i i<j. used-at passes held lengths sound i (omega arith))
         ∙ ap (set (sitesIn (settings .sites) settings (held .sites .records) (held .siteMemory)) j)
         (ap (λ (from : ℕ).
         siteIn settings (siteRecord site)

@@ -6,33 +6,31 @@
 use mathlib.Core.Path.{_≡_, refl, sym, ap, _∙_}
 use mathlib.Core.Bool.{Bool, true, false, not}
 use mathlib.Core.List.{List, [], _∷_, _++_, append-nil}
-use Prim.Native.Nat.{ℕ, suc, zero, _+_, _-_, _≤_, _<_}
+use Prim.Native.Nat.{ℕ, _+_, _-_, _≤_}
 use native.Mathlib.Omega.{arith}
 use lib.Dec.{ltb}
-use lib.ListN.{length, drop}
+use lib.ListN.{length}
 use borrow.Author.Tests.{eq-eqb, eqb-true, ltb-false, not-false}
 use Rattle.laws.proofs.Tests.{neither-of-or}
 use Rattle.model.specs.declared.Settings.{Settings}
 use Rattle.model.specs.declared.Arrival.{Arrival}
-use Rattle.model.specs.declared.SiteRecord.{SiteRecord}
 use Rattle.model.specs.Choice.{isZero}
 use Rattle.model.specs.Refusals.{accepted}
 use Rattle.model.specs.Settings.{settingsRefusal}
 use Rattle.model.specs.Site.{freshSite}
-use Rattle.model.specs.SiteMemory.{siteWords, siteIn, siteRecord}
+use Rattle.model.specs.SiteMemory.{siteRecord}
 use Rattle.model.specs.CoordinatorMemory.{coordinatorWords}
-use Rattle.model.specs.Network.{Network, siteAt, afterArrival}
-use Rattle.model.specs.NetworkMemory.{sitesWords, networkRefusal, networkTooShort, networkConsistent, sitesIn}
+use Rattle.model.specs.Network.{Network, afterArrival}
+use Rattle.model.specs.NetworkMemory.{sitesWords, networkRefusal, networkTooShort, networkConsistent}
 use Rattle.model.specs.Runs.{Batch, batchRefusal, batchFrom, batchOf}
 use Rattle.model.specs.SoundNetwork.{Sound}
 use Rattle.model.proofs.RefusalLaws.{both-accepted, passed}
-use Rattle.model.proofs.ConsistentSites.{length-countersIn}
 use Rattle.model.proofs.ConsistentNetwork.{network-sound-of}
-use Rattle.site_memory.proofs.SitesReading.{getD-sitesIn, siteRecords-sitesIn, sitesMemory-sitesIn}
+use Rattle.site_memory.proofs.SitesReading.{enough-records, used-within, siteRecords-sitesIn, sitesMemory-sitesIn}
 use Rattle.coordinator_kinds.proofs.MemoryLaws.{memory-kept}
 use Rattle.tracker_steps.specs.declared.BatchAnswer.{BatchAnswer}
 use Rattle.tracker.specs.Batch.{BatchCall, BatchLent, BatchSays, startRefusal, batchIn, unlessRefused}
-use Rattle.history.specs.State.{Held, State, networkOf, recordAt, siteStart}
+use Rattle.history.specs.State.{Held, State, networkOf}
 use Rattle.history.specs.Histories.{batchCall, afterBatch}
 
 -- ---- A batch of the model that accepts nothing
@@ -126,32 +124,6 @@ passes-of settings held none =
           (not-false consistent (consistent-row .test-failed));
     }
 
--- No more sites are read than there are records.
-length-sitesIn-le : (k : ℕ) (settings : Settings) (records : List SiteRecord) (memory : List ℕ)
-    → length (sitesIn k settings records memory) ≤ length records
-length-sitesIn-le zero settings records memory = omega arith
-length-sitesIn-le (suc k) settings [] memory = omega arith
-length-sitesIn-le (suc k) settings (first ∷ others) memory =
-    omega (arith, length-sitesIn-le k settings others (drop (siteWords settings) memory))
-
-module _ (settings : Settings) (held : Held) (ok : Passes settings held) where
-  enough-records : settings .sites ≤ length (held .sites .records)
-  enough-records =
-      omega (
-        arith,
-        ok .sound .all-sites,
-        length-sitesIn-le (settings .sites) settings (held .sites .records) (held .siteMemory),
-      )
-
-  used-within : (j : ℕ) → j < settings .sites → recordAt held j .used ≤ settings .capacity
-  used-within j known =
-      let at = drop (siteStart settings j) (held .siteMemory) in
-      let here : siteAt (networkOf settings held) j ≡ siteIn settings (recordAt held j) at =
-      getD-sitesIn (siteRecord freshSite) (settings .sites) settings (held .sites .records)
-      (held .siteMemory) j known enough-records in
-      let few = rw here at (ok .sound .sites-sound j known .few-counters) in
-      omega (arith, few, length-countersIn (recordAt held j .used) at)
-
 -- ---- The state after the call
 
 module _ (before : State) (given : Settings) (arrivals : List Arrival) (log : List ℕ)
@@ -208,9 +180,14 @@ module _ (before : State) (given : Settings) (arrivals : List Arrival) (log : Li
       by-start _ _ (lent .siteMemory) (says .site-memory)
       (λ none.
       let ok = passes-of given held none in
+      let k = given .sites in
+      let records = held .sites .records in
+      let all = ok .sound .all-sites in
       rw (idle-batch none .network-same)
-      (sitesMemory-sitesIn (siteRecord freshSite) (given .sites) given (held .sites .records)
-      (held .siteMemory) (used-within given held ok) (enough-records given held ok)
+      (sitesMemory-sitesIn (siteRecord freshSite) k given records (held .siteMemory)
+      (λ j known. used-within (siteRecord freshSite) k given records (held .siteMemory) all j known
+      (ok .sound .sites-sound j known))
+      (enough-records k given records (held .siteMemory) all)
       (ok .sites-long)))
 
   coordinator-memory-same : lent .coordinatorMemory ≡ held .coordinatorMemory

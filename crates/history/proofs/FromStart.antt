@@ -24,7 +24,7 @@ use Rattle.model.specs.NetworkMemory.{sitesWords, sitesMemory}
 use Rattle.model.specs.Runs.{runOf}
 use Rattle.model.proofs.SettingsLaws.{settled}
 use Rattle.model.proofs.NeverFewer.{counters-kept, values-kept, NoFewer, observed-grows, run-no-fewer}
-use Rattle.site_memory.proofs.SitesMemoryLaws.{sitesMemory-set, sitesMemory-kept}
+use Rattle.site_memory.proofs.SitesMemoryLaws.{all-storable, sitesMemory-set, sitesMemory-kept}
 use Rattle.site_memory.proofs.SitesReading.{sitesMemory-sitesIn}
 use Rattle.site_memory.proofs.SitesFronts.{sitesMemory-again}
 use Rattle.site_steps.specs.declared.Observed.{Observed}
@@ -39,7 +39,7 @@ use Rattle.history.proofs.Decoded.{Lengths, SitesSound, used-at, memory
 use Rattle.history.proofs.Underway.{SoundRest, Underway, in-mid}
 use Rattle.history.proofs.Invariant.{StateOk, Standing, resting, delivering}
 use Rattle.history.proofs.Accepted.{resting-of, sound-rest-of}
-use Rattle.history.proofs.BatchedState.{storable, network-written}
+use Rattle.history.proofs.BatchedState.{network-written}
 use Rattle.history.proofs.BatchedState as Batched
 use Rattle.history.proofs.LentBatch.{of-lent-batch}
 use Rattle.history.proofs.SingleState as Single
@@ -156,7 +156,7 @@ module _ {settings : Settings} (passes : settingsRefusal settings ≡ accepted) 
         ++ siteMemory settings site (drop (siteStart settings j) memory))
         (from .site-memory)
         ∙ sitesMemory-set settings (network .sites) (start .siteMemory) j site
-        (storable passes held (rest .lengths) network old 0) fits
+        (all-storable (old .all-sites) (old .sites-sound)) fits
         (observed-grows settings (siteAt network j) arrival)
         (rw (old .all-sites) (from .start-long)) (omega (arith, known, old .all-sites))
         ∙ ap (λ (x : Network). sitesMemory settings (x .sites) (start .siteMemory)) (sym read))
@@ -230,8 +230,8 @@ module _ {settings : Settings} (passes : settingsRefusal settings ≡ accepted)
       (ap (sitesMemory settings (then .sites)) (from .site-memory)
       ∙ sitesMemory-again settings (networkOf settings (state .held) .sites) (then .sites)
       (start .siteMemory)
-      (storable passes (state .held) (ok .lengths) (networkOf settings (state .held)) old 0)
-      (storable passes (state .held) (ok .lengths) then new 0) same-many grows long
+      (all-storable (old .all-sites) (old .sites-sound))
+      (all-storable (new .all-sites) (new .sites-sound)) same-many grows long
       ∙ ap (λ (x : Network). sitesMemory settings (x .sites) (start .siteMemory)) (sym read))
 
   -- Every step keeps it.

@@ -22,6 +22,7 @@ use Rattle.model.specs.Coordinator.{coordinatorReceives}
 use Rattle.model.specs.Network.{Network}
 use Rattle.model.specs.NetworkMemory.{sitesWords, siteRecords, sitesMemory}
 use Rattle.model.specs.SoundNetwork.{Sound}
+use Rattle.site_memory.proofs.SitesMemoryLaws.{all-storable}
 use Rattle.site_steps.specs.declared.Observed.{Observed}
 use Rattle.site.specs.Calls.{ObserveSays}
 use Rattle.tracker_steps.specs.declared.BatchAnswer.{BatchAnswer}
@@ -36,7 +37,6 @@ use Rattle.history.proofs.Decoded.{Lengths, in-memory, memory-then}
 use Rattle.history.proofs.Underway.{SoundRest, Underway}
 use Rattle.history.proofs.Invariant.{StateOk, Standing, resting, delivering}
 use Rattle.history.proofs.Accepted.{sound-rest-of}
-use Rattle.history.proofs.BatchedState.{storable}
 use Rattle.history.proofs.BatchedState as Batched
 use Rattle.history.proofs.LentBatch.{of-lent-batch}
 use Rattle.history.proofs.SingleState as Single
@@ -49,12 +49,12 @@ pub kept-self : (settings : Settings) (held : Held) → TailsKept settings held 
 kept-self settings held = record { records = refl; site-memory = refl; coordinator-memory = refl }
 
 -- A whole network written over what is held.
-network-kept : (settings : Settings) (passes : settingsRefusal settings ≡ accepted) (held : Held)
-    (lengths : Lengths settings held) (network : Network)
+network-kept : (settings : Settings) (held : Held) (lengths : Lengths settings held)
+    (network : Network)
     → Sound settings network
     → (messages : ℕ)
     → TailsKept settings held (networkWritten settings held network messages)
-network-kept settings passes held lengths network sound messages =
+network-kept settings held lengths network sound messages =
     let all = sound .all-sites in
     let start : offset (siteWords settings) (length (network .sites)) ≡ sitesWords settings =
     offset-is (siteWords settings) (length (network .sites))
@@ -71,7 +71,7 @@ network-kept settings passes held lengths network sound messages =
           ≡ drop from (held .siteMemory))
           start
           (tail-sitesMemory settings (network .sites) (held .siteMemory)
-          (storable passes held lengths network sound messages)
+          (all-storable all (sound .sites-sound))
           (rw all (lengths .sites-long)));
       coordinator-memory =
           tail-coordinatorMemory settings (network .coordinator) (held .coordinatorMemory)
@@ -218,7 +218,7 @@ module _ {settings : Settings} (passes : settingsRefusal settings ≡ accepted)
       let network = batchIn (batchCall settings (state .held) arrivals log) .network in
       subst (λ (then : State). TailsKept settings (state .held) (then .held))
       (sym (Batched.after-is passes state ok at-rest arrivals log lent answer says))
-      (network-kept settings passes (state .held) (ok .lengths) network sound
+      (network-kept settings (state .held) (ok .lengths) network sound
       (after .held .sites .messages))
 
   -- ---- Every step

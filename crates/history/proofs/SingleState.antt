@@ -25,7 +25,7 @@ use Rattle.model.specs.SoundClaims.{Reached, begun}
 use Rattle.model.proofs.RefusalLaws.{BothAccepted, both-accepted}
 use Rattle.model.proofs.SettingsLaws.{settled}
 use Rattle.model.proofs.SoundSites.{ArrivalTaken, taken-of-no-refusal, sound-observed}
-use Rattle.site_memory.proofs.OneSite.{Storable}
+use Rattle.site_memory.proofs.OneSite.{Storable, storable}
 use Rattle.site_steps.specs.declared.Observed.{Observed}
 use Rattle.site.specs.Calls as SiteCalls
 use Rattle.history.specs.State.{Held, State, AtRest, networkOf, recordAt, siteStart, sitePart, withPart, afterSiteCall}
@@ -102,10 +102,7 @@ module _ {settings : Settings} (passes : settingsRefusal settings ≡ accepted)
 
   -- So it fits its part.
   pub site-fits : Storable settings site
-  site-fits = record {
-    few-counters = site-sound .few-counters;
-    all-values = site-sound .histogram-length;
-  }
+  site-fits = storable site-sound
 
   -- The state, by the model's step.
   abbrev pub after : State

@@ -3,23 +3,18 @@
 --
 --   siteIn-take                       a site read from a part that holds its numbers
 --   siteMemory-append                 a site written to such memory: what lies past stays
---   siteIn-received                   a site after a message, read back from its record alone
 --   siteIn-fresh                      the site of a fresh record in memory of zeros
-use mathlib.Core.Path.{_≡_, refl, ap, sym, _∙_}
-use mathlib.Core.Bool.{Bool, true, false}
+use mathlib.Core.Path.{_≡_, ap, sym, _∙_}
 use mathlib.Core.List.{List, [], _++_, append-assoc}
-use Prim.Native.Nat.{ℕ, _+_, _≤_}
+use Prim.Native.Nat.{ℕ, _≤_}
 use native.Mathlib.Omega.{arith}
 use lib.ListN.{length, take, drop, replicate, length-take, length-replicate, take-append-drop, replicate-append-replicate, length-append}
 use lib.Seq.{take-append-le, drop-append-le, take-at, drop-at}
 use Rattle.model.specs.declared.Settings.{Settings}
 use Rattle.model.specs.declared.SiteRecord.{SiteRecord}
-use Rattle.model.specs.declared.Message.{Message}
 use Rattle.model.specs.Limits.{valueCount}
-use Rattle.model.specs.Messages.{isPoll, isProbe}
-use Rattle.model.specs.Site.{Site, freshSite, siteReceives}
-use Rattle.model.specs.SiteMemory.{counterWords, siteWords, countersIn, siteIn, siteRecord, siteMemory}
-use Rattle.counters.proofs.CounterMemory.{length-countersIn}
+use Rattle.model.specs.Site.{Site, freshSite}
+use Rattle.model.specs.SiteMemory.{counterWords, siteWords, siteIn, siteRecord, siteMemory}
 use Rattle.site_memory.proofs.OneSite.{Storable, siteIn-front, siteMemory-front}
 
 -- ---- A site read
@@ -60,48 +55,6 @@ siteMemory-append settings site xs ys fits long =
     ∙ (λ i. siteMemory settings site (front i) ++ behind i)
     ∙ sym (append-assoc own (drop words xs) ys)
     ∙ ap (λ (numbers : List ℕ). numbers ++ ys) (sym (siteMemory-front settings site xs fits long))
-
--- ---- A site after a message
-
--- A message changes single numbers alone: the site is read back from its record then.
-pub siteIn-received : (settings : Settings) (numbers : SiteRecord) (m : Message) (memory : List ℕ)
-    → siteIn settings (siteRecord (siteReceives (siteIn settings numbers memory) m .site)) memory
-    ≡ siteReceives (siteIn settings numbers memory) m .site
-siteIn-received settings numbers m memory = by-kind (isPoll m) refl (isProbe m) refl
-  where
-    same : countersIn (length (countersIn (numbers .used) memory)) memory
-        ≡ countersIn (numbers .used) memory
-    same = ap (λ (n : ℕ). countersIn n memory) (length-countersIn (numbers .used) memory)
-
-    by-kind : (polls : Bool) → isPoll m ≡ polls
-        → (probes : Bool) → isProbe m ≡ probes
-        → siteIn settings (siteRecord (siteReceives (siteIn settings numbers memory) m .site))
-        memory
-        ≡ siteReceives (siteIn settings numbers memory) m .site
-    by-kind true polls probes _ =
-        rw polls (λ i. record {
-          counters = same i;
-          histogram = take valueCount (drop (counterWords settings) memory);
-          arrivals = numbers .arrivals;
-          pending = 0;
-          threshold = numbers .threshold;
-        })
-    by-kind false no-poll true probes =
-        rw (no-poll, probes) (λ i. record {
-          counters = same i;
-          histogram = take valueCount (drop (counterWords settings) memory);
-          arrivals = numbers .arrivals;
-          pending = numbers .pending;
-          threshold = numbers .threshold;
-        })
-    by-kind false no-poll false no-probe =
-        rw (no-poll, no-probe) (λ i. record {
-          counters = same i;
-          histogram = take valueCount (drop (counterWords settings) memory);
-          arrivals = numbers .arrivals;
-          pending = numbers .pending;
-          threshold = m .a;
-        })
 
 -- ---- A fresh site
 

@@ -1,7 +1,8 @@
 -- Refusal 11 of the batch call means `Sound` within the limits: memory that passes holds a sound
 -- network, and a sound network within the limits passes. Document 01, "Inconsistent".
 --
---   length-sitesIn            as many sites are read as there are records, at most k
+--   SitesRead, sites-sound-of   the sites of memory that passes: all are read, each is sound
+--   Rows, rows-of             the rows of the test, each passed
 --   network-sound-of          what passes 4 and 11 holds a sound network
 --   network-consistent-of     a sound network within the limits passes
 use mathlib.Core.Path.{_≡_, refl, ap}
@@ -34,12 +35,12 @@ use Rattle.model.proofs.ConsistentCoordinator.{CoordinatorWithin, coord
 
 -- ---- The sites one after another
 
--- Each site that was read is consistent by itself, and none is missing.
+-- Each site that was read is sound by itself, and none is missing.
 pub record SitesRead (settings : Settings) (k : ℕ) (sites : List Site) : Type 0 where
   pub all-read : length sites ≡ k
   pub each-sound : (j : ℕ) → j < k → SoundSite settings (getD sites j freshSite)
 
-sites-sound-of : (k : ℕ) (settings : Settings) (numbers : List SiteRecord) (memory : List ℕ)
+pub sites-sound-of : (k : ℕ) (settings : Settings) (numbers : List SiteRecord) (memory : List ℕ)
     → k * siteWords settings ≤ length memory
     → sitesConsistent k settings numbers memory ≡ true
     → SitesRead settings k (sitesIn k settings numbers memory)
@@ -124,12 +125,13 @@ module _ (settings : Settings) (sites : Sites) (coordinator : CoordinatorRecord)
       (omega (arith, length-drop (settings .universe) coordinatorNumbers))
 
   -- The rows of the test that pass.
-  record Rows : Type 0 where
-    sites-row : sitesConsistent (settings .sites) settings (sites .records) siteNumbers ≡ true
-    coordinator-row : coordinatorConsistent settings (network .coordinator) ≡ true
-    rest-row : atRestTogether network ≡ true
+  pub record Rows : Type 0 where
+    pub sites-row : sitesConsistent (settings .sites) settings (sites .records) siteNumbers ≡ true
+    pub coordinator-row : coordinatorConsistent settings (network .coordinator) ≡ true
+    pub rest-row : atRestTogether network ≡ true
+    pub count-row : leb (sites .messages) messageLimit ≡ true
 
-  rows-of : networkConsistent settings sites coordinator siteNumbers coordinatorNumbers ≡ true
+  pub rows-of : networkConsistent settings sites coordinator siteNumbers coordinatorNumbers ≡ true
       → Rows
   rows-of passes =
       let first : Bool =
@@ -144,6 +146,7 @@ module _ (settings : Settings) (sites : Sites) (coordinator : CoordinatorRecord)
         sites-row = row-2 .first-true;
         coordinator-row = row-2 .second-true;
         rest-row = row-3 .second-true;
+        count-row = row-4 .second-true;
       }
 
   -- Memory that is long enough and passes holds a sound network.

@@ -3,6 +3,7 @@
 --
 --   ArrivalTaken           what an accepted arrival is known to be, at a site with room
 --   sound-fresh            a fresh site
+--   CountedAt, sound-counted   an arrival counted, before its report goes out
 --   sound-observed         an arrival; what moves then: pending-moves, unreported-moves
 --   sound-polled           kind 3; sound-told kind 7 (kind 5 changes nothing)
 --   upTo-within            kind 6 never counts more than the site's arrivals
@@ -20,7 +21,7 @@ use Rattle.model.specs.declared.Arrival.{Arrival}
 use Rattle.model.specs.Choice.{if_then_else_}
 use Rattle.model.specs.Refusals.{accepted, siteFull}
 use Rattle.model.specs.Limits.{valueCount, siteLimit}
-use Rattle.model.specs.Counters.{Counter, unreported, lostBy}
+use Rattle.model.specs.Counters.{unreported, lostBy}
 use Rattle.model.specs.Site.{Site, freshSite, addressRefusal, arrivalRefusal, oneMoreAt, placementIn, placeFor, countersWith, reportsItem, reportsCount, observed, upTo}
 use Rattle.model.specs.SiteMemory.{sum}
 use Rattle.model.specs.SoundNetwork.{SoundSite}
@@ -125,20 +126,20 @@ module _ {settings : Settings} {site : Site} (sound : SoundSite settings site) w
 
 -- ---- An arrival
 
+-- The site's counters with the arrival counted, its report not yet out.
+abbrev pub CountedAt : Settings → Site → Arrival → Type 0
+CountedAt settings site arrival =
+    CountedSound (settings .universe) (settings .capacity) (site .arrivals) (site .threshold)
+    (placeFor settings site arrival)
+    (lostBy (placementIn settings site arrival) (site .counters))
+    (site .counters) (countersWith settings site arrival)
+
 module _ {settings : Settings} {site : Site} {arrival : Arrival}
     (some-counter : 1 ≤ settings .capacity)
     (taken : ArrivalTaken settings site arrival)
     (sound : SoundSite settings site) where
-  abbrev place : ℕ
-  place = placeFor settings site arrival
-
-  abbrev counters : List Counter
-  counters = countersWith settings site arrival
-
-  counted : CountedSound (settings .universe) (settings .capacity) (site .arrivals)
-      (site .threshold) place (lostBy (placementIn settings site arrival) (site .counters))
-      (site .counters) counters
-  counted =
+  pub sound-counted : CountedAt settings site arrival
+  sound-counted =
       counted-sound (taken .known .item-known) (sound .threshold-positive)
       (record { few = sound .few-counters; each = sound .counters-sound })
       (placementFor-is (settings .capacity) (site .counters) (arrival .item) some-counter)
@@ -157,7 +158,7 @@ module _ {settings : Settings} {site : Site} {arrival : Arrival}
   -- An accepted arrival leaves the site sound.
   pub sound-observed : SoundSite settings (observed settings site arrival .site)
   sound-observed =
-      let reported = reported-sound (sound .threshold-positive) counted
+      let reported = reported-sound (sound .threshold-positive) sound-counted
       (reportsItem settings site arrival) refl in
       record {
         few-counters = reported .few;
@@ -187,5 +188,5 @@ module _ {settings : Settings} {site : Site} {arrival : Arrival}
       + lostBy (placementIn settings site arrival) (site .counters)
       ≡ sumOf unreported (site .counters) + 1
   unreported-moves =
-      unreported-observed (sound .threshold-positive) counted
+      unreported-observed (sound .threshold-positive) sound-counted
       (reportsItem settings site arrival) refl

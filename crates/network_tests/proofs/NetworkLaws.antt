@@ -1,81 +1,35 @@
 -- What the tests of a whole network are worth, test by test.
 --
---   consistent-at, enough-records     each site by itself, and a record for each
---   records-fit, counts-fit           numbers that can be added up
+--   counts-fit                        numbers that can be added up
 --   count-refused .. sites-refused    the rows of the test
 --   refused-settings .. refused-not   the rows of the refusal
 --   fits-of-long                      memory that is not too short
-use mathlib.Core.Path.{_≡_, sym}
-use mathlib.Core.Bool.{Bool, true, false, _&&_, false≢true}
-use mathlib.Core.List.{List, [], _∷_}
-use Prim.Native.Nat.{ℕ, zero, suc, _+_, _*_, _≤_, _<_}
-use native.Mathlib.Nat.{mul-le-mul-right}
+use mathlib.Core.Path.{_≡_, sym, subst}
+use mathlib.Core.Bool.{Bool, true, false, _&&_}
+use mathlib.Core.List.{List}
+use Prim.Native.Nat.{ℕ, _*_, _≤_, _<_}
 use native.Mathlib.Omega.{arith}
 use lib.Dec.{ltb}
-use lib.ListN.{length, getD, drop, length-drop}
-use lib.Seq.{drop-drop}
+use lib.ListN.{length, getD, drop}
 use borrow.Author.Tests.{ltb-false, le-leb, lt-leb}
-use Rattle.laws.proofs.Tests.{both-true, and-true, and-false, neither-of-or}
+use Rattle.laws.proofs.Tests.{and-true, and-false, neither-of-or}
 use Rattle.model.specs.declared.Settings.{Settings}
-use Rattle.model.specs.declared.SiteRecord.{SiteRecord}
 use Rattle.model.specs.declared.Sites.{Sites}
 use Rattle.model.specs.declared.CoordinatorRecord.{CoordinatorRecord}
 use Rattle.model.specs.Refusals.{accepted, memoryTooShort, memoryInconsistent}
 use Rattle.model.specs.Limits.{messageLimit}
 use Rattle.model.specs.Settings.{settingsRefusal}
-use Rattle.model.specs.SiteMemory.{siteWords, siteIn, siteConsistent}
+use Rattle.model.specs.SiteMemory.{siteWords, siteIn}
 use Rattle.model.specs.CoordinatorMemory.{coordinatorIn, coordinatorConsistent}
 use Rattle.model.specs.Network.{Network}
 use Rattle.model.specs.NetworkMemory.{sitesWords, networkIn, sitesConsistent, atRestTogether, networkConsistent, networkTooShort, networkRefusal}
 use Rattle.model.proofs.RefusalLaws.{refused-same}
-use Rattle.site_memory.specs.Ready.{SiteReady}
-use Rattle.site_memory.proofs.ReadyLaws.{ready-of-consistent}
+use Rattle.model.specs.SoundNetwork.{SoundSite}
 use Rattle.model.proofs.ConsistentCoordinator.{coordinator-within-of}
+use Rattle.model.proofs.ConsistentNetwork.{sites-sound-of}
 use Rattle.site_memory.specs.Records.{noRecord}
+use Rattle.site_memory.proofs.SitesReading.{getD-sitesIn, enough-records}
 use Rattle.network_tests.specs.Contracts.{SitesFit, NetworkFits, CountsFit}
-
-module _ (settings : Settings) where
-  pub enough-records : (k : ℕ) (records : List SiteRecord) (memory : List ℕ)
-      → sitesConsistent k settings records memory ≡ true
-      → k ≤ length records
-  enough-records zero records memory holds = omega arith
-  enough-records (suc k) [] memory holds = absurd (false≢true holds)
-  enough-records (suc k) (first ∷ others) memory holds =
-      let rest = drop (siteWords settings) memory in
-      let both = both-true (siteConsistent settings first memory) _ holds in
-      omega (arith, enough-records k others rest (both .second-true))
-
-  pub consistent-at : (k : ℕ) (records : List SiteRecord) (memory : List ℕ)
-      → sitesConsistent k settings records memory ≡ true
-      → (j : ℕ) → j < k
-      → siteConsistent settings (getD records j noRecord) (drop (j * siteWords settings) memory)
-      ≡ true
-  consistent-at zero records memory holds j j< = absurd (omega arith)
-  consistent-at (suc k) [] memory holds j j< = absurd (false≢true holds)
-  consistent-at (suc k) (first ∷ others) memory holds zero j< =
-      let e : 0 * siteWords settings ≡ 0 = omega arith in
-      rw e (both-true (siteConsistent settings first memory) _ holds .first-true)
-  consistent-at (suc k) (first ∷ others) memory holds (suc j) j< =
-      let words = siteWords settings in
-      let e : words + j * words ≡ suc j * words = omega arith in
-      rw (← e, ← drop-drop (j * words) words memory)
-      (consistent-at k others (drop words memory)
-      (both-true (siteConsistent settings first memory) _ holds .second-true) j (omega arith))
-
--- Each site of a network that passes is ready.
-module _ {settings : Settings} {memory : List ℕ} (fits : SitesFit settings memory)
-    (records : List SiteRecord)
-    (holds : sitesConsistent (settings .sites) settings records memory ≡ true) where
-  pub ready-at : (j : ℕ) → j < settings .sites
-      → SiteReady settings
-      (siteIn settings (getD records j noRecord) (drop (j * siteWords settings) memory))
-  ready-at j j< =
-      let more : suc j * siteWords settings ≤ settings .sites * siteWords settings =
-      mul-le-mul-right (siteWords settings) j< in
-      let long : siteWords settings ≤ length (drop (j * siteWords settings) memory) =
-      rw (length-drop (j * siteWords settings) memory) (omega (arith, fits .long-enough)) in
-      ready-of-consistent settings (getD records j noRecord) (drop (j * siteWords settings) memory)
-      long (consistent-at settings (settings .sites) records memory holds j j<)
 
 pub counts-fit : {settings : Settings} {siteMemory : List ℕ}
     → SitesFit settings siteMemory
@@ -85,15 +39,24 @@ pub counts-fit : {settings : Settings} {siteMemory : List ℕ}
     → CountsFit settings sites (coordinator .total)
 counts-fit {settings} {siteMemory} fits sites coordinator coordinatorNumbers sites-hold
     coordinator-holds =
-    let ready = ready-at fits (sites .records) sites-hold in
+    let k = settings .sites in
+    let read = sites-sound-of k settings (sites .records) siteMemory (fits .long-enough)
+    sites-hold in
+    let enough = enough-records k settings (sites .records) siteMemory (read .all-read) in
+    let sound : (j : ℕ) → j < k
+    → SoundSite settings
+    (siteIn settings (getD (sites .records) j noRecord) (drop (j * siteWords settings) siteMemory))
+    = λ j j<.
+    subst (SoundSite settings)
+    (getD-sitesIn noRecord k settings (sites .records) siteMemory j j< enough)
+    (read .each-sound j j<) in
     record {
       records-fit = record {
         settings-accepted = fits .settings-accepted;
-        all-records =
-            enough-records settings (settings .sites) (sites .records) siteMemory sites-hold;
+        all-records = enough;
         pending-within = λ j j<.
-            omega (arith, ready j j< .pending-within, ready j j< .threshold-within);
-        arrivals-within = λ j j<. ready j j< .arrivals-within;
+            omega (arith, sound j j< .pending-below, sound j j< .threshold-within);
+        arrivals-within = λ j j<. sound j j< .arrivals-within;
       };
       total-within = coordinator-within-of settings
           (coordinatorIn settings coordinator coordinatorNumbers) coordinator-holds

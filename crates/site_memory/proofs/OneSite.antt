@@ -1,7 +1,7 @@
 -- One site's part of a longer memory: reading looks at the part alone, writing changes the part
 -- alone, and a site written twice is as if written the second time alone. Document 01, "Deck".
 --
---   Storable                 a site that its part has room for
+--   Storable, storable       a site that its part has room for, as a sound one is
 --   overwritten-again        the front of a list overwritten twice
 --   siteIn-front             a site read from its part, whatever follows
 --   siteMemory-front         a site written to its part; the rest stays
@@ -19,12 +19,18 @@ use Rattle.model.specs.Limits.{valueCount}
 use Rattle.model.specs.Counters.{Counter}
 use Rattle.model.specs.Site.{Site}
 use Rattle.model.specs.SiteMemory.{counterIn, countersIn, counterNumbers, counterWords, siteWords, siteIn, siteMemory, overwrite}
+use Rattle.model.specs.SoundNetwork.{SoundSite}
 use Rattle.counters.proofs.CounterMemory.{length-counterNumbers}
 use Rattle.site_memory.proofs.SiteMemoryLaws.{length-siteMemory}
 
 pub record Storable (settings : Settings) (site : Site) : Type 0 where
   pub few-counters : length (site .counters) ≤ settings .capacity
   pub all-values : length (site .histogram) ≡ valueCount
+
+pub storable : {settings : Settings} {site : Site} → SoundSite settings site
+    → Storable settings site
+storable sound =
+    record { few-counters = sound .few-counters; all-values = sound .histogram-length }
 
 -- ---- Lists
 

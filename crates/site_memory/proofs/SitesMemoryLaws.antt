@@ -1,7 +1,7 @@
 -- The sites' memory: "In a bench the decks' memory stands one after another, deck 0 first." One
 -- site written to it, the others as they were. PROOF.md section 9, "Frame".
 --
---   AllStorable                    every site fits its part
+--   AllStorable, all-storable      every site fits its part, as sound ones do
 --   length-sitesMemory             writing keeps the length
 --   sitesMemory-set                site j written to its part: that site set among all
 --   sitesMemory-kept               a site set with the same counters and values: nothing is written
@@ -18,10 +18,17 @@ use Rattle.model.specs.declared.SiteRecord.{SiteRecord}
 use Rattle.model.specs.Site.{Site, freshSite}
 use Rattle.model.specs.SiteMemory.{siteWords, siteRecord, siteMemory}
 use Rattle.model.specs.NetworkMemory.{sitesMemory, siteRecords}
-use Rattle.site_memory.proofs.OneSite.{Storable, siteMemory-front, siteMemory-again, length-written}
+use Rattle.model.specs.SoundNetwork.{SoundSite}
+use Rattle.site_memory.proofs.OneSite.{Storable, storable, siteMemory-front, siteMemory-again, length-written}
 
 pub record AllStorable (settings : Settings) (sites : List Site) : Type 0 where
   pub at : (j : ℕ) → j < length sites → Storable settings (getD sites j freshSite)
+
+pub all-storable : {settings : Settings} {sites : List Site}
+    → length sites ≡ settings .sites
+    → ((j : ℕ) → j < settings .sites → SoundSite settings (getD sites j freshSite))
+    → AllStorable settings sites
+all-storable all sound = record { at = λ j j<. storable (sound j (omega (arith, all))) }
 
 pub later : {settings : Settings} {site : Site} {sites : List Site}
     → AllStorable settings (site ∷ sites)

@@ -3,6 +3,7 @@
 --
 --   siteIn-sitesMemory             site j read from a memory that holds all sites
 --   getD-sitesIn, length-sitesIn   one of the sites that were read, and how many they are
+--   enough-records, used-within    what the records of sound sites are
 --   sitesIn-sitesMemory            all sites read back
 --   sitesMemory-sitesIn, siteRecords-sitesIn   what was read, written again, changes nothing
 -- Letters: j a site, k how many sites.
@@ -16,8 +17,10 @@ use lib.Seq.{length-take-le, drop-at, drop-drop}
 use Rattle.model.specs.declared.Settings.{Settings}
 use Rattle.model.specs.declared.SiteRecord.{SiteRecord}
 use Rattle.model.specs.Site.{Site, freshSite}
-use Rattle.model.specs.SiteMemory.{siteWords, siteIn, siteRecord, siteMemory}
+use Rattle.model.specs.SiteMemory.{siteWords, countersIn, siteIn, siteRecord, siteMemory}
 use Rattle.model.specs.NetworkMemory.{sitesIn, sitesMemory, siteRecords}
+use Rattle.model.specs.SoundNetwork.{SoundSite}
+use Rattle.model.proofs.ConsistentSites.{length-countersIn}
 use Rattle.site_memory.proofs.SiteMemoryLaws.{siteIn-siteMemory, siteMemory-siteIn, siteRecord-siteIn}
 use Rattle.site_memory.proofs.OneSite.{Storable, siteIn-front, length-written}
 use Rattle.site_memory.proofs.SitesMemoryLaws.{AllStorable, later, part-length, rest-long, drop-sitesMemory, written-length}
@@ -109,6 +112,33 @@ getD-sitesIn default (suc k) settings (first ∷ others) memory (suc j) j< enoug
     let e : words + j * words ≡ suc j * words = omega arith in
     getD-sitesIn default k settings others (drop words memory) j (omega arith) (omega arith)
     ∙ rw (drop-drop (j * words) words memory, e)
+
+-- Where all sites are read, there is a record for each.
+pub enough-records : (k : ℕ) (settings : Settings) (numbers : List SiteRecord) (memory : List ℕ)
+    → length (sitesIn k settings numbers memory) ≡ k
+    → k ≤ length numbers
+enough-records zero settings numbers memory all = omega arith
+enough-records (suc k) settings [] memory all = absurd (omega (arith, all))
+enough-records (suc k) settings (first ∷ others) memory all =
+    omega (
+      arith,
+      enough-records k settings others (drop (siteWords settings) memory) (omega (arith, all)),
+    )
+
+-- No record of a sound site has more counters in use than there is room for.
+pub used-within : (default : SiteRecord) (k : ℕ) (settings : Settings) (numbers : List SiteRecord)
+    (memory : List ℕ)
+    → length (sitesIn k settings numbers memory) ≡ k
+    → (j : ℕ) → j < k
+    → SoundSite settings (getD (sitesIn k settings numbers memory) j freshSite)
+    → getD numbers j default .used ≤ settings .capacity
+used-within default k settings numbers memory all j j< sound =
+    let used = getD numbers j default .used in
+    let part = drop (j * siteWords settings) memory in
+    let few : length (countersIn used part) ≤ settings .capacity =
+    rw (getD-sitesIn default k settings numbers memory j j<
+    (enough-records k settings numbers memory all)) at (sound .few-counters) in
+    omega (arith, few, length-countersIn used part)
 
 -- ---- Written again
 

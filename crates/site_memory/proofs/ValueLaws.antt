@@ -1,7 +1,7 @@
 -- Laws of the histogram in a site's memory: sums over its front, and one count more.
 --
 --   valueCount-is            the histogram has 1024 places
---   sum-take-suc, getD-le-sum, sum-one-more
+--   sum-take-suc, getD-le-sum
 --   upTo-sum, upTo-valuesAt  the arrivals up to a value are a sum over the front
 --   Adding, adding-start, adding-on, adding-end   the sum of the first counts, place by place
 use Prim.Native.Nat.{ℕ, zero, suc, _+_, _*_, _<_, _≤_}
@@ -10,9 +10,9 @@ use mathlib.Core.List.{List, [], _∷_}
 use native.Mathlib.Numerals.{add-one}
 use native.Mathlib.Omega.{arith}
 use lib.ListN.{length, getD, take, drop, length-drop}
-use lib.Seq.{getD-take, getD-drop, length-take-le, take-take}
+use lib.Seq.{getD-take, getD-drop, take-take}
 use Rattle.model.specs.Limits.{valueCount}
-use Rattle.model.specs.Site.{upTo, oneMoreAt}
+use Rattle.model.specs.Site.{upTo}
 use Rattle.model.specs.SiteMemory.{sum}
 use Rattle.counters.specs.Count.{greatestWord}
 
@@ -34,13 +34,6 @@ getD-le-sum [] i = omega arith
 getD-le-sum (x ∷ xs) zero = omega arith
 getD-le-sum (x ∷ xs) (suc i) = omega (arith, getD-le-sum xs i)
 
-pub sum-one-more : (xs : List ℕ) (i : ℕ)
-    → i < length xs
-    → sum (oneMoreAt xs i) ≡ sum xs + 1
-sum-one-more [] i within = absurd (omega arith)
-sum-one-more (x ∷ xs) zero within = omega arith
-sum-one-more (x ∷ xs) (suc i) within = omega (arith, sum-one-more xs i (omega arith))
-
 pub upTo-sum : (xs : List ℕ) (value : ℕ) → upTo value xs ≡ sum (take (suc value) xs)
 upTo-sum [] value = refl
 upTo-sum (x ∷ xs) zero = omega (arith, upTo-sum xs zero)
@@ -53,10 +46,6 @@ abbrev pub valuesAt : List ℕ → ℕ → List ℕ
 valuesAt memory from = take valueCount (drop from memory)
 
 module _ (memory : List ℕ) (from : ℕ) (fits : from + valueCount ≤ length memory) where
-  pub length-valuesAt : length (valuesAt memory from) ≡ valueCount
-  length-valuesAt =
-      length-take-le valueCount (drop from memory) (rw (length-drop from memory) (omega arith))
-
   pub getD-valuesAt : (i : ℕ)
       → i < valueCount
       → getD (valuesAt memory from) i 0 ≡ getD memory (from + i) 0

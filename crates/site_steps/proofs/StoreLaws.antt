@@ -1,5 +1,5 @@
--- An arrival stored in a site's memory, call by call: what each part requires follows from the
--- readiness of the site, and the parts together are the model's step.
+-- An arrival stored in a site's memory, call by call: what each part requires holds of a sound
+-- site, and the parts together are the model's step.
 --
 --   count-asks, report-asks, value-place, value-small   what each call requires
 --   stored-arrival     the promise of `store_arrival`
@@ -21,17 +21,18 @@ use Rattle.model.specs.Limits.{valueCount, siteLimit}
 use Rattle.model.specs.Counters.{Counter, counterAt}
 use Rattle.model.specs.Site.{Site, observed, oneMoreAt, placeFor, countersWith}
 use Rattle.model.specs.SiteMemory.{counterWords, siteIn, siteRecord, counterNumbers, overwrite}
+use Rattle.model.specs.SoundNetwork.{SoundSite}
 use Rattle.model.proofs.SettingsLaws.{Settled, settled}
+use Rattle.model.proofs.ReportLaws.{value-counted}
+use Rattle.model.proofs.ConsistentSites.{length-countersIn}
+use Rattle.model.proofs.SoundSites.{ArrivalTaken, taken-of-no-refusal, CountedAt, sound-counted}
 use Rattle.counters.specs.declared.Counted.{Counted}
 use Rattle.counters.specs.Stored.{counterOf}
 use Rattle.counters.specs.Count.{greatestWord, CountAsks, CountSays}
-use Rattle.counters.proofs.CounterMemory.{length-countersIn}
-use Rattle.site_memory.specs.Ready.{SiteReady}
-use Rattle.site_memory.proofs.ValueLaws.{valueCount-is, getD-le-sum}
+use Rattle.site_memory.proofs.ValueLaws.{getD-le-sum}
 use Rattle.site_steps.specs.Steps.{ObserveAsks, ReportAsks, ReportSays, StoreSays, messagesDue, GatherSays, ObserveStepSays}
 use Rattle.site_steps.specs.declared.StoredArrival.{StoredArrival}
 use Rattle.site_steps.specs.declared.Observed.{Observed}
-use Rattle.site_steps.proofs.Placements.{Acceptable, acceptable, Grown, grown}
 use Rattle.site_steps.proofs.ObserveMemory.{countersReported, length-countersReported, memory-reported, value-kept, memory-observed}
 
 module _
@@ -45,25 +46,23 @@ module _
   abbrev site : Site
   site = siteIn settings numbers before
 
-  ready : SiteReady settings (siteIn settings numbers before)
-  ready = asks .ready .site-ready
+  sound : SoundSite settings (siteIn settings numbers before)
+  sound = asks .ready .site-sound
 
-  taken : Acceptable settings (siteIn settings numbers before) arrival
-  taken = acceptable settings (siteIn settings numbers before) arrival (asks .not-refused)
+  taken : ArrivalTaken settings (siteIn settings numbers before) arrival
+  taken = taken-of-no-refusal settings site arrival (asks .not-refused)
 
   capacity-known : Settled settings
   capacity-known = settled settings (asks .ready .settings-accepted)
 
   used-within : numbers .used ≤ settings .capacity
-  used-within = omega (arith, ready .counters-within, length-countersIn (numbers .used) before)
+  used-within = omega (arith, sound .few-counters, length-countersIn (numbers .used) before)
 
-  grew : Grown settings (siteIn settings numbers before)
-      (countersWith settings (siteIn settings numbers before) arrival)
-      (placeFor settings (siteIn settings numbers before) arrival)
-  grew = grown settings site arrival (capacity-known .capacity .at-least) ready taken
+  counted-at : CountedAt settings (siteIn settings numbers before) arrival
+  counted-at = sound-counted (capacity-known .capacity .at-least) taken sound
 
   pub value-within : arrival .value < valueCount
-  value-within = omega (arith, taken .value-known, valueCount-is)
+  value-within = value-counted (arrival .value) (taken .known .value-known)
 
   pub room : numbers .arrivals < siteLimit
   room = taken .room
@@ -77,7 +76,7 @@ module _
     within = used-within;
     small = λ place inside.
         let counter =
-        ready .counters-ready place (rw (length-countersIn (numbers .used) before) inside) in
+        sound .counters-sound place (rw (length-countersIn (numbers .used) before) inside) in
         omega (arith, counter .count-within, taken .room);
   }
 
@@ -91,11 +90,11 @@ module _
       fits = omega (
         arith,
         says .place,
-        grew .place-within,
-        grew .counters-within,
+        counted-at .inside,
+        counted-at .few,
         asks .ready .long-enough,
       );
-      parts-within = rw (says .counter) (grew .just-counted .parts-within);
+      parts-within = rw (says .counter) (counted-at .here .within-count);
     }
 
     module _
@@ -120,7 +119,7 @@ module _
           before
       reported-is =
           memory-reported settings site arrival before stored reported
-          (grew .place-within) (says .memory) (model-report .memory)
+          (counted-at .inside) (says .memory) (model-report .memory)
 
       pub value-place : counterWords settings + arrival .value < length reported
       value-place = omega (arith, asks .ready .long-enough, value-within)
@@ -130,9 +129,9 @@ module _
           omega (
             arith,
             value-kept settings numbers arrival before reported (asks .ready .long-enough)
-                value-within (grew .counters-within) reported-is,
+                value-within (counted-at .few) reported-is,
             getD-le-sum (site .histogram) (arrival .value),
-            ready .values-sum,
+            sound .histogram-sum,
             taken .room,
           )
 
@@ -145,7 +144,7 @@ module _
         due-is = model-report .due-is;
         memory = after-is
             ∙ memory-observed settings numbers arrival before reported (asks .ready .long-enough)
-            value-within (grew .counters-within) reported-is;
+            value-within (counted-at .few) reported-is;
       }
 
 -- ---- The record and the messages that go out

@@ -9,7 +9,7 @@ use mathlib.Core.Bool.{Bool, true, false, _&&_, _||_, not}
 use mathlib.Core.List.{List}
 use Prim.Native.Nat.{ℕ, _+_, _-_, _≤_, _<_}
 use native.Mathlib.Omega.{arith}
-use lib.Dec.{eqb, ltb, leb}
+use lib.Dec.{eqb, leb}
 use lib.ListN.{length, take, drop}
 use borrow.Author.Tests.{leb-true, lt-ltb, le-ltb, eq-eqb, ne-eqb}
 use Rattle.laws.proofs.Tests.{both-true, and-false}
@@ -118,9 +118,6 @@ module _ (c : Coordinator) where
 -- ---- The chain of refusals
 
 module _ (settings : Settings) (numbers : CoordinatorRecord) (memory : List ℕ) where
-  abbrev length-row : ℕ
-  length-row = when (ltb (length memory) (coordinatorWords settings)) memoryTooShort
-
   abbrev consistency-row : Bool → ℕ
   consistency-row consistent = when (not consistent) memoryInconsistent orElse accepted
 

@@ -3,4 +3,3 @@ pub mod Chains
 pub mod NumberLaws
 pub mod ConsistencyLaws
 pub mod ReadyLaws
-pub mod ReadyAgain

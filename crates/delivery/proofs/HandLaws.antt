@@ -17,7 +17,7 @@ use Rattle.model.specs.DeliveryClaims.{messageRefusal}
 use Rattle.model.proofs.MidDelivery.{hand-on}
 use Rattle.sending.specs.declared.Queue.{Queue}
 use Rattle.sending.specs.Sending.{queueOf, withoutHead}
-use Rattle.delivery.specs.Holding.{State, Fits, Delivering}
+use Rattle.delivery.specs.Holding.{State, Delivering}
 use Rattle.sending.proofs.LogLaws.{withoutHead-queueOf}
 use Rattle.delivery.proofs.HoldingLaws.{Stored}
 use Rattle.delivery.proofs.GoingLaws.{going-fit, going-stage, going-stored, going-room, going-handed}
@@ -30,9 +30,6 @@ module _ {settings : Settings} {held : State} (u : Delivering settings held)
 
   abbrev pub m : Message
   m = held .underway .waiting .first
-
-  abbrev pub fits : Fits settings (u .given)
-  fits = hand .going .accepting .fits
 
   pub head-accepted : messageRefusal settings now m ≡ accepted
   head-accepted =

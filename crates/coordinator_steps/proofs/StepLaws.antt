@@ -2,7 +2,6 @@
 -- (sums fit), and which steps leave the numbers in memory as they are.
 --
 --   settings-fit, threshold-small         what settings and threshold are worth
---   valueCount-is, value-known            the number of values
 --   item-asks, count-asks, poll-asks, probe-asks
 --   poll-kept, probe-kept                 kinds 4 and 6 change the record alone
 use mathlib.Core.Path.{_≡_, refl}
@@ -19,12 +18,13 @@ use Rattle.model.specs.declared.Message.{Message}
 use Rattle.model.specs.declared.Phase.the-variants.{Idle, Collecting, Probing}
 use Rattle.model.specs.declared.CoordinatorRecord.{CoordinatorRecord}
 use Rattle.model.specs.Refusals.{accepted}
-use Rattle.model.specs.Limits.{topValue, valueCount, siteLimit}
+use Rattle.model.specs.Limits.{valueCount, siteLimit}
 use Rattle.model.specs.Settings.{settingsRefusal, thresholdOf}
 use Rattle.model.specs.Coordinator.{Coordinator, enough, closed, narrowed, halved, takesPollAnswer, takesProbeAnswer, middle}
 use Rattle.model.specs.CoordinatorMemory.{coordinatorIn, coordinatorMemory, coordinatorWords}
 use Rattle.model.specs.SoundNetwork.{SoundPhase}
 use Rattle.model.proofs.SettingsLaws.{settled}
+use Rattle.model.proofs.ReportLaws.{value-counted}
 use Rattle.coordinator_kinds.specs.Steps.{SettingsFit, ItemAsks, ValueRoom, CountAsks, PollAsks, ProbeAsks}
 use Rattle.coordinator_steps.specs.Ready.{StepAsks, readyLimit}
 use Rattle.coordinator_steps.proofs.Accepted.{MessageAccepted, message-accepted, count-report-of-idle, kind-of-collecting, kind-of-probing, item-known-of-report, item-amount-of-report, count-amount-of-report, value-of-report, amount-of-poll-answer, amount-of-probe-answer}
@@ -53,13 +53,6 @@ threshold-small settings base fit =
     div-le-of-le-mul (3000 * settings .sites) (mul-le-mul {m₁ = base} {m₂ = base} factors
     (omega arith)) in
     omega arith
-
-pub valueCount-is : valueCount ≡ 1024
-unfolding valueCount
-valueCount-is = refl
-
-pub value-known : (value : ℕ) → value ≤ topValue → value < valueCount
-value-known value small = omega (arith, valueCount-is)
 
 -- ---- What each kind asks
 
@@ -105,7 +98,7 @@ module _ (settings : Settings) (numbers : CoordinatorRecord) (m : Message) (memo
   value-room : m .kind ≡ 2 → numbers .threshold ≡ 1 → ValueRoom settings (m .b) memory
   value-room is one =
       let known : m .b < valueCount =
-      value-known (m .b) (value-of-report settings here m taken is one) in
+      value-counted (m .b) (value-of-report settings here m taken is one) in
       let count : getD memory (settings .universe + m .b) 0 ≤ readyLimit =
       rw (getD-take valueCount (drop (settings .universe) memory) (m .b) 0 known, getD-drop) at
       (asks .ready .within .histogram-within (m .b)) in

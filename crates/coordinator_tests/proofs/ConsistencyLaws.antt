@@ -22,7 +22,7 @@ use Rattle.model.specs.SiteMemory.{sum}
 use Rattle.model.specs.Coordinator.{Coordinator}
 use Rattle.model.specs.CoordinatorMemory.{coordinatorIn, coordinatorWords, coordinatorConsistent, coordinatorMemoryRefusal, phaseConsistent, allWithin}
 use Rattle.coordinator_tests.specs.Consistency.{recordConsistent, numbersConsistent}
-use Rattle.coordinator_steps.proofs.StepLaws.{valueCount-is}
+use Rattle.model.proofs.ReportLaws.{valueCount-is}
 use Rattle.coordinator_tests.proofs.Chains.{refused-first, accepted-first}
 
 -- ---- The parts of the test

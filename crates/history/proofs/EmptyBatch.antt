@@ -4,28 +4,21 @@
 --   NothingDone, nothing-done    a batch of the model that accepts nothing
 --   batch-same                   the state after such a call
 use mathlib.Core.Path.{_≡_, refl, sym, ap, _∙_}
-use mathlib.Core.Bool.{Bool, true, false, not}
+use mathlib.Core.Bool.{Bool, true, false}
 use mathlib.Core.List.{List, [], _∷_, _++_, append-nil}
 use Prim.Native.Nat.{ℕ, _+_, _-_, _≤_}
 use native.Mathlib.Omega.{arith}
-use lib.Dec.{ltb}
 use lib.ListN.{length}
-use borrow.Author.Tests.{eq-eqb, eqb-true, ltb-false, not-false}
-use Rattle.laws.proofs.Tests.{neither-of-or}
+use borrow.Author.Tests.{eq-eqb, eqb-true}
 use Rattle.model.specs.declared.Settings.{Settings}
 use Rattle.model.specs.declared.Arrival.{Arrival}
 use Rattle.model.specs.Choice.{isZero}
 use Rattle.model.specs.Refusals.{accepted}
-use Rattle.model.specs.Settings.{settingsRefusal}
 use Rattle.model.specs.Site.{freshSite}
 use Rattle.model.specs.SiteMemory.{siteRecord}
-use Rattle.model.specs.CoordinatorMemory.{coordinatorWords}
 use Rattle.model.specs.Network.{Network, afterArrival}
-use Rattle.model.specs.NetworkMemory.{sitesWords, networkRefusal, networkTooShort, networkConsistent}
 use Rattle.model.specs.Runs.{Batch, batchRefusal, batchFrom, batchOf}
-use Rattle.model.specs.SoundNetwork.{Sound}
-use Rattle.model.proofs.RefusalLaws.{both-accepted, passed}
-use Rattle.model.proofs.ConsistentNetwork.{network-sound-of}
+use Rattle.model.proofs.ConsistentNetwork.{Passes, passes-of}
 use Rattle.site_memory.proofs.SitesReading.{enough-records, used-within, siteRecords-sitesIn, sitesMemory-sitesIn}
 use Rattle.coordinator_kinds.proofs.MemoryLaws.{memory-kept}
 use Rattle.tracker_steps.specs.declared.BatchAnswer.{BatchAnswer}
@@ -90,40 +83,6 @@ nothing-done settings room network (arrival ∷ arrivals) none = by-refusal (isZ
     by-refusal false refuses =
         rw (refuses, batchFrom) (record { network-same = refl; no-messages = refl })
 
--- ---- What is held, read and written again
-
--- What passes the tests of a batch call is long enough, and sound.
-record Passes (settings : Settings) (held : Held) : Type 0 where
-  sites-long : sitesWords settings ≤ length (held .siteMemory)
-  coordinator-long : coordinatorWords settings ≤ length (held .coordinatorMemory)
-  sound : Sound settings (networkOf settings held)
-
-passes-of : (settings : Settings) (held : Held)
-    → networkRefusal settings (held .sites) (held .coordinator) (held .siteMemory)
-    (held .coordinatorMemory)
-    ≡ accepted
-    → Passes settings held
-passes-of settings held none =
-    let short = networkTooShort settings (held .siteMemory) (held .coordinatorMemory) in
-    let consistent = networkConsistent settings (held .sites) (held .coordinator)
-    (held .siteMemory) (held .coordinatorMemory) in
-    let rows = both-accepted (settingsRefusal settings) _ none in
-    let long-row = passed short 4 _ (omega arith) (rows .later-accepted) in
-    let consistent-row = passed (not consistent) 11 _ (omega arith) (long-row .later-accepted) in
-    let both-long = neither-of-or (ltb (length (held .siteMemory)) (sitesWords settings)) _
-    (long-row .test-failed) in
-    let sites-long = ltb-false (length (held .siteMemory)) (sitesWords settings)
-    (both-long .first-false) in
-    let coordinator-long = ltb-false (length (held .coordinatorMemory)) (coordinatorWords settings)
-    (both-long .second-false) in
-    record {
-      sites-long = sites-long;
-      coordinator-long = coordinator-long;
-      sound = network-sound-of settings (held .sites) (held .coordinator) (held .siteMemory)
-          (held .coordinatorMemory) sites-long coordinator-long
-          (not-false consistent (consistent-row .test-failed));
-    }
-
 -- ---- The state after the call
 
 module _ (before : State) (given : Settings) (arrivals : List Arrival) (log : List ℕ)
@@ -154,6 +113,12 @@ module _ (before : State) (given : Settings) (arrivals : List Arrival) (log : Li
       nothing-done given _ (networkOf given held) arrivals
       (sym (rw (eq-eqb (startRefusal call) 0 none) at (says .accepted)) ∙ nothing)
 
+  passes : startRefusal call ≡ accepted
+      → Passes given (held .sites) (held .coordinator) (held .siteMemory) (held .coordinatorMemory)
+  passes none =
+      passes-of given (held .sites) (held .coordinator) (held .siteMemory)
+      (held .coordinatorMemory) none
+
   sites-same : answer .sites ≡ held .sites
   sites-same =
       by-start _ _ (answer .sites) (says .sites)
@@ -179,7 +144,7 @@ module _ (before : State) (given : Settings) (arrivals : List Arrival) (log : Li
   site-memory-same =
       by-start _ _ (lent .siteMemory) (says .site-memory)
       (λ none.
-      let ok = passes-of given held none in
+      let ok = passes none in
       let k = given .sites in
       let records = held .sites .records in
       let all = ok .sound .all-sites in
@@ -196,7 +161,7 @@ module _ (before : State) (given : Settings) (arrivals : List Arrival) (log : Li
       (λ none.
       rw (idle-batch none .network-same)
       (sym (memory-kept given (held .coordinator) (held .coordinatorMemory)
-      (passes-of given held none .coordinator-long))))
+      (passes none .coordinator-long))))
 
   nothing-written : answer .written ≡ 0
   nothing-written =

@@ -21,6 +21,7 @@ use Rattle.model.specs.Network.{Network}
 use Rattle.model.specs.NetworkMemory.{siteRecords, sitesMemory}
 use Rattle.model.specs.Runs.{Batch, batchOf}
 use Rattle.model.specs.SoundNetwork.{Sound}
+use Rattle.model.proofs.ConsistentNetwork.{Passes, passes-of}
 use Rattle.tracker_steps.specs.declared.BatchAnswer.{BatchAnswer}
 use Rattle.tracker.specs.Batch.{BatchCall, BatchLent, BatchSays, startRefusal, batchIn, unlessRefused, logRoom, messageNumbers}
 use Rattle.history.specs.State.{Held, State, AtRest, fronts, lending, withPart, putBack}
@@ -28,7 +29,7 @@ use Rattle.history.specs.Histories.{batchCall, afterBatch, batch-accepts
 use Rattle.history.proofs.Answers.{accepted-choice, refused-choice}
 use Rattle.history.proofs.CoordinatorFronts.{front-then, overwrite-front}
 use Rattle.site_memory.proofs.SitesFronts.{sitesMemory-front}
-use Rattle.history.proofs.NetworkFronts.{LongEnough, long-enough, network-front}
+use Rattle.history.proofs.NetworkFronts.{network-front}
 use Rattle.history.proofs.Invariant.{StateOk}
 use Rattle.history.proofs.Accepted.{held-sound}
 use Rattle.history.proofs.BatchedState as Batched
@@ -79,9 +80,9 @@ module _ {settings : Settings} (passes : settingsRefusal settings ≡ accepted)
     abbrev coordinatorFront : List ℕ
     coordinatorFront = take coordinatorCount (held .coordinatorMemory)
 
-    long : LongEnough settings sitesFront coordinatorFront
+    long : Passes settings (held .sites) (held .coordinator) sitesFront coordinatorFront
     long =
-        long-enough settings (held .sites) (held .coordinator) sitesFront coordinatorFront none
+        passes-of settings (held .sites) (held .coordinator) sitesFront coordinatorFront none
 
     batch-same : batchIn onFronts ≡ batchIn onAll
     batch-same =

@@ -2,19 +2,19 @@
 -- network, and a sound network within the limits passes. Document 01, "Inconsistent".
 --
 --   SitesRead, sites-sound-of   the sites of memory that passes: all are read, each is sound
---   Rows, rows-of             the rows of the test, each passed
 --   network-sound-of          what passes 4 and 11 holds a sound network
+--   Passes, passes-of         what an accepted start is worth: no row of 1 to 4 and 11
 --   network-consistent-of     a sound network within the limits passes
 use mathlib.Core.Path.{_≡_, refl, ap}
-use mathlib.Core.Bool.{Bool, true, _&&_, false≢true}
+use mathlib.Core.Bool.{Bool, true, _&&_, not, false≢true}
 use mathlib.Core.List.{List, [], _∷_}
 use Prim.Native.Nat.{ℕ, zero, suc, _+_, _*_, _≤_, _<_}
 use native.Mathlib.Omega.{arith}
-use lib.Dec.{eqb, leb}
+use lib.Dec.{eqb, leb, ltb}
 use lib.ListN.{length, getD, drop, length-drop}
 use lib.Seq.{length-take-le}
-use borrow.Author.Tests.{eqb-true, le-leb, eq-eqb}
-use Rattle.laws.proofs.Tests.{both-true}
+use borrow.Author.Tests.{eqb-true, leb-true, ltb-false, le-leb, eq-eqb, not-false}
+use Rattle.laws.proofs.Tests.{both-true, neither-of-or}
 use Rattle.laws.proofs.Lists.{all-cons}
 use Rattle.model.specs.declared.Settings.{Settings}
 use Rattle.model.specs.declared.SiteRecord.{SiteRecord}
@@ -22,16 +22,19 @@ use Rattle.model.specs.declared.Sites.{Sites}
 use Rattle.model.specs.declared.Phase.{Phase}
 use Rattle.model.specs.declared.Phase.the-variants.{Idle, Collecting, Probing, Announcing}
 use Rattle.model.specs.declared.CoordinatorRecord.{CoordinatorRecord}
+use Rattle.model.specs.Refusals.{accepted, memoryTooShort, memoryInconsistent}
 use Rattle.model.specs.Limits.{valueCount, messageLimit}
+use Rattle.model.specs.Settings.{settingsRefusal}
 use Rattle.model.specs.Site.{Site, freshSite}
 use Rattle.model.specs.SiteMemory.{siteWords, siteIn, siteConsistent}
 use Rattle.model.specs.Coordinator.{isIdle}
 use Rattle.model.specs.CoordinatorMemory.{coordinatorWords, coordinatorConsistent}
 use Rattle.model.specs.Network.{Network}
-use Rattle.model.specs.NetworkMemory.{sitesWords, sitesIn, networkIn, sitesConsistent, allPending, allArrivals, sameThreshold, atRestTogether, networkConsistent}
+use Rattle.model.specs.NetworkMemory.{sitesWords, sitesIn, networkIn, sitesConsistent, allPending, allArrivals, sameThreshold, atRestTogether, networkConsistent, networkTooShort, networkRefusal}
 use Rattle.model.specs.SoundNetwork.{SoundSite, Sound}
+use Rattle.model.proofs.RefusalLaws.{both-accepted, passed}
 use Rattle.model.proofs.ConsistentSites.{sound-of-consistent, consistent-of-sound}
-use Rattle.model.proofs.ConsistentCoordinator.{CoordinatorWithin, coordinator-sound-of, coordinator-consistent-of}
+use Rattle.model.proofs.ConsistentCoordinator.{CoordinatorWithin, coordinator-sound-of, coordinator-within-of, coordinator-consistent-of}
 
 -- ---- The sites one after another
 
@@ -125,13 +128,13 @@ module _ (settings : Settings) (sites : Sites) (coordinator : CoordinatorRecord)
       (omega (arith, length-drop (settings .universe) coordinatorNumbers))
 
   -- The rows of the test that pass.
-  pub record Rows : Type 0 where
-    pub sites-row : sitesConsistent (settings .sites) settings (sites .records) siteNumbers ≡ true
-    pub coordinator-row : coordinatorConsistent settings (network .coordinator) ≡ true
-    pub rest-row : atRestTogether network ≡ true
-    pub count-row : leb (sites .messages) messageLimit ≡ true
+  record Rows : Type 0 where
+    sites-row : sitesConsistent (settings .sites) settings (sites .records) siteNumbers ≡ true
+    coordinator-row : coordinatorConsistent settings (network .coordinator) ≡ true
+    rest-row : atRestTogether network ≡ true
+    count-row : leb (sites .messages) messageLimit ≡ true
 
-  pub rows-of : networkConsistent settings sites coordinator siteNumbers coordinatorNumbers ≡ true
+  rows-of : networkConsistent settings sites coordinator siteNumbers coordinatorNumbers ≡ true
       → Rows
   rows-of passes =
       let first : Bool =
@@ -171,6 +174,42 @@ module _ (settings : Settings) (sites : Sites) (coordinator : CoordinatorRecord)
             same-threshold-of (network .coordinator .threshold) (network .sites)
             (at-rest-2 .second-true) j (omega (arith, read .all-read));
         all-counted = eqb-true _ _ (at-rest-3 .second-true);
+      }
+
+  -- What is given to the batch call when its start is accepted.
+  pub record Passes : Type 0 where
+    pub settings-accepted : settingsRefusal settings ≡ accepted
+    pub sites-long : sitesWords settings ≤ length siteNumbers
+    pub coordinator-long : coordinatorWords settings ≤ length coordinatorNumbers
+    pub sound : Sound settings network
+    pub within : CoordinatorWithin (network .coordinator)
+    pub count-within : sites .messages ≤ messageLimit
+
+  pub passes-of :
+      networkRefusal settings sites coordinator siteNumbers coordinatorNumbers ≡ accepted
+      → Passes
+  passes-of none =
+      let chain = both-accepted (settingsRefusal settings) _ none in
+      let short = passed (networkTooShort settings siteNumbers coordinatorNumbers) memoryTooShort
+      _ (omega arith) (chain .later-accepted) in
+      let inconsistent = passed
+      (not (networkConsistent settings sites coordinator siteNumbers coordinatorNumbers))
+      memoryInconsistent _ (omega arith) (short .later-accepted) in
+      let long = neither-of-or (ltb (length siteNumbers) (sitesWords settings)) _
+      (short .test-failed) in
+      let sites-long = ltb-false (length siteNumbers) (sitesWords settings)
+      (long .first-false) in
+      let coordinator-long = ltb-false (length coordinatorNumbers) (coordinatorWords settings)
+      (long .second-false) in
+      let holds = not-false _ (inconsistent .test-failed) in
+      let rows : Rows = rows-of holds in
+      record {
+        settings-accepted = chain .first-accepted;
+        sites-long = sites-long;
+        coordinator-long = coordinator-long;
+        sound = network-sound-of sites-long coordinator-long holds;
+        within = coordinator-within-of settings (network .coordinator) (rows .coordinator-row);
+        count-within = leb-true (sites .messages) messageLimit (rows .count-row);
       }
 
   -- A sound network within the limits passes.

@@ -1,7 +1,7 @@
 -- Reports as numbers: what a report adds, if it is due, and the estimates after an item report.
 --
 --   when-times, when-le      a choice as 0 or 1, and times an amount
---   value-counted            a value up to the top one has a place in the histogram
+--   valueCount-is, value-counted   1024 values; one up to the top has a place in the histogram
 --   estimates-reported, length-reported   the estimates after an item report, if one is due
 use mathlib.Core.Path.{_≡_, refl}
 use mathlib.Core.Bool.{Bool, true, false}
@@ -29,10 +29,13 @@ pub when-le : (due : Bool) → when due 1 ≤ 1
 when-le true = omega arith
 when-le false = omega arith
 
+pub valueCount-is : valueCount ≡ 1024
+unfolding valueCount
+valueCount-is = refl
+
 -- Values up to the top value have a place in the histogram.
 pub value-counted : (value : ℕ) → value ≤ topValue → value < valueCount
-unfolding valueCount
-value-counted value known = omega arith
+value-counted value known = omega (arith, valueCount-is)
 
 -- The estimates after an item report of so much, if it is due.
 pub estimates-reported : (estimates : List ℕ) (item amount x : ℕ) (due : Bool)

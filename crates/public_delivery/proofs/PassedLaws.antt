@@ -5,29 +5,25 @@
 --   rest-of                      a state that holds them, with nothing waiting
 --   refused-start, refused-unknown, refused-arrival    the number that refuses the arrival
 use mathlib.Core.Path.{_≡_, refl, sym, ap, _∙_, subst}
-use mathlib.Core.Bool.{_&&_, not}
 use mathlib.Core.List.{[]}
 use Prim.Native.Nat.{ℕ, suc, _-_, _*_, _≤_, _<_}
 use native.Mathlib.Nat.{mul-le-mul-right}
 use native.Mathlib.Omega.{arith}
-use lib.Dec.{leb}
 use lib.ListN.{length}
-use borrow.Author.Tests.{le-leb, not-false}
-use Rattle.laws.proofs.Tests.{both-true}
+use borrow.Author.Tests.{le-leb}
 use Rattle.model.specs.declared.Settings.{Settings}
 use Rattle.model.specs.declared.Arrival.{Arrival}
 use Rattle.model.specs.Refusals.{_orElse_, accepted, unknownSite}
-use Rattle.model.specs.Limits.{mostSites, messageLimit}
+use Rattle.model.specs.Limits.{mostSites}
 use Rattle.model.specs.Settings.{settingsRefusal}
 use Rattle.model.specs.SiteMemory.{siteWords}
-use Rattle.model.specs.CoordinatorMemory.{coordinatorConsistent}
-use Rattle.model.specs.NetworkMemory.{sitesConsistent, atRestTogether, networkConsistent, networkTooShort, networkRefusal}
+use Rattle.model.specs.NetworkMemory.{networkRefusal}
 use Rattle.model.specs.Runs.{refusalIn}
 use Rattle.model.specs.SoundNetwork.{Sound}
-use Rattle.model.proofs.RefusalLaws.{both-accepted, passed, refused-same}
-use Rattle.model.proofs.ConsistentCoordinator.{CoordinatorWithin, coordinator-within-of}
+use Rattle.model.proofs.RefusalLaws.{refused-same}
+use Rattle.model.proofs.ConsistentCoordinator.{CoordinatorWithin}
+use Rattle.model.proofs.ConsistentNetwork.{passes-of}
 use Rattle.network_tests.specs.Contracts.{SitesFit}
-use Rattle.network_tests.proofs.SoundLaws.{passing}
 use Rattle.site.specs.Calls.{observeRefusal}
 use Rattle.history.specs.State.{Held, State, networkOf, recordAt, siteStart}
 use Rattle.history.proofs.Decoded.{Lengths}
@@ -49,48 +45,27 @@ pub record Passed (settings : Settings) (held : Held) : Type 0 where
   pub sound : Sound settings (networkOf settings held)
   pub within : CoordinatorWithin (networkOf settings held .coordinator)
 
--- The coordinator passes 11, so no number of it is above the limit.
-within-of : (settings : Settings) (held : Held)
-    → startRefusal settings held ≡ accepted
-    → CoordinatorWithin (networkOf settings held .coordinator)
-within-of settings held none =
-    let sites = held .sites in
-    let coordinator = held .coordinator in
-    let siteMemory = held .siteMemory in
-    let memory = held .coordinatorMemory in
-    let chain = both-accepted (settingsRefusal settings) _ none in
-    let short = passed (networkTooShort settings siteMemory memory) 4 _ (omega arith)
-    (chain .later-accepted) in
-    let test = passed (not (networkConsistent settings sites coordinator siteMemory memory)) 11 _
-    (omega arith) (short .later-accepted) in
-    let network = networkOf settings held in
-    let first = sitesConsistent (settings .sites) settings (sites .records) siteMemory in
-    let second = coordinatorConsistent settings (network .coordinator) in
-    let third = atRestTogether network in
-    let four = both-true (first && second && third) (leb (sites .messages) messageLimit)
-    (not-false _ (test .test-failed)) in
-    let three = both-true (first && second) third (four .first-true) in
-    let two = both-true first second (three .first-true) in
-    coordinator-within-of settings (network .coordinator) (two .second-true)
-
 -- Records that fill their array, and a start test that passes.
 pub passed-of : (settings : Settings) (held : Held)
     → length (held .sites .records) ≡ mostSites
     → startRefusal settings held ≡ accepted
     → Passed settings held
 passed-of settings held all none =
-    let holds = passing settings (held .sites) (held .coordinator) (held .siteMemory)
+    let holds = passes-of settings (held .sites) (held .coordinator) (held .siteMemory)
     (held .coordinatorMemory) none in
     record {
-      passes = holds .fits .sites-fit .settings-accepted;
-      fits = holds .fits .sites-fit;
+      passes = holds .settings-accepted;
+      fits = record {
+        settings-accepted = holds .settings-accepted;
+        long-enough = holds .sites-long;
+      };
       lengths = record {
         all-records = all;
-        sites-long = holds .fits .sites-fit .long-enough;
-        coordinator-long = holds .fits .coordinator-long;
+        sites-long = holds .sites-long;
+        coordinator-long = holds .coordinator-long;
       };
       sound = holds .sound;
-      within = within-of settings held none;
+      within = holds .within;
     }
 
 -- A state that holds it.

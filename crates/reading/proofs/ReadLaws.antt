@@ -26,7 +26,7 @@ use Rattle.model.specs.CoordinatorMemory.{coordinatorIn, coordinatorMemoryRefus
 use Rattle.model.specs.Reading.{leastValue, leastValueFrom, quantileOf}
 use Rattle.model.proofs.RefusalLaws.{both-accepted, passed}
 use Rattle.model.proofs.SettingsLaws.{settled}
-use Rattle.coordinator_steps.proofs.StepLaws.{valueCount-is}
+use Rattle.model.proofs.ReportLaws.{valueCount-is}
 use Rattle.coordinator_tests.proofs.ConsistencyLaws.{histogram-part}
 use Rattle.coordinator_tests.proofs.ReadyLaws.{tested, within-of-consistent}
 use Rattle.reading.specs.Contracts.{ReadAsks, SidesAsk, ValuesAsk, marginRefusal}

@@ -21,7 +21,7 @@ use Rattle.model.specs.CoordinatorMemory.{coordinatorWords, coordinatorMemory}
 use Rattle.model.specs.NetworkMemory.{sitesWords}
 use Rattle.model.specs.Lines.{Fields, readFields}
 use Rattle.model.proofs.RefusalLaws.{both-accepted, passed}
-use Rattle.coordinator_steps.proofs.StepLaws.{valueCount-is}
+use Rattle.model.proofs.ReportLaws.{valueCount-is}
 use Rattle.model.specs.Transcript.{beyondProgram}
 use Rattle.reader.specs.declared.SettingsRead.{SettingsRead}
 use Rattle.reader.specs.Contracts.{SettingsSays, bytesAfter}

@@ -21,7 +21,7 @@ use Rattle.model.specs.Network.{Network}
 use Rattle.model.specs.Reading.{isListed, listedFrom, heavyHitters, leastValueFrom, quantileOf}
 use Rattle.model.specs.Runs.{Run}
 use Rattle.model.specs.Transcript.{endLine, classWord, messagesWord, quantileWord, resultLines}
-use Rattle.coordinator_steps.proofs.StepLaws.{valueCount-is}
+use Rattle.model.proofs.ReportLaws.{valueCount-is}
 use Rattle.lines.specs.Contracts.{countedLine, listedLine}
 use Rattle.transcript.proofs.LineBounds.{line-claims}
 use Rattle.listing.specs.Contracts.{listRefusal}

@@ -19,7 +19,7 @@ use Rattle.model.specs.SiteMemory.{siteWords, overwrite}
 use Rattle.model.specs.NetworkMemory.{sitesWords, freshSites}
 use Rattle.model.proofs.RefusalLaws.{refused-same}
 use Rattle.model.proofs.SettingsLaws.{settled}
-use Rattle.site_memory.proofs.ValueLaws.{valueCount-is}
+use Rattle.model.proofs.ReportLaws.{valueCount-is}
 use Rattle.site.specs.Calls.{startRefusal, cleared, StartSays}
 
 -- ---- Memory cleared

@@ -16,7 +16,7 @@ use Rattle.model.specs.declared.Settings.{Settings}
 use Rattle.model.specs.SiteMemory.{siteWords}
 use Rattle.model.specs.NetworkMemory.{sitesWords}
 use Rattle.model.proofs.SettingsLaws.{Settled}
-use Rattle.site_memory.proofs.ValueLaws.{valueCount-is}
+use Rattle.model.proofs.ReportLaws.{valueCount-is}
 
 -- Numbers of memory, and their bytes, are far from what a machine number holds.
 module _ {settings : Settings} (fit : Settled settings) where

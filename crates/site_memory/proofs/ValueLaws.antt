@@ -1,6 +1,5 @@
 -- Laws of the histogram in a site's memory: sums over its front, and one count more.
 --
---   valueCount-is            the histogram has 1024 places
 --   sum-take-suc, getD-le-sum
 --   upTo-sum, upTo-valuesAt  the arrivals up to a value are a sum over the front
 --   Adding, adding-start, adding-on, adding-end   the sum of the first counts, place by place
@@ -15,10 +14,6 @@ use Rattle.model.specs.Limits.{valueCount}
 use Rattle.model.specs.Site.{upTo}
 use Rattle.model.specs.SiteMemory.{sum}
 use Rattle.counters.specs.Count.{greatestWord}
-
-pub valueCount-is : valueCount ≡ 1024
-unfolding valueCount
-valueCount-is = refl
 
 -- ---- Sums
 

@@ -5,7 +5,7 @@ use mathlib.Core.Path.{_≡_, ap, sym, _∙_}
 use Prim.Native.Nat.{ℕ, _+_}
 use borrow.Author.Needs.{needs}
 use Rattle.coordinator.proofs.CallLaws.{fresh-memory, start-long}
-use Rattle.coordinator_steps.proofs.StepLaws.{valueCount-is}
+use Rattle.model.proofs.ReportLaws.{valueCount-is}
 use Rattle.coordinator_tests.proofs.Chains.{accepts, refuses}
 use Rattle.coordinator.specs.Calls.{startRefusal}
 use Rattle.model.specs.CoordinatorMemory.{coordinatorWords}

@@ -6,7 +6,7 @@ use mathlib.Core.Bool.{Bool}
 use borrow.Author.Needs.{needs}
 use Rattle.model.specs.CoordinatorMemory.{coordinatorWords}
 use Rattle.coordinator_tests.proofs.Chains.{refused-first, accepted-first}
-use Rattle.coordinator_steps.proofs.StepLaws.{valueCount-is}
+use Rattle.model.proofs.ReportLaws.{valueCount-is}
 use Rattle.model.specs.Settings.{settingsRefusal}
 use Rattle.model.specs.Refusals.{when, _orElse_, accepted, memoryTooShort}
 use Rattle.coordinator.proofs.start_refusal.Statement.{statement}

@@ -4,7 +4,7 @@ use mathlib.Core.Path.{sym, _∙_}
 use mathlib.Core.Bool.{true, false}
 use borrow.Author.Needs.{needs}
 use Rattle.coordinator_tests.proofs.ConsistencyLaws.{refused-by-settings, refused-by-length, decided-by-consistency}
-use Rattle.coordinator_steps.proofs.StepLaws.{valueCount-is}
+use Rattle.model.proofs.ReportLaws.{valueCount-is}
 use Rattle.coordinator_tests.proofs.coordinator_memory_refusal.Statement.{statement}
 use Rattle.coordinator_tests.proofs.coordinator_memory_refusal.Tie as tie
 

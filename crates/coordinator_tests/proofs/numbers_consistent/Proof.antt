@@ -9,7 +9,7 @@ use native.Mathlib.Omega.{arith}
 use borrow.Author.Needs.{needs}
 use Rattle.coordinator_tests.proofs.ConsistencyLaws.{histogram-part, numbers-at-one, numbers-above-one, numbers-histogram-off, numbers-estimates-off}
 use Rattle.model.specs.CoordinatorMemory.{coordinatorIn}
-use Rattle.coordinator_steps.proofs.StepLaws.{valueCount-is}
+use Rattle.model.proofs.ReportLaws.{valueCount-is}
 use Rattle.coordinator_tests.proofs.numbers_consistent.Statement.{statement}
 use Rattle.coordinator_tests.proofs.numbers_consistent.Tie as tie
 

@@ -3,7 +3,7 @@ use lib.ListN.{length}
 use native.Mathlib.Omega.{arith}
 use Prim.Native.Nat.{_-_}
 use borrow.Author.Needs.{needs}
-use Rattle.coordinator_steps.proofs.StepLaws.{valueCount-is}
+use Rattle.model.proofs.ReportLaws.{valueCount-is}
 use Rattle.coordinator_tests.proofs.NumberLaws.{Summed, summed-start, summed-on, summed-end, within-at}
 use Rattle.model.specs.Limits.{coordinatorLimit}
 use Rattle.coordinator_tests.proofs.sum_of.Statement.{statement}

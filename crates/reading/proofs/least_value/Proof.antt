@@ -6,7 +6,7 @@ use mathlib.Core.Path.{sym}
 use Prim.Native.Nat.{_+_, _-_, _*_, _≤_}
 use borrow.Author.Needs.{needs}
 use Rattle.reading.proofs.ReadLaws.{Searching, searching-start, searching-fits, searching-found, searching-on, searching-end}
-use Rattle.coordinator_steps.proofs.StepLaws.{valueCount-is}
+use Rattle.model.proofs.ReportLaws.{valueCount-is}
 use Rattle.model.specs.Limits.{coordinatorLimit}
 use Rattle.reading.proofs.least_value.Statement.{statement}
 use Rattle.reading.proofs.least_value.Tie as tie

@@ -4,7 +4,7 @@ use mathlib.Core.Path.{ap, sym, _∙_}
 use borrow.Author.Needs.{needs}
 use Rattle.reading.proofs.ReadLaws.{values-ask, quantile-none, quantile-counted, quantile-kept}
 use Rattle.coordinator_tests.proofs.ConsistencyLaws.{histogram-part}
-use Rattle.coordinator_steps.proofs.StepLaws.{valueCount-is}
+use Rattle.model.proofs.ReportLaws.{valueCount-is}
 use Rattle.model.specs.Reading.{leastValue}
 use Rattle.model.specs.CoordinatorMemory.{coordinatorIn}
 use Rattle.reading.proofs.quantile_value.Statement.{statement}

@@ -2,7 +2,7 @@
 use native.Mathlib.Omega.{arith}
 use borrow.Author.Needs.{needs}
 use Rattle.model.proofs.SettingsLaws.{settled}
-use Rattle.site_memory.proofs.ValueLaws.{valueCount-is}
+use Rattle.model.proofs.ReportLaws.{valueCount-is}
 use Rattle.site_memory.proofs.site_words.Statement.{statement}
 use Rattle.site_memory.proofs.site_words.Tie as tie
 

@@ -5,7 +5,7 @@ use borrow.Author.Tests.{eq-eqb, ne-eqb}
 use borrow.Author.Needs.{needs}
 use Rattle.model.specs.Messages.{message}
 use Rattle.model.proofs.SettingsLaws.{settled}
-use Rattle.site_memory.proofs.ValueLaws.{valueCount-is}
+use Rattle.model.proofs.ReportLaws.{value-counted}
 use Rattle.site_steps.proofs.ReceiveLaws.{record-with}
 use Rattle.site_steps.proofs.receive_step.Statement.{statement}
 use Rattle.site_steps.proofs.receive_step.Tie as tie
@@ -41,7 +41,7 @@ count-up-to-requires c κs =
     let probe = eq-eqb (a .message .kind) 5 (at-if2 .if2 .taken) in
     record {
       long-enough = asks .ready .long-enough;
-      value-within = omega (arith, asks .value-known probe, valueCount-is);
+      value-within = value-counted (a .message .a) (asks .value-known probe);
     }
 
 returns-2 : tie.Need-returns-2

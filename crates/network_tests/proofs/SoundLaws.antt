@@ -27,16 +27,16 @@ use Rattle.model.specs.CoordinatorMemory.{coordinatorConsistent}
 use Rattle.model.specs.Network.{Network, siteAt}
 use Rattle.model.specs.NetworkMemory.{networkIn, sitesConsistent, sameThreshold, allPending, allArrivals, atRestTogether, networkConsistent, networkTooShort, networkRefusal}
 use Rattle.model.specs.SoundNetwork.{SoundSite, Sound}
+use Rattle.model.specs.NumberClaims.{Bounded}
 use Rattle.model.proofs.RefusalLaws.{both-accepted, passed}
 use Rattle.model.proofs.SettingsLaws.{settled}
+use Rattle.model.proofs.NumberBounds.{bounded-start}
 use Rattle.model.proofs.ConsistentCoordinator.{CoordinatorWithin, coordinator-sound-of, coordinator-within-of}
 use Rattle.counters.proofs.CounterMemory.{length-countersIn}
 use Rattle.site_memory.specs.Ready.{SiteReady}
 use Rattle.coordinator_kinds.proofs.MemoryLaws.{estimates-long, histogram-long}
 use Rattle.network_memory.specs.Records.{noRecord}
 use Rattle.network_memory.proofs.SitesReading.{length-sitesIn, getD-sitesIn}
-use Rattle.delivery.specs.Bounded.{Bounded}
-use Rattle.delivery.proofs.BoundedLaws.{bounded-start}
 use Rattle.network_tests.specs.Contracts.{NetworkFits}
 use Rattle.network_tests.proofs.NetworkLaws.{enough-records, ready-at, fits-of-long}
 
@@ -92,8 +92,7 @@ pub record Passing (settings : Settings) (sites : Sites) (coordinator : Coordina
       → getD (sites .records) j noRecord .used ≤ settings .capacity
   pub sound : Sound settings
       (networkIn settings sites coordinator siteMemory coordinatorMemory)
-  pub bounded : Bounded
-      (networkIn settings sites coordinator siteMemory coordinatorMemory) []
+  pub bounded : Bounded (networkIn settings sites coordinator siteMemory coordinatorMemory)
   pub count-within : sites .messages ≤ messageLimit
 
 module _ (settings : Settings) (sites : Sites) (coordinator : CoordinatorRecord)
@@ -187,9 +186,11 @@ module _ (settings : Settings) (sites : Sites) (coordinator : CoordinatorRecord)
         rw (length-countersIn (getD (sites .records) j noRecord .used)
         (drop (j * siteWords settings) siteMemory)) at (ready .counters-within);
     sound = network-sound;
-    bounded = bounded-start settings network
-        (settled settings (fits .sites-fit .settings-accepted)) network-sound
-        (coordinator-within .estimates-within) (coordinator-within .values-within);
+    bounded = bounded-start (settled settings (fits .sites-fit .settings-accepted)) network-sound
+        (record {
+          estimates-within = coordinator-within .estimates-within;
+          values-within = coordinator-within .values-within;
+        });
     count-within = leb-true _ _ (four .second-true);
   }
 

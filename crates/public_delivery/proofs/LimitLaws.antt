@@ -18,7 +18,6 @@ use Rattle.model.specs.declared.Phase.the-variants.{Idle}
 use Rattle.model.specs.Refusals.{accepted}
 use Rattle.model.specs.Limits.{coordinatorLimit}
 use Rattle.model.specs.Settings.{settingsRefusal}
-use Rattle.model.specs.SiteMemory.{sum}
 use Rattle.model.specs.Site.{Site, reportsItem}
 use Rattle.model.specs.Coordinator.{Coordinator}
 use Rattle.model.specs.Network.{Network, Delivered, siteAt, afterArrival}
@@ -31,6 +30,7 @@ use Rattle.model.proofs.NumberTheorem.{number-claims}
 use Rattle.model.proofs.ConsistentCoordinator.{CoordinatorWithin}
 use Rattle.model.proofs.ArrivalParts.{afterItemReport, afterCountReport, ArrivalCase, noCountReport, countReported, closesOne, closesMore, arrival-case, networkThen}
 use Rattle.model.proofs.AfterArrival.{after-arrival}
+use Rattle.site_memory.proofs.ValueLaws.{getD-le-sum}
 
 -- ---- Lists of numbers
 
@@ -45,12 +45,6 @@ gained-within limit (y ∷ ys) zero amount (suc x) room here = here
 gained-within limit (y ∷ ys) (suc place) amount zero room here = here
 gained-within limit (y ∷ ys) (suc place) amount (suc x) room here =
     gained-within limit ys place amount x room here
-
--- No number of a list is above their sum.
-getD-sum : (numbers : List ℕ) (x : ℕ) → getD numbers x 0 ≤ sum numbers
-getD-sum [] x = omega arith
-getD-sum (y ∷ ys) zero = omega arith
-getD-sum (y ∷ ys) (suc x) = omega (arith, getD-sum ys x)
 
 -- ---- The coordinator that the delivery comes to
 
@@ -125,7 +119,7 @@ module _ (settings : Settings) (network : Network) (arrival : Arrival)
             omega (
               arith,
               grown,
-              getD-sum (before .histogram) value,
+              getD-le-sum (before .histogram) value,
               sound .coordinator-sound .numbers .histogram-sum (eqb-true (before .threshold) 1 one),
               sound .all-counted,
               few,

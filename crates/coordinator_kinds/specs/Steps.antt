@@ -10,13 +10,13 @@
 --   ThresholdAsks, ItemAsks, ValueRoom, CountAsks, PollAsks, HalveAsks, ProbeAsks
 use mathlib.Core.Path.{_≡_}
 use mathlib.Core.List.{List}
-use Prim.Native.Nat.{ℕ, _+_, _≤_, _<_}
+use Prim.Native.Nat.{ℕ, _+_, _*_, _≤_, _<_}
 use lib.ListN.{length, getD}
 use Rattle.model.specs.declared.Settings.{Settings}
 use Rattle.model.specs.declared.Message.{Message}
 use Rattle.model.specs.declared.Phase.{Phase}
 use Rattle.model.specs.declared.CoordinatorRecord.{CoordinatorRecord}
-use Rattle.model.specs.Limits.{topValue, valueCount}
+use Rattle.model.specs.Limits.{mostSites, topValue, valueCount, coordinatorLimit}
 use Rattle.model.specs.Messages.{noMessage}
 use Rattle.model.specs.Coordinator.{CoordinatorStep}
 use Rattle.model.specs.CoordinatorMemory.{coordinatorRecord, coordinatorMemory, coordinatorWords}
@@ -55,12 +55,12 @@ silent numbers phase = record { coordinator = inPhase numbers phase; count = 0; 
 
 -- The largest number that a step takes: every sum and product of a step then fits 64 bits.
 abbrev pub stepLimit : ℕ
-stepLimit = 1000000000000000
+stepLimit = 10000 * coordinatorLimit
 
 -- What settings that pass their test give to a step.
 pub record SettingsFit (settings : Settings) : Type 0 where
   pub sites-some : 1 ≤ settings .sites
-  pub sites-few : settings .sites ≤ 32
+  pub sites-few : settings .sites ≤ mostSites
   pub epsilon-small : settings .epsilon ≤ 1000
   pub rank-small : settings .rank ≤ 1000
 

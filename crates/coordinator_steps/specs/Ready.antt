@@ -1,26 +1,28 @@
 -- What a step asks of the coordinator and of the message. `CoordinatorReady` is what the
--- consistency test decides, but for the limit of 100,000,000,000: a step needs only that its sums
--- fit 64 bits.
+-- consistency test decides, but for the coordinator's limit: a step needs only that its sums fit
+-- 64 bits.
 --
 --   NumbersWithin limit c                no number above a limit
 --   CoordinatorReady settings c          a sound coordinator, within `readyLimit`
 --   StepAsks, AnnounceAsks               what the two steps ask
 use mathlib.Core.Path.{_≡_}
 use mathlib.Core.List.{List}
-use Prim.Native.Nat.{ℕ, _≤_}
+use Prim.Native.Nat.{ℕ, _*_, _≤_}
 use lib.ListN.{length, getD}
 use Rattle.model.specs.declared.Settings.{Settings}
 use Rattle.model.specs.declared.Message.{Message}
 use Rattle.model.specs.declared.CoordinatorRecord.{CoordinatorRecord}
 use Rattle.model.specs.Refusals.{accepted}
+use Rattle.model.specs.Limits.{coordinatorLimit}
 use Rattle.model.specs.Settings.{settingsRefusal}
 use Rattle.model.specs.Coordinator.{Coordinator, coordinatorRefusal}
 use Rattle.model.specs.CoordinatorMemory.{coordinatorIn, coordinatorWords}
 use Rattle.model.specs.SoundNetwork.{SoundPhase, SoundCoordinator, sumOfPhase}
 
--- The largest number that a coordinator may hold before a step.
+-- The largest number that a coordinator may hold before a step: more than a batch brings an
+-- estimate to, `estimateLimit` of model's specs/NumberClaims.antt.
 abbrev pub readyLimit : ℕ
-readyLimit = 400000000000000
+readyLimit = 4000 * coordinatorLimit
 
 -- ---- The coordinator
 

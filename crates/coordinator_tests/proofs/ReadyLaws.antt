@@ -2,7 +2,7 @@
 -- are within document 01's limit, which is below the one that the steps need.
 --
 --   within-more                     a greater limit serves as well
---   within-of-consistent            numbers within 100,000,000,000
+--   within-of-consistent            numbers within the limit
 --   ready-of-consistent             ready for a step
 --   Tested, tested                  what accepted settings and memory are worth
 use mathlib.Core.Path.{_≡_}

@@ -1,7 +1,8 @@
--- A delivery that goes on: its stage, its bounds, the sizes of its network and the room that the
--- log has for its messages; and the deliveries that its two steps come to.
+-- A delivery that goes on: its stage, numbers that the coordinator's steps can take, the sizes of
+-- its network and the room that the log has for its messages; and the deliveries that its two
+-- steps come to.
 --
---   going-stage, going-bounded, going-stored    what holds of it
+--   going-stage, going-ready, going-stored      what holds of it
 --   going-room                                  all messages so far fit the log
 --   going-handed, going-asked                   the next step
 --   going-ends                                  where nothing waits, it has come to the model's end
@@ -19,19 +20,20 @@ use Rattle.model.specs.Coordinator.{Coordinator, isAnnouncing}
 use Rattle.model.specs.Network.{Network, siteAt, handOver, askAnnouncement, afterArrival}
 use Rattle.model.specs.SoundNetwork.{SoundSite, SoundNumbers}
 use Rattle.model.specs.DeliveryClaims.{Delivery, delivery, joining, deliveryStep, deliverySteps}
-use Rattle.model.specs.SoundClaims.{handed, asked}
+use Rattle.model.specs.SoundClaims.{handed, asked, InMidDelivery}
 use Rattle.model.proofs.SettingsLaws.{Settled, settled}
 use Rattle.model.proofs.SoundSites.{ArrivalTaken, taken-of-no-refusal}
 use Rattle.model.proofs.DeliveryTheorem.{delivery-claims}
 use Rattle.model.proofs.Stages.{Stage}
+use Rattle.model.proofs.StageFacts.{stage-length, stage-sites, stage-coordinator}
 use Rattle.model.proofs.SoundTheorem.{StillLeft, reached-left, sound-claims}
 use Rattle.site_memory.proofs.SitesMemoryLaws.{all-storable}
-use Rattle.delivery.specs.Bounded.{Bounded}
+use Rattle.model.proofs.NumberBounds.{estimates-few, values-few}
+use Rattle.coordinator_steps.specs.Ready.{CoordinatorReady}
 use Rattle.delivery.specs.Holding.{Given, Accepting, Going, rested}
-use Rattle.delivery.proofs.StageNumbers.{at-stage}
-use Rattle.delivery.proofs.QuietSteps.{answers-one, quiet-announced}
-use Rattle.delivery.proofs.BoundedSteps.{reached-bounded}
+use Rattle.delivery.proofs.OneAnswer.{answers-one, announced-one}
 use Rattle.delivery.proofs.HoldingLaws.{StoredCoordinator, Stored}
+use Rattle.delivery.proofs.RestLaws.{sound-then, bounded-then}
 
 -- ---- The log only grows
 
@@ -104,15 +106,33 @@ module _ {settings : Settings} {given : Given} {earlier : List Message} {network
   pub going-stage : Stage settings (d .network) (d .waiting) (going-left .left)
   going-stage = going-left .mid .stage
 
-  pub going-bounded : Bounded (d .network) (d .waiting)
-  going-bounded =
-      reached-bounded settings network arrival (going-fit accepting) (accepting .sound)
-      (going-taken accepting) (accepting .bounded) steps d (going .reached)
+  in-mid : InMidDelivery settings network arrival steps d
+  in-mid =
+      sound-claims .in-mid-delivery settings network arrival steps d
+      (accepting .fits .settings-accepted) (accepting .sound) (accepting .taken) (going .reached)
+
+  -- No number is above what the delivery comes to.
+  pub going-ready : CoordinatorReady settings (d .network .coordinator)
+  going-ready =
+      let fit = going-fit accepting in
+      let sound = sound-then accepting in
+      let bounded = bounded-then accepting in
+      record {
+        sound = in-mid .coordinator-sound;
+        within = record {
+          total-within = omega (arith, in-mid .total-within);
+          estimates-within = λ item.
+              omega (arith, in-mid .estimates-below item, estimates-few fit sound bounded item);
+          histogram-within = λ value.
+              omega (arith, in-mid .values-below value, values-few fit sound bounded value);
+          sum-within = omega (arith, in-mid .sum-within);
+        };
+      }
 
   pub going-stored : Stored settings (d .network)
   going-stored =
-      let together = at-stage going-stage .together in
-      stored-of-sound (together .all-sites) (together .sites-sound) (together .numbers)
+      stored-of-sound (stage-length going-stage) (stage-sites going-stage)
+      (stage-coordinator (going-fit accepting) going-stage .numbers)
 
   log-within : length (d .log) ≤ mostMessages (settings .sites)
   log-within =
@@ -134,9 +154,7 @@ module _ {settings : Settings} {given : Given} {earlier : List Message} {network
       → isAnnouncing (d .network .coordinator .phase) ≡ false
       → d ≡ rested (afterArrival settings network arrival)
   going-ends none silent =
-      let ends = sound-claims .in-mid-delivery settings network arrival steps d
-      (accepting .fits .settings-accepted) (accepting .sound) (accepting .taken) (going .reached)
-      .ends none silent in
+      let ends = in-mid .ends none silent in
       λ i. delivery (ends i .network) (none i) (ends i .messages)
 
 -- ---- The next step
@@ -168,8 +186,5 @@ module _ {settings : Settings} {given : Given} {earlier : List Message} {network
     accepting = going .accepting;
     reached = asked steps now [] log (going .reached) announces;
     few-waiting =
-        omega (
-          arith,
-          quiet-announced settings (now .coordinator) (now .coordinator .phase) .one-answer,
-        );
+        omega (arith, announced-one settings (now .coordinator));
   }

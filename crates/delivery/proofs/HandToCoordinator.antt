@@ -24,10 +24,9 @@ use Rattle.delivery.specs.declared.Underway.{Underway}
 use Rattle.sending.specs.Sending.{withoutHead, SendAsks}
 use Rattle.delivery.specs.UnderwayParts.{trafficOf}
 use Rattle.delivery.specs.Holding.{State, state, answered, Holds, Fits, Delivering}
-use Rattle.delivery.proofs.StageNumbers.{coordinator-ready}
-use Rattle.delivery.proofs.QuietSteps.{quiet-receives}
+use Rattle.delivery.proofs.OneAnswer.{receives-one}
 use Rattle.delivery.proofs.HoldingLaws.{coordinator-read, coordinator-memory-length, holds-answer, holds-coordinator, coordinator-again}
-use Rattle.delivery.proofs.GoingLaws.{going-fit, going-stage, going-bounded, going-stored}
+use Rattle.delivery.proofs.GoingLaws.{going-ready, going-stored}
 use Rattle.delivery.proofs.StepLaws.{Handing, answer-sends}
 use Rattle.delivery.proofs.HandLaws.{head-accepted, few-rest, rest-waits, room, stored-then}
 
@@ -61,9 +60,7 @@ module _ {settings : Settings} {held : State} (u : Delivering settings held)
         coordinator-memory-length fits (going-stored (hand .going)) (hand .holds),
         fits .coordinator-memory-long,
       );
-      ready = subst⁻¹ (CoordinatorReady settings) c-read
-          (coordinator-ready (going-fit (hand .going .accepting)) (going-stage (hand .going))
-          (going-bounded (hand .going)));
+      ready = subst⁻¹ (CoordinatorReady settings) c-read (going-ready (hand .going));
       message-accepted = rw c-read (rw way at (head-accepted u hand));
     }
 
@@ -118,6 +115,6 @@ module _ {settings : Settings} {held : State} (u : Delivering settings held)
       coordinator-holds =
           rw (hand .step-is, way)
           (holds-answer (after .messages) (answer .count) (answer .out) changed
-          (quiet-receives settings c m .one-answer) count-is
+          (receives-one settings c m) count-is
           (ap (λ (a : CoordinatorAnswer.Answered). a .out) (did .answer))
           (few-rest u hand) room-then)

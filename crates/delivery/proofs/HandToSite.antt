@@ -19,10 +19,13 @@ use Rattle.model.specs.declared.Message.{Message}
 use Rattle.model.specs.declared.SiteRecord.{SiteRecord}
 use Rattle.model.specs.Messages.{noMessage, toCoordinator}
 use Rattle.model.specs.Site.{Site, SiteStep, siteReceives}
+use Rattle.model.specs.Limits.{mostSites, mostSiteWords}
 use Rattle.model.specs.SiteMemory.{siteWords, siteIn, siteRecord}
 use Rattle.model.specs.Network.{Network, siteAt, withSite}
 use Rattle.model.specs.DeliveryClaims.{delivery, deliveryStep}
 use Rattle.model.specs.SoundNetwork.{SoundSite}
+use Rattle.model.proofs.StageFacts.{stage-sites}
+use Rattle.model.proofs.NeverFewer.{counters-kept, values-kept}
 use Rattle.site_steps.specs.declared.Answered as SiteAnswer
 use Rattle.site_steps.specs.Steps.{ReceiveAsks, ReceiveStepSays}
 use Rattle.site_steps.proofs.ReceiveLaws.{Due, message-due}
@@ -34,9 +37,8 @@ use Rattle.sending.specs.Sending.{withoutHead, SendAsks}
 use Rattle.delivery.specs.UnderwayParts.{trafficOf}
 use Rattle.delivery.specs.Holding.{State, state, answered, Holds, Fits, Delivering}
 use Rattle.delivery.specs.Handing.{siteOfHead}
-use Rattle.delivery.proofs.StageNumbers.{at-stage}
 use Rattle.site_memory.proofs.SitePart.{few-sites, start-small, part, part-is}
-use Rattle.delivery.proofs.QuietSteps.{quiet-site}
+use Rattle.delivery.proofs.OneAnswer.{site-one}
 use Rattle.delivery.proofs.HoldingLaws.{part-long, part-starts, site-read, holds-answer, holds-site}
 use Rattle.delivery.proofs.GoingLaws.{going-fit, going-stage, going-stored}
 use Rattle.delivery.proofs.StepLaws.{Handing, handing, answer-sends}
@@ -72,7 +74,7 @@ module _ {settings : Settings} {held : State} (u : Delivering settings held)
     pub site-known : j < settings .sites
     site-known = due .site-known
 
-    pub site-few : j < 32
+    pub site-few : j < mostSites
     site-few = few-sites (going-fit (hand .going .accepting)) site-known
 
     -- The words of a site, as the code names them.
@@ -81,7 +83,7 @@ module _ {settings : Settings} {held : State} (u : Delivering settings held)
       starts-within =
           rw words-are (part-starts fits (going-stored (hand .going)) (hand .holds) j site-known)
 
-      pub starts-small : j * words ≤ 32 * 13024
+      pub starts-small : j * words ≤ mostSites * mostSiteWords
       starts-small = rw words-are (start-small (going-fit (hand .going .accepting)) site-known)
 
     -- The site's record and its part of the memory, as the code names them.
@@ -106,7 +108,7 @@ module _ {settings : Settings} {held : State} (u : Delivering settings held)
           long-enough = rw own-is
               (part-long fits (going-stored (hand .going)) (hand .holds) j site-known);
           site-sound = subst⁻¹ (SoundSite settings) read
-              (at-stage (going-stage (hand .going)) .together .sites-sound j site-known);
+              (stage-sites (going-stage (hand .going)) j site-known);
         };
         value-known = due .value-known;
       }
@@ -131,12 +133,12 @@ module _ {settings : Settings} {held : State} (u : Delivering settings held)
         changed =
             let inside : j < length (now .sites) =
             omega (arith, site-known, going-stored (hand .going) .all-sites) in
-            let quiet = quiet-site (siteAt now j) m in
             holds-site (hand .holds) j (after .site) (hand .rest) (answer .site) queue
             (held .siteMemory) inside site-is (rest-waits u hand queue queue-is)
             (hand .holds .site-memory
             ∙ sym (sitesMemory-kept settings (now .sites) (u .given .siteMemory) j (after .site)
-            (quiet .counters-kept) (quiet .histogram-kept)))
+            (counters-kept .by-message (siteAt now j) m)
+            (values-kept .by-message (siteAt now j) m)))
 
         abbrev room-then : 4 * length (u .earlier ++ (u .now .log ++ after .messages))
             ≤ length (u .given .log)
@@ -156,13 +158,13 @@ module _ {settings : Settings} {held : State} (u : Delivering settings held)
         site-holds =
             rw (hand .step-is, way)
             (holds-answer (after .messages) (answer .count) (answer .reply) changed
-            (quiet-site (siteAt now j) m .one-answer) count-is
+            (site-one (siteAt now j) m) count-is
             (says .reply ∙ ap (λ (x : Site). getD (siteReceives x m .messages) 0 noMessage) read)
             (few-rest u hand) room-then)
 
 -- There is a record for the site that the head is for, or for site 0.
 pub head-few : {settings : Settings} {held : State} → Delivering settings held
-    → siteOfHead (held .underway .waiting) < 32
+    → siteOfHead (held .underway .waiting) < mostSites
 head-few {held = held} u = by-count (ℕ-discrete (queue .count) 0)
   where
     queue : Queue
@@ -171,10 +173,10 @@ head-few {held = held} u = by-count (ℕ-discrete (queue .count) 0)
     by-way : (queue .count ≡ 0 → ⊥)
         → (way : Bool)
         → toCoordinator (queue .first) ≡ way
-        → siteOfHead queue < 32
+        → siteOfHead queue < mostSites
     by-way some true is = rw (ne-eqb (queue .count) 0 some, is) (omega arith)
     by-way some false is = rw (siteOfHead-is queue some is) (site-few u (handing u some) is)
 
-    by-count : Dec (queue .count ≡ 0) → siteOfHead queue < 32
+    by-count : Dec (queue .count ≡ 0) → siteOfHead queue < mostSites
     by-count (yes none) = rw (eq-eqb (queue .count) 0 none) (omega arith)
     by-count (no some) = by-way some (toCoordinator (queue .first)) refl

@@ -1,9 +1,7 @@
 -- The laws that the delivery's functions are proved by.
-pub mod BoundedLaws
-pub mod StageNumbers
-pub mod QuietSteps
-pub mod BoundedSteps
+pub mod OneAnswer
 pub mod HoldingLaws
+pub mod RestLaws
 pub mod GoingLaws
 pub mod StepLaws
 pub mod DeliverLaws
@@ -14,4 +12,3 @@ pub mod HandLaws
 pub mod HandToCoordinator
 pub mod HandToSite
 pub mod HandSteps
-pub mod RestLaws

@@ -13,6 +13,7 @@ use Rattle.model.specs.declared.Settings.{Settings}
 use Rattle.model.specs.declared.Arrival.{Arrival}
 use Rattle.model.specs.declared.SiteRecord.{SiteRecord}
 use Rattle.model.specs.Site.{Site, SiteStep, observed}
+use Rattle.model.specs.Limits.{mostSites, mostSiteWords}
 use Rattle.model.specs.SiteMemory.{siteWords, siteIn, siteRecord, siteMemory}
 use Rattle.model.specs.Network.{siteAt}
 use Rattle.model.specs.NetworkMemory.{sitesMemory}
@@ -53,10 +54,10 @@ module _ {settings : Settings} {arrival : Arrival} {held : State}
   site-known : j < settings .sites
   site-known = going-taken (u .accepting) .known .site-known
 
-  pub site-few : j < 32
+  pub site-few : j < mostSites
   site-few = few-sites (going-fit (u .accepting)) site-known
 
-  pub starts-small : j * siteWords settings ≤ 32 * 13024
+  pub starts-small : j * siteWords settings ≤ mostSites * mostSiteWords
   starts-small = start-small (going-fit (u .accepting)) site-known
 
   pub starts-within : j * siteWords settings ≤ length (held .siteMemory)

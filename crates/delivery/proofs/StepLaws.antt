@@ -24,7 +24,7 @@ use Rattle.delivery.specs.declared.Underway.{Underway}
 use Rattle.sending.specs.Sending.{queueOf, SendAsks}
 use Rattle.delivery.specs.UnderwayParts.{trafficOf}
 use Rattle.delivery.specs.Holding.{Given, State, state, answered, Holds, Fits, Going, Delivering, goesOn}
-use Rattle.delivery.proofs.QuietSteps.{quiet-announced}
+use Rattle.delivery.proofs.OneAnswer.{announced-one, announced-remembers}
 use Rattle.delivery.proofs.HoldingLaws.{coordinator-read, send-asks, holds-answer, holds-coordinator}
 use Rattle.delivery.proofs.GoingLaws.{going-fit, going-stage, going-stored, going-room, going-asked}
 
@@ -180,13 +180,13 @@ module _ {settings : Settings} {held : State} (u : Delivering settings held)
         (delivery (withCoordinator (u .now .network) (after .coordinator)) [] (u .now .log))
         (state next (held .siteMemory) (held .coordinatorMemory) (held .log))
     changed =
-        let quiet = quiet-announced settings c (c .phase) in
+        let kept = announced-remembers settings c in
         holds-coordinator (ask .holds) (after .coordinator) [] (answer .coordinator)
         (held .underway .waiting) (held .coordinatorMemory)
         (ap (λ (a : CoordinatorAnswer.Answered). a .coordinator) answer-is)
         (ask .holds .waiting)
         (ask .holds .coordinator-memory
-        ∙ sym (rw (quiet .estimates-kept, quiet .histogram-kept)))
+        ∙ sym (rw (kept .estimates, kept .histogram)))
 
     room : 4 * length (u .earlier ++ (u .now .log ++ after .messages)) ≤ length (u .given .log)
     room = going-room (going-asked (ask .going) (ask .announces))
@@ -208,6 +208,6 @@ module _ {settings : Settings} {held : State} (u : Delivering settings held)
         (answered (answer .count) (answer .out)
         (state next (held .siteMemory) (held .coordinatorMemory) (held .log)))) (ask .step-is)
         (holds-answer (after .messages) (answer .count) (answer .out) changed
-        (quiet-announced settings c (c .phase) .one-answer) count-is
+        (announced-one settings c) count-is
         (ap (λ (a : CoordinatorAnswer.Answered). a .out) answer-is)
         (omega arith) room)

@@ -31,6 +31,7 @@ use Rattle.model.specs.Network.{Network, Delivered, afterArrival}
 use Rattle.model.specs.NetworkMemory.{siteRecords, sitesMemory, sitesWords}
 use Rattle.model.specs.Runs.{refusalIn}
 use Rattle.model.specs.SoundNetwork.{Sound}
+use Rattle.model.specs.NumberClaims.{Bounded}
 use Rattle.model.specs.DeliveryClaims.{Delivery, delivery, deliveryStep, deliveryOf}
 use Rattle.model.specs.SoundClaims.{Reached}
 use Rattle.sending.specs.declared.Queue.{Queue}
@@ -38,7 +39,6 @@ use Rattle.delivery.specs.declared.Underway.{Underway}
 use Rattle.sending.specs.Log.{logRoom, messageNumbers}
 use Rattle.sending.specs.Sending.{queueOf, sentIf, loggedIf}
 use Rattle.delivery.specs.UnderwayParts.{trafficOf, withTraffic}
-use Rattle.delivery.specs.Bounded.{Bounded}
 
 -- ---- What is held
 
@@ -109,7 +109,7 @@ pub record Accepting
   pub fits : Fits settings given
   pub room : length earlier + mostMessages (settings .sites) ≤ logRoom (given .log)
   pub sound : Sound settings network
-  pub bounded : Bounded network []
+  pub bounded : Bounded network
   pub taken : refusalIn settings network arrival ≡ accepted
 
 -- A delivery that the arrival set off, after so many steps.

@@ -1,6 +1,5 @@
 -- What a delivery requires and promises.
 pub mod UnderwayParts
-pub mod Bounded
 pub mod Holding
 pub mod Handing
 pub mod Arriving

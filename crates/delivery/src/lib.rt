@@ -7,6 +7,7 @@
 ghost use mathlib.Core.Path.{_≡_};
 ghost use Prim.Native.Nat.{_<_};
 ghost use lib.ListN.{getD};
+ghost use Rattle.model.specs.Limits.{mostSites};
 ghost use Rattle.model.specs.Messages.{toCoordinator};
 ghost use Rattle.site_memory.specs.Records.{noRecord, withRecord};
 ghost use Rattle.delivery.specs.UnderwayParts.{resting, underwayOf};
@@ -58,9 +59,9 @@ pub struct Change {
 
 // The record of one site. Internal: the batch call looks at a site that
 // `site_refusals::address_refusal` (5, 6) has let pass, in a network whose settings passed 1 to 3,
-// so that there are at most 32.
+// so that there is such a record.
 pub fn record_of(sites: Sites, which: usize) -> SiteRecord
-    requires { ⌜ which < 32 ⌝ }
+    requires { ⌜ which < mostSites ⌝ }
     ensures { λ r. ⌜ r ≡ getD (sites .records) which noRecord ⌝ }
 {
     sites.records[which]
@@ -68,7 +69,7 @@ pub fn record_of(sites: Sites, which: usize) -> SiteRecord
 
 // The record of one site changed. Internal, as `record_of`.
 pub fn with_record(sites: Sites, which: usize, numbers: SiteRecord) -> Sites
-    requires { ⌜ which < 32 ⌝ }
+    requires { ⌜ which < mostSites ⌝ }
     ensures { λ r. ⌜ r ≡ withRecord sites which numbers ⌝ }
 {
     let mut next = sites;

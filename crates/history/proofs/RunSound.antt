@@ -9,8 +9,7 @@
 use mathlib.Core.Path.{_≡_, refl}
 use mathlib.Core.Bool.{Bool, true, false}
 use mathlib.Core.List.{List, [], _∷_}
-use Prim.Native.Nat.{ℕ, zero, suc, _*_, _≤_}
-use native.Mathlib.Nat.{mul-le-mul-right}
+use Prim.Native.Nat.{ℕ, zero, suc, _≤_}
 use native.Mathlib.Omega.{arith}
 use lib.ListN.{length, replicate}
 use borrow.Author.Tests.{eqb-true}
@@ -19,18 +18,20 @@ use Rattle.model.specs.declared.Settings.{Settings}
 use Rattle.model.specs.declared.Arrival.{Arrival}
 use Rattle.model.specs.Choice.{isZero}
 use Rattle.model.specs.Refusals.{accepted}
-use Rattle.model.specs.Limits.{valueCount, messageLimit}
+use Rattle.model.specs.Limits.{valueCount, mostArrivals, messageLimit}
 use Rattle.model.specs.Settings.{settingsRefusal}
 use Rattle.model.specs.Site.{freshSite}
 use Rattle.model.specs.Network.{Network, freshNetwork}
 use Rattle.model.specs.NetworkMemory.{allArrivals}
 use Rattle.model.specs.Runs.{refusalIn, Run, freshRun, runOne, runFrom, runOf}
-use Rattle.model.specs.Claims.{counted}
 use Rattle.model.specs.SoundNetwork.{Sound}
 use Rattle.model.specs.NumberClaims.{allUnreported, Grown}
 use Rattle.model.proofs.SettingsLaws.{Settled, settled}
+use Rattle.model.proofs.ClosedSites.{sumBelow-allArrivals}
+use Rattle.model.proofs.RunInvariant.{run-ok}
 use Rattle.model.proofs.SoundTheorem.{sound-claims}
-use Rattle.model.proofs.NumberTheorem.{number-claims, grown-self, grown-more, arrivals-few}
+use Rattle.model.proofs.NumberBounds.{arrivals-few}
+use Rattle.model.proofs.NumberTheorem.{number-claims, grown-self, grown-more}
 use Rattle.model.proofs.ConsistentCoordinator.{CoordinatorWithin}
 use Rattle.model.proofs.Theorem.{demands-over-runs}
 
@@ -87,12 +88,12 @@ module _ (settings : Settings) (passes : settingsRefusal settings ≡ accepted) 
   fit : Settled settings
   fit = settled settings passes
 
-  -- No estimate and no value count is above all arrivals, which are at most k * 10^9.
+  -- No estimate and no value count is above all arrivals, which are within the limit.
   pub within-of-run : (network : Network) → SoundRun settings network
       → CoordinatorWithin (network .coordinator)
   within-of-run network ok =
       let fresh = freshNetwork settings in
-      let few : allArrivals (network .sites) ≤ 32000000000 = arrivals-few fit (ok .sound) in
+      let few : allArrivals (network .sites) ≤ mostArrivals = arrivals-few fit (ok .sound) in
       record {
         estimates-within = λ item.
             omega (
@@ -113,18 +114,16 @@ module _ (settings : Settings) (passes : settingsRefusal settings ≡ accepted) 
         sum-within = rw (ok .sound .idle) (omega arith);
       }
 
-  -- 3000 n ≤ 3000 T + e n with e ≤ 1000 gives 2 n ≤ 3 T, and 25 n is below 10^14.
+  -- n is all arrivals of all sites, and so many times their most is within the limit.
   pub messages-within : (arrivals : List Arrival)
       → length (runOf settings arrivals .messages) ≤ messageLimit
   messages-within arrivals =
-      let run = runOf settings arrivals in
-      let n = counted (run .accepted) in
-      let near = demands-over-runs .estimates-near settings arrivals passes .total-near in
-      let small : settings .epsilon * n ≤ 1000 * n = mul-le-mul-right n (fit .epsilon .at-most) in
+      let sites = runOf settings arrivals .network .sites in
+      let sites-ok = run-ok fit arrivals .sites-ok in
       omega (
         arith,
-        near,
-        small,
-        within-of-run (run .network) (sound-run arrivals) .total-within,
         demands-over-runs .few-messages settings arrivals passes .per-arrival,
+        sites-ok .arrivals-add-up,
+        sumBelow-allArrivals settings sites (sites-ok .all-sites),
+        arrivals-few fit (sound-run arrivals .sound),
       )

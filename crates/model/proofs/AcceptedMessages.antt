@@ -30,7 +30,7 @@ module _ (settings : Settings) (site : Site) (j : ℕ) (known : j < settings .si
   probe-accepted value within =
       rw (lt-leb (settings .sites) j known, eq-eqb j j refl, le-ltb topValue value within)
 
-  -- Kind 7 with a threshold that is no smaller, up to 10^9.
+  -- Kind 7 with a threshold that is no smaller, up to the site's limit.
   pub announcement-accepted : (threshold base : ℕ)
       → site .threshold ≤ threshold
       → threshold ≤ siteLimit

@@ -1,4 +1,4 @@
--- Refusal 11 of the coordinator means `SoundCoordinator` within the limit 10^11: it passes the test
+-- Refusal 11 of the coordinator means `SoundCoordinator` within the limit: it passes the test
 -- exactly if it is sound and no number is above the limit. Document 01, "Inconsistent".
 --
 --   CoordinatorWithin              its numbers within the limit

@@ -66,6 +66,7 @@ pub mod NeverFalls
 pub mod NeverFewer
 pub mod SoundTheorem
 pub mod NumberGrowth
+pub mod NumberBounds
 pub mod NumberTheorem
 pub mod ConsistentSites
 pub mod ConsistentCoordinator

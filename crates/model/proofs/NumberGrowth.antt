@@ -3,7 +3,7 @@
 --
 --   unreported-then, arrivals-then   all unreported and all arrivals after an arrival
 --   estimate-then, value-then        an estimate and a value count after it
---   grown-then                       all of it, where the network then has its sites
+--   counted-then, grown-then         all of it, where the network then has its sites
 use mathlib.Core.Path.{_≡_, refl, sym, ap, _∙_}
 use mathlib.Core.Bool.{Bool, true, false}
 use mathlib.Core.List.{List, [], _∷_}
@@ -174,6 +174,17 @@ module _ {settings : Settings} {network : Network} {arrival : Arrival}
   value-then (closesMore due all more) value = value-counted-then value
 
   -- One arrival with full delivery, in each of its cases.
+  pub counted-then : (which : ArrivalCase settings network arrival)
+      → length (networkThen which .sites) ≡ k
+      → allArrivals (networkThen which .sites) ≡ allArrivals (network .sites) + 1
+  counted-then which all =
+      omega (
+        arith,
+        sumBelow-allArrivals settings (network .sites) (sound .all-sites),
+        sumBelow-allArrivals settings (networkThen which .sites) all,
+        arrivals-then which,
+      )
+
   pub grown-then : (which : ArrivalCase settings network arrival)
       → length (networkThen which .sites) ≡ k
       → Grown network (networkThen which)
@@ -184,14 +195,9 @@ module _ {settings : Settings} {network : Network} {arrival : Arrival}
       let unreported-after : sumBelow (unreportedAt (networkThen which .sites)) k
       ≡ allUnreported (networkThen which .sites) =
       sumBelow-allUnreported settings (networkThen which .sites) all in
-      let arrivals-before : sumBelow (arrivalsAt (network .sites)) k
-      ≡ allArrivals (network .sites) =
-      sumBelow-allArrivals settings (network .sites) (sound .all-sites) in
-      let arrivals-after : sumBelow (arrivalsAt (networkThen which .sites)) k
-      ≡ allArrivals (networkThen which .sites) =
-      sumBelow-allArrivals settings (networkThen which .sites) all in
+      let counted = counted-then which all in
       record {
         estimate-grows = λ item.
-            omega (arith, estimate-then which item, unreported-then which, arrivals-then which);
-        value-grows = λ value. omega (arith, value-then which value, arrivals-then which);
+            omega (arith, estimate-then which item, unreported-then which, counted);
+        value-grows = λ value. omega (arith, value-then which value, counted);
       }

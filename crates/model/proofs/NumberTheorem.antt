@@ -1,37 +1,30 @@
 -- The coordinator's numbers stay small, from any sound network through any batch: the claims of
--- specs/NumberClaims.antt. Growth is counted by all arrivals, and these are at most k × 10^9.
+-- specs/NumberClaims.antt. Growth is counted by all arrivals, and these are bounded.
 use mathlib.Core.Path.{_≡_, refl, ap}
 use mathlib.Core.Bool.{Bool, true, false}
 use mathlib.Core.List.{List, [], _∷_}
-use Prim.Native.Nat.{ℕ, suc, _-_, _*_, _≤_, _<_}
-use native.Mathlib.Nat.{mul-le-mul-right}
+use Prim.Native.Nat.{ℕ, _+_, _-_}
 use native.Mathlib.Omega.{arith}
 use lib.ListN.{length}
 use borrow.Author.Tests.{eqb-true}
-use Rattle.laws.proofs.Sums.{sumBelow-le, sumBelow-const}
 use Rattle.model.specs.declared.Settings.{Settings}
 use Rattle.model.specs.declared.Arrival.{Arrival}
 use Rattle.model.specs.Choice.{isZero}
 use Rattle.model.specs.Refusals.{accepted}
-use Rattle.model.specs.Limits.{siteLimit, coordinatorLimit}
 use Rattle.model.specs.Settings.{settingsRefusal}
-use Rattle.model.specs.Counters.{Counter, counterAt, unreported}
 use Rattle.model.specs.Network.{Network, siteAt, Delivered, afterArrival}
 use Rattle.model.specs.NetworkMemory.{allArrivals}
 use Rattle.model.specs.Runs.{refusalIn, batchRefusal, Batch, batchFrom, batchOf}
-use Rattle.model.specs.SoundNetwork.{SoundSite, Sound}
-use Rattle.model.specs.NumberClaims.{unreportedIn, allUnreported, Grown, BatchNumbers, NumberClaims}
+use Rattle.model.specs.SoundNetwork.{Sound}
+use Rattle.model.specs.NumberClaims.{Grown, BatchNumbers, NumberClaims}
 use Rattle.model.proofs.RefusalLaws.{both-accepted}
 use Rattle.model.proofs.SettingsLaws.{Settled, settled}
 use Rattle.model.proofs.ArrivalParts.{ArrivalCase, arrival-case, networkThen}
 use Rattle.model.proofs.AfterArrival.{after-arrival}
-use Rattle.model.proofs.SitesInvariant.{unreportedAt}
-use Rattle.model.proofs.ClosedSites.{sumBelow-allArrivals}
-use Rattle.model.proofs.SoundSites.{taken-of-no-refusal}
-use Rattle.model.proofs.Together.{total-bounded, arrivals-bounded}
-use Rattle.model.proofs.SoundStages.{together-of-sound}
+use Rattle.model.proofs.SoundSites.{ArrivalTaken, taken-of-no-refusal}
 use Rattle.model.proofs.SoundTheorem.{sound-claims}
-use Rattle.model.proofs.NumberGrowth.{unreportedIn-sum, sumBelow-allUnreported, grown-then}
+use Rattle.model.proofs.NumberGrowth.{counted-then, grown-then}
+use Rattle.model.proofs.NumberBounds.{arrivals-few, bounded-start, bounded-grown, estimates-few, values-few}
 
 -- ---- Growth, arrival by arrival
 
@@ -52,78 +45,38 @@ grown-more earlier later = record {
   value-grows = λ value. omega (arith, earlier .value-grows value, later .value-grows value);
 }
 
-arrival-grows : (settings : Settings) (network : Network) (arrival : Arrival)
-    → settingsRefusal settings ≡ accepted
-    → Sound settings network
-    → refusalIn settings network arrival ≡ accepted
-    → Grown network (afterArrival settings network arrival .network)
-arrival-grows settings network arrival no-refusal sound taken =
-    let which : ArrivalCase settings network arrival = arrival-case settings network arrival in
-    let same : afterArrival settings network arrival .network ≡ networkThen which =
-    ap (λ (after : Delivered). after .network)
-    (after-arrival settings network arrival (sound .idle) which) in
-    let sound-then : Sound settings (afterArrival settings network arrival .network) =
-    sound-claims .arrival-sound settings network arrival no-refusal sound taken in
-    rw same
-    (grown-then (settled settings no-refusal) sound
-    (taken-of-no-refusal settings (siteAt network (arrival .site)) arrival taken) which
-    (rw same at (sound-then .all-sites)))
+-- An arrival with full delivery, from the cases of its closed form.
+module _ (settings : Settings) (network : Network) (arrival : Arrival)
+    (no-refusal : settingsRefusal settings ≡ accepted)
+    (sound : Sound settings network)
+    (taken : refusalIn settings network arrival ≡ accepted) where
+  abbrev after : Network
+  after = afterArrival settings network arrival .network
 
--- ---- What is unreported, and what arrived, is bounded
+  which : ArrivalCase settings network arrival
+  which = arrival-case settings network arrival
 
-unreportedIn-le : (counters : List Counter) (limit : ℕ)
-    → ((j : ℕ) → j < length counters → unreported (counterAt counters j) ≤ limit)
-    → unreportedIn counters ≤ length counters * limit
-unreportedIn-le [] limit each = omega arith
-unreportedIn-le (counter ∷ counters) limit each =
-    omega (
-      arith,
-      each 0 (omega arith),
-      unreportedIn-le counters limit (λ j j<. each (suc j) (omega arith)),
-    )
+  same : after ≡ networkThen which
+  same =
+      ap (λ (d : Delivered). d .network)
+      (after-arrival settings network arrival (sound .idle) which)
 
-module _ {settings : Settings} {network : Network}
-    (fit : Settled settings) (sound : Sound settings network) where
-  -- Each of at most c counters has less than the threshold unreported.
-  site-unreported : (j : ℕ) → j < settings .sites
-      → unreportedAt (network .sites) j ≤ 3000 * siteLimit
-  site-unreported j j< =
-      let site-sound : SoundSite settings (siteAt network j) = sound .sites-sound j j< in
-      omega (
-        arith,
-        unreportedIn-sum (siteAt network j .counters),
-        unreportedIn-le (siteAt network j .counters) siteLimit
-            (λ place place<. omega (
-              arith,
-              site-sound .threshold-within,
-              site-sound .counters-sound place place< .unreported-below,
-            )),
-        mul-le-mul-right siteLimit (site-sound .few-counters),
-        fit .capacity .at-most,
-      )
+  all : length (networkThen which .sites) ≡ settings .sites
+  all =
+      rw same at
+      (sound-claims .arrival-sound settings network arrival no-refusal sound taken .all-sites)
 
-  unreported-bounded : allUnreported (network .sites) ≤ 96000000000000
-  unreported-bounded =
-      omega (
-        arith,
-        sumBelow-allUnreported settings (network .sites) (sound .all-sites),
-        sumBelow-le (unreportedAt (network .sites)) (λ j. 3000 * siteLimit) (settings .sites)
-            site-unreported,
-        sumBelow-const (3000 * siteLimit) (settings .sites),
-        fit .sites .at-most,
-      )
+  fit : Settled settings
+  fit = settled settings no-refusal
 
-  pub arrivals-few : allArrivals (network .sites) ≤ 32000000000
-  arrivals-few =
-      omega (
-        arith,
-        sumBelow-allArrivals settings (network .sites) (sound .all-sites),
-        arrivals-bounded (together-of-sound sound),
-        fit .sites .at-most,
-      )
+  known : ArrivalTaken settings (siteAt network (arrival .site)) arrival
+  known = taken-of-no-refusal settings (siteAt network (arrival .site)) arrival taken
 
-  total-few : network .coordinator .total ≤ coordinatorLimit
-  total-few = omega (arith, total-bounded (together-of-sound sound), fit .sites .at-most)
+  arrival-grows : Grown network after
+  arrival-grows = rw same (grown-then fit sound known which all)
+
+  arrival-counted : allArrivals (after .sites) ≡ allArrivals (network .sites) + 1
+  arrival-counted = rw same (counted-then fit sound known which all)
 
 -- ---- Batches
 
@@ -174,27 +127,20 @@ module _ (settings : Settings) (room : ℕ) (network : Network)
         sound = kept .sound;
         grown = kept .grown;
         estimates-small = λ within item.
-            omega (
-              arith,
-              kept .grown .estimate-grows item,
-              within .estimates-within item,
-              unreported-bounded fit sound,
-              arrivals-few fit (kept .sound),
-            );
+            estimates-few fit (kept .sound)
+            (bounded-grown (kept .grown) (bounded-start fit sound within)) item;
         values-small = λ within value.
-            omega (
-              arith,
-              kept .grown .value-grows value,
-              within .values-within value,
-              arrivals-few fit (kept .sound),
-            );
-        total-small = total-few fit (kept .sound);
+            values-few fit (kept .sound)
+            (bounded-grown (kept .grown) (bounded-start fit sound within)) value;
+        total-small =
+            omega (arith, kept .sound .all-counted, arrivals-few fit (kept .sound));
       }
 
 -- The claims on the coordinator's numbers, all proved.
 pub number-claims : NumberClaims
 number-claims = record {
   arrival-grows = arrival-grows;
+  arrival-counted = arrival-counted;
   batch-numbers = λ settings room network arrivals no-refusal sound.
       batch-numbers settings room network no-refusal arrivals sound;
 }

@@ -14,6 +14,7 @@ use lib.Dec.{eqb, ltb}
 use lib.ListN.{length}
 use borrow.Author.Tests.{le-leb, eq-eqb, eqb-true, ltb-true, not-true}
 use Rattle.laws.proofs.Tests.{both-true}
+use Rattle.model.specs.Limits.{numberLimit}
 use Rattle.model.specs.Decimal.{isDigit, digitValue, digitByte, number, moreDigits, leadingZero, readNumber, decimal}
 use Rattle.model.specs.Lines.{fields, semicolon, lineFeed, beforeMark, readField, withField, readFields, writeFields}
 use Rattle.model.specs.WorklistClaims.{allSmall}
@@ -180,7 +181,7 @@ no-leading-zero first others rest alone end = by-first (eqb first 48) refl
     by-first false other = without-zero (others ++ rest) other
 
 pub read-back : (n : ℕ) (rest : List ℕ)
-    → n < 10000000
+    → n < numberLimit
     → noDigitFirst rest ≡ true
     → readNumber (decimal n ++ rest) ≡ number n rest
 read-back n rest small end =
@@ -197,7 +198,7 @@ read-back n rest small end =
 
 -- A field and its mark, which is no digit.
 read-back-field : (mark n : ℕ) (rest : List ℕ)
-    → n < 10000000
+    → n < numberLimit
     → isDigit mark ≡ false
     → readField mark (decimal n ++ (mark ∷ rest)) ≡ number n rest
 read-back-field mark n rest small no-digit =
@@ -208,13 +209,13 @@ pub read-back-fields : (n : ℕ) (ns rest : List ℕ)
     → allSmall (n ∷ ns) ≡ true
     → readFields (length (n ∷ ns)) (writeFields (n ∷ ns) ++ rest) ≡ fields (n ∷ ns) rest
 read-back-fields n [] rest small =
-    let below = ltb-true n 10000000 (both-true (ltb n 10000000) true small .first-true) in
+    let below = ltb-true n numberLimit (both-true (ltb n numberLimit) true small .first-true) in
     ap (readFields 1) (append-assoc (decimal n) (lineFeed ∷ []) rest)
     ∙ fields-last lineFeed (decimal n ++ (lineFeed ∷ rest)) n rest
     (read-back-field lineFeed n rest below refl)
 read-back-fields n (next ∷ ns) rest small =
-    let both = both-true (ltb n 10000000) (allSmall (next ∷ ns)) small in
-    let below = ltb-true n 10000000 (both .first-true) in
+    let both = both-true (ltb n numberLimit) (allSmall (next ∷ ns)) small in
+    let below = ltb-true n numberLimit (both .first-true) in
     let others = writeFields (next ∷ ns) in
     ap (readFields (length (n ∷ (next ∷ ns))))
     (append-assoc (decimal n ++ (semicolon ∷ [])) others rest

@@ -11,6 +11,7 @@ use borrow.Author.Tests.{leb-true, ltb-false, not-false}
 use Rattle.laws.proofs.Tests.{both-true}
 use Rattle.model.specs.declared.Settings.{Settings}
 use Rattle.model.specs.Choice.{between}
+use Rattle.model.specs.Limits.{mostSites, mostCapacity, mostUniverse}
 use Rattle.model.specs.Refusals.{accepted}
 use Rattle.model.specs.Settings.{inRange, settingsRefusal}
 use Rattle.model.proofs.RefusalLaws.{passed}
@@ -29,12 +30,12 @@ within-of-between low x high holds =
     }
 
 pub record Settled (settings : Settings) : Type 0 where
-  pub sites : Within 1 (settings .sites) 32
+  pub sites : Within 1 (settings .sites) mostSites
   pub epsilon : Within 2 (settings .epsilon) 1000
   pub phi : Within 1 (settings .phi) 1000
   pub rank : Within 1 (settings .rank) 1000
-  pub capacity : Within 1 (settings .capacity) 3000
-  pub universe : Within 1 (settings .universe) 65536
+  pub capacity : Within 1 (settings .capacity) mostCapacity
+  pub universe : Within 1 (settings .universe) mostUniverse
   pub phi-epsilon : settings .epsilon ≤ settings .phi
   pub enough-counters : 6000 ≤ settings .capacity * settings .epsilon
 

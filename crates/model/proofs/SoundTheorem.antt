@@ -4,7 +4,7 @@
 use mathlib.Core.Path.{_≡_, refl, sym, ap, _∙_, subst}
 use mathlib.Core.Bool.{Bool, true, false}
 use mathlib.Core.List.{List, [], _∷_}
-use Prim.Native.Nat.{ℕ, zero, suc, _+_, _-_, _≤_}
+use Prim.Native.Nat.{ℕ, zero, suc, _+_, _-_, _/_, _≤_}
 use native.Mathlib.Omega.{arith}
 use lib.ListN.{replicate, length-replicate, getD-replicate}
 use Rattle.model.specs.declared.Settings.{Settings}
@@ -12,7 +12,7 @@ use Rattle.model.specs.declared.Arrival.{Arrival}
 use Rattle.model.specs.declared.Message.{Message}
 use Rattle.model.specs.declared.Phase.the-variants.{Idle}
 use Rattle.model.specs.Refusals.{accepted}
-use Rattle.model.specs.Limits.{mostSteps}
+use Rattle.model.specs.Limits.{siteLimit, mostSteps}
 use Rattle.model.specs.Settings.{settingsRefusal}
 use Rattle.model.specs.Site.{Site, freshSite}
 use Rattle.model.specs.Coordinator.{isAnnouncing}
@@ -224,7 +224,7 @@ module _ (settings : Settings) (network : Network) (arrival : Arrival)
 threshold-small : (settings : Settings) (network : Network)
     → settingsRefusal settings ≡ accepted
     → Sound settings network
-    → network .coordinator .threshold ≤ 333333333
+    → network .coordinator .threshold ≤ siteLimit / 3
 threshold-small settings network no-refusal sound =
     omega (arith, threshold-bounded (together-of-sound sound) (settled settings no-refusal))
 

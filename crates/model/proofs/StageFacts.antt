@@ -1,6 +1,7 @@
 -- What holds at every stage of a delivery: each site and the coordinator are sound by themselves,
--- and neither the total nor the sum of a halving passes the limit 10^11. PROOF.md section 8.
+-- and neither the total nor the sum of a halving passes the limit. PROOF.md section 8.
 --
+--   stage-length                     there are as many sites as the settings say
 --   stage-sites, stage-coordinator   each by itself
 --   stage-total, stage-sum           within the limit
 use mathlib.Core.Path.{_≡_, refl}
@@ -9,6 +10,7 @@ use mathlib.Core.List.{List}
 use Prim.Native.Nat.{ℕ, _≤_, _<_}
 use native.Mathlib.Omega.{arith}
 use lib.Dec.{ltb}
+use lib.ListN.{length}
 use borrow.Author.Tests.{ltb-true}
 use Rattle.model.specs.declared.Settings.{Settings}
 use Rattle.model.specs.declared.Message.{Message}
@@ -22,6 +24,14 @@ use Rattle.model.proofs.Together.{Together, total-bounded}
 use Rattle.model.proofs.Stages.{Announces, Stage, reporting, polling, halving, announcing}
 
 -- ---- Each by itself, at every stage
+
+pub stage-length : {settings : Settings} {network : Network} {waiting : List Message} {left : ℕ}
+    → Stage settings network waiting left
+    → length (network .sites) ≡ settings .sites
+stage-length (reporting r) = r .together .all-sites
+stage-length (polling p) = p .together .all-sites
+stage-length (halving p) = p .together .all-sites
+stage-length (announcing a) = a .together .all-sites
 
 -- Every site is sound by itself.
 pub stage-sites : {settings : Settings} {network : Network} {waiting : List Message} {left : ℕ}
@@ -78,7 +88,7 @@ total-small : {settings : Settings} {network : Network} {informed flight : ℕ}
     → network .coordinator .total ≤ coordinatorLimit
 total-small fit together = omega (arith, total-bounded together, fit .sites .at-most)
 
--- The total is at most all arrivals, 32 × 10^9.
+-- The total is at most all arrivals.
 pub stage-total : {settings : Settings} {network : Network} {waiting : List Message} {left : ℕ}
     → Settled settings
     → Stage settings network waiting left
@@ -88,7 +98,7 @@ stage-total fit (polling p) = total-small fit (p .together)
 stage-total fit (halving p) = total-small fit (p .together)
 stage-total fit (announcing a) = total-small fit (a .together)
 
--- The sum of a halving has at most 10^9 from each site that answered.
+-- The sum of a halving has at most a site's limit from each site that answered.
 pub stage-sum : {settings : Settings} {network : Network} {waiting : List Message} {left : ℕ}
     → Settled settings
     → Stage settings network waiting left

@@ -4,7 +4,7 @@
 --
 --   Together settings network informed flight   the first so many sites have the coordinator's
 --                                               threshold, and so much is on its way
---   total-bounded, threshold-bounded            the total ≤ k × 10^9, three thresholds ≤ 10^9
+--   total-bounded, threshold-bounded            the total ≤ k site limits, three thresholds ≤ one
 --   together-site, together-coordinator         one site or the coordinator is changed
 -- Letters: k the sites, j one of them.
 use mathlib.Core.Path.{_≡_, _∙_}
@@ -43,7 +43,7 @@ module _ {settings : Settings} {network : Network} {informed flight : ℕ}
     (together : Together settings network informed flight) where
   -- ---- Bounds
 
-  -- All arrivals are at most k × 10^9.
+  -- All arrivals are at most k times the limit.
   pub arrivals-bounded : sumBelow (arrivalsAt (network .sites)) (settings .sites)
       ≤ settings .sites * siteLimit
   arrivals-bounded =
@@ -58,8 +58,7 @@ module _ {settings : Settings} {network : Network} {informed flight : ℕ}
   pub total-bounded : network .coordinator .total + flight ≤ settings .sites * siteLimit
   total-bounded = omega (arith, arrivals-bounded, together .all-counted)
 
-  -- A threshold that a base up to the total gives is at most a third of a site's limit:
-  -- 333,333,333.
+  -- A threshold that a base up to the total gives is at most a third of a site's limit.
   pub threshold-of-total : Settled settings
       → (base : ℕ) → base ≤ network .coordinator .total + flight
       → 3 * thresholdOf settings base ≤ siteLimit

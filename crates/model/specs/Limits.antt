@@ -1,10 +1,17 @@
 -- Document 01's limits and constants, each named once. A change request that moves one moves it
 -- here.
-use Prim.Native.Nat.{ℕ, _+_, _*_}
+use Prim.Native.Nat.{ℕ, _+_, _*_, _^_}
 
 -- "Decks k 1 to 32": the records that a `Sites` value holds.
 abbrev pub mostSites : ℕ
 mostSites = 32
+
+-- "Slots c 1 to 3000 for each deck. Code space u 1 to 65,536."
+abbrev pub mostCapacity : ℕ
+mostCapacity = 3000
+
+abbrev pub mostUniverse : ℕ
+mostUniverse = 65536
 
 -- "Volume classes run from 0 to 1023": the greatest value. The histogram's length stays shut, so
 -- that no proof unfolds a list of 1024 places; `valueCount` opens it where a number is wanted.
@@ -14,10 +21,19 @@ topValue = 1023
 unfoldable pub valueCount : ℕ
 valueCount = 1024
 
+-- "for each slot a code, a count, an overcount and a sent number; then 1024 class counts": the most
+-- numbers of a site's memory.
+abbrev pub mostSiteWords : ℕ
+mostSiteWords = 4 * mostCapacity + (topValue + 1)
+
 -- "A deck takes at most 1,000,000,000 draws"; also the largest amount of kinds 6 and 7 and the
 -- largest threshold of a site.
 abbrev pub siteLimit : ℕ
 siteLimit = 1000000000
+
+-- Hence all arrivals of all sites are at most these.
+abbrev pub mostArrivals : ℕ
+mostArrivals = mostSites * siteLimit
 
 -- "a number of the desk's memory or record, or the sum in its phase, above 100,000,000,000"
 abbrev pub coordinatorLimit : ℕ
@@ -26,6 +42,10 @@ coordinatorLimit = 100000000000
 -- "the bench's message count above 100,000,000,000,000"
 abbrev pub messageLimit : ℕ
 messageLimit = 100000000000000
+
+-- "1 to 7 digits each": a line's numbers are below this.
+abbrev pub numberLimit : ℕ
+numberLimit = 10 ^ 7
 
 -- "At most 23 × k + 2 messages follow one draw."
 abbrev pub mostMessages : ℕ → ℕ

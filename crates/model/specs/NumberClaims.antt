@@ -4,15 +4,17 @@
 --   allUnreported sites                  the unreported arrivals of all counters of all sites
 --   Grown before after                   each estimate with all unreported, and each value count,
 --                                        grew by at most the arrivals taken in between
---   estimateLimit, valueCountLimit       what that leaves them, from numbers that passed refusal 11
+--   startLimit                           an estimate with all unreported that passed refusal 11
+--   Bounded network                      what that leaves them, as a batch goes on
+--   estimateLimit, valueCountLimit       and at most, since all arrivals are
 --   NumberClaims                         all of it
 use mathlib.Core.Path.{_≡_}
 use mathlib.Core.List.{List, [], _∷_}
-use Prim.Native.Nat.{ℕ, _+_, _≤_}
+use Prim.Native.Nat.{ℕ, _+_, _*_, _≤_}
 use Rattle.model.specs.declared.Settings.{Settings}
 use Rattle.model.specs.declared.Arrival.{Arrival}
 use Rattle.model.specs.Refusals.{accepted}
-use Rattle.model.specs.Limits.{coordinatorLimit}
+use Rattle.model.specs.Limits.{mostSites, mostCapacity, siteLimit, mostArrivals, coordinatorLimit}
 use Rattle.model.specs.Settings.{settingsRefusal}
 use Rattle.model.specs.Counters.{Counter, unreported}
 use Rattle.model.specs.Site.{Site}
@@ -45,18 +47,29 @@ pub record Grown (before after : Network) : Type 0 where
 
 -- ---- The limits
 
--- 10^11 that passed, 32 × 3000 counters below 10^9 unreported each, and 32 × 10^9 arrivals.
-abbrev pub estimateLimit : ℕ
-estimateLimit = 96132000000000
-
--- 10^11 that passed, and 32 × 10^9 arrivals.
-abbrev pub valueCountLimit : ℕ
-valueCountLimit = 132000000000
-
 -- The estimates and value counts of a coordinator that passed refusal 11.
 pub record WithinLimit (network : Network) : Type 0 where
   pub estimates-within : (item : ℕ) → estimateOf network item ≤ coordinatorLimit
   pub values-within : (value : ℕ) → countOfValue network value ≤ coordinatorLimit
+
+-- An estimate that passed, and what is unreported: a counter has less than a threshold of it.
+abbrev pub startLimit : ℕ
+startLimit = coordinatorLimit + mostSites * (mostCapacity * siteLimit)
+
+-- Of a network at rest in a batch: its numbers passed, and grew by the arrivals at most.
+pub record Bounded (network : Network) : Type 0 where
+  pub estimates-bounded : (item : ℕ)
+      → estimateOf network item + allUnreported (network .sites)
+      ≤ startLimit + allArrivals (network .sites)
+  pub values-bounded : (value : ℕ)
+      → countOfValue network value ≤ coordinatorLimit + allArrivals (network .sites)
+
+-- So in a batch no number is ever above these.
+abbrev pub estimateLimit : ℕ
+estimateLimit = startLimit + mostArrivals
+
+abbrev pub valueCountLimit : ℕ
+valueCountLimit = coordinatorLimit + mostArrivals
 
 -- ---- The claims
 
@@ -78,6 +91,13 @@ pub record NumberClaims : Type 0 where
       → Sound settings network
       → refusalIn settings network arrival ≡ accepted
       → Grown network (afterArrival settings network arrival .network)
+  -- which is one arrival more
+  pub arrival-counted : (settings : Settings) (network : Network) (arrival : Arrival)
+      → settingsRefusal settings ≡ accepted
+      → Sound settings network
+      → refusalIn settings network arrival ≡ accepted
+      → allArrivals (afterArrival settings network arrival .network .sites)
+      ≡ allArrivals (network .sites) + 1
   -- after any batch, whatever its log
   pub batch-numbers : (settings : Settings) (room : ℕ) (network : Network)
       (arrivals : List Arrival)

@@ -11,7 +11,7 @@ use lib.Dec.{ltb}
 use Rattle.model.specs.declared.Settings.{Settings}
 use Rattle.model.specs.Choice.{between, isZero}
 use Rattle.model.specs.Refusals.{when, _orElse_, accepted, settingOutOfRange, phiBelowEpsilon, tooFewCounters}
-use Rattle.model.specs.Limits.{mostSites, allowanceFactor}
+use Rattle.model.specs.Limits.{mostSites, mostCapacity, mostUniverse, allowanceFactor}
 
 -- The settings k, e, p, q, c and u, in document 01's order.
 abbrev pub settingsWith : ℕ → ℕ → ℕ → ℕ → ℕ → ℕ → Settings
@@ -32,8 +32,8 @@ inRange settings =
     && between 2 (settings .epsilon) 1000
     && between 1 (settings .phi) 1000
     && between 1 (settings .rank) 1000
-    && between 1 (settings .capacity) 3000
-    && between 1 (settings .universe) 65536
+    && between 1 (settings .capacity) mostCapacity
+    && between 1 (settings .universe) mostUniverse
 
 -- The settings test, in the order 1, 2, 3.
 abbrev pub settingsRefusal : Settings → ℕ

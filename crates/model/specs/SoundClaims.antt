@@ -9,12 +9,12 @@
 use mathlib.Core.Path.{_≡_}
 use mathlib.Core.Bool.{true, false}
 use mathlib.Core.List.{List, [], _∷_}
-use Prim.Native.Nat.{ℕ, suc, _≤_, _<_}
+use Prim.Native.Nat.{ℕ, suc, _/_, _≤_, _<_}
 use Rattle.model.specs.declared.Settings.{Settings}
 use Rattle.model.specs.declared.Arrival.{Arrival}
 use Rattle.model.specs.declared.Message.{Message}
 use Rattle.model.specs.Refusals.{accepted}
-use Rattle.model.specs.Limits.{coordinatorLimit, mostSteps}
+use Rattle.model.specs.Limits.{siteLimit, coordinatorLimit, mostSteps}
 use Rattle.model.specs.Settings.{settingsRefusal}
 use Rattle.model.specs.Coordinator.{isAnnouncing}
 use Rattle.model.specs.Network.{Network, freshNetwork, siteAt, handOver, askAnnouncement, deliveryFuel, afterArrival}
@@ -83,11 +83,11 @@ pub record SoundClaims : Type 0 where
       → Sound settings network
       → refusalIn settings network arrival ≡ accepted
       → Sound settings (afterArrival settings network arrival .network)
-  -- no threshold comes near a site's limit
+  -- no threshold is above a third of a site's limit
   pub threshold-small : (settings : Settings) (network : Network)
       → settingsRefusal settings ≡ accepted
       → Sound settings network
-      → network .coordinator .threshold ≤ 333333333
+      → network .coordinator .threshold ≤ siteLimit / 3
   -- in mid-delivery, after any steps
   pub in-mid-delivery : (settings : Settings) (network : Network) (arrival : Arrival) (n : ℕ)
       (d : Delivery)

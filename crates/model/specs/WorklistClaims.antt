@@ -11,11 +11,12 @@ use Prim.Native.Nat.{ℕ, _+_, _≤_}
 use lib.Dec.{ltb}
 use lib.ListN.{length}
 use Rattle.model.specs.declared.Arrival.{Arrival}
+use Rattle.model.specs.Limits.{numberLimit}
 use Rattle.model.specs.Lines.{fields, readFields, fieldsOf, Worklist, ended, next, readFrom, readWorklist, writeWorklist}
 
 abbrev pub allSmall : List ℕ → Bool
 allSmall [] = true
-allSmall (n ∷ ns) = ltb n 10000000 && allSmall ns
+allSmall (n ∷ ns) = ltb n numberLimit && allSmall ns
 
 abbrev pub allWritable : List Arrival → Bool
 allWritable [] = true

@@ -11,6 +11,7 @@ use native.Mathlib.Nat.{mul-le-mul-right}
 use native.Mathlib.Omega.{arith}
 use lib.ListN.{length, drop, length-drop}
 use Rattle.model.specs.declared.Settings.{Settings}
+use Rattle.model.specs.Limits.{mostSites, mostSiteWords}
 use Rattle.model.specs.SiteMemory.{siteWords}
 use Rattle.model.proofs.SettingsLaws.{Settled, settled}
 use Rattle.site_memory.specs.Contracts.{MemoryFits}
@@ -19,7 +20,7 @@ use Rattle.network_tests.specs.Contracts.{SitesFit}
 
 -- A part of so many words starts early enough, and within the memory.
 pub record PartStarts (memory : List ℕ) (j words : ℕ) : Type 0 where
-  pub small : j * words ≤ 32 * 13024
+  pub small : j * words ≤ mostSites * mostSiteWords
   pub within : j * words ≤ length memory
 
 module _ {settings : Settings} {memory : List ℕ} (fits : SitesFit settings memory) where
@@ -27,10 +28,10 @@ module _ {settings : Settings} {memory : List ℕ} (fits : SitesFit settings mem
   fit = settled settings (fits .settings-accepted)
 
   module _ (j : ℕ) (known : j < settings .sites) where
-    pub site-few : j < 32
+    pub site-few : j < mostSites
     site-few = few-sites fit known
 
-    pub starts-small : j * siteWords settings ≤ 32 * 13024
+    pub starts-small : j * siteWords settings ≤ mostSites * mostSiteWords
     starts-small = start-small fit known
 
     more : suc j * siteWords settings ≤ settings .sites * siteWords settings

@@ -9,6 +9,7 @@ use borrow.Author.Tests.{lt-ltb, le-ltb}
 use Rattle.model.specs.declared.Settings.{Settings}
 use Rattle.model.specs.Refusals.{accepted}
 use Rattle.model.specs.Settings.{settingsRefusal}
+use Rattle.model.specs.Limits.{mostSites, mostSiteWords}
 use Rattle.model.specs.SiteMemory.{siteWords}
 use Rattle.model.specs.NetworkMemory.{sitesWords, networkTooShort}
 use Rattle.model.proofs.SettingsLaws.{settled}
@@ -19,7 +20,7 @@ use Rattle.site_memory.proofs.SitePart.{all-small}
 pub all-words : (settings : Settings) (words : ℕ)
     → settingsRefusal settings ≡ accepted
     → words ≡ siteWords settings
-    → settings .sites * words ≤ 32 * 13024
+    → settings .sites * words ≤ mostSites * mostSiteWords
 all-words settings words none words-are = rw words-are (all-small (settled settings none))
 
 module _ (settings : Settings) (sites coordinator : List ℕ) where

@@ -13,12 +13,12 @@ use Rattle.model.specs.Refusals.{accepted}
 use Rattle.model.specs.Limits.{messageLimit}
 use Rattle.model.specs.NetworkMemory.{networkIn, networkRefusal}
 use Rattle.model.specs.SoundNetwork.{Sound}
+use Rattle.model.specs.NumberClaims.{Bounded}
 use Rattle.model.proofs.SettingsLaws.{settled}
+use Rattle.model.proofs.NumberBounds.{bounded-start}
 use Rattle.model.proofs.ConsistentNetwork.{passes-of}
 use Rattle.site_memory.specs.Records.{noRecord}
 use Rattle.site_memory.proofs.SitesReading.{enough-records, used-within}
-use Rattle.delivery.specs.Bounded.{Bounded}
-use Rattle.delivery.proofs.BoundedLaws.{bounded-start}
 use Rattle.network_tests.specs.Contracts.{NetworkFits}
 
 pub record Passing (settings : Settings) (sites : Sites) (coordinator : CoordinatorRecord)
@@ -29,8 +29,7 @@ pub record Passing (settings : Settings) (sites : Sites) (coordinator : Coordina
       → getD (sites .records) j noRecord .used ≤ settings .capacity
   pub sound : Sound settings
       (networkIn settings sites coordinator siteMemory coordinatorMemory)
-  pub bounded : Bounded
-      (networkIn settings sites coordinator siteMemory coordinatorMemory) []
+  pub bounded : Bounded (networkIn settings sites coordinator siteMemory coordinatorMemory)
   pub count-within : sites .messages ≤ messageLimit
 
 pub passing : (settings : Settings) (sites : Sites) (coordinator : CoordinatorRecord)
@@ -54,9 +53,10 @@ passing settings sites coordinator siteMemory coordinatorMemory none =
           used-within noRecord (settings .sites) settings (sites .records) siteMemory all j j<
           (network-sound .sites-sound j j<);
       sound = network-sound;
-      bounded = bounded-start settings
-          (networkIn settings sites coordinator siteMemory coordinatorMemory)
-          (settled settings (passes .settings-accepted)) network-sound
-          (passes .within .estimates-within) (passes .within .values-within);
+      bounded = bounded-start (settled settings (passes .settings-accepted)) network-sound
+          (record {
+            estimates-within = passes .within .estimates-within;
+            values-within = passes .within .values-within;
+          });
       count-within = passes .count-within;
     }

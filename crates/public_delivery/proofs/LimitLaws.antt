@@ -25,7 +25,8 @@ use Rattle.model.specs.Runs.{refusalIn}
 use Rattle.model.specs.SoundNetwork.{estimateOf, countOfValue, Sound}
 use Rattle.model.proofs.SettingsLaws.{settled}
 use Rattle.model.proofs.SoundTheorem.{sound-claims}
-use Rattle.model.proofs.NumberTheorem.{number-claims, arrivals-few}
+use Rattle.model.proofs.NumberBounds.{arrivals-few}
+use Rattle.model.proofs.NumberTheorem.{number-claims}
 use Rattle.model.proofs.ConsistentCoordinator.{CoordinatorWithin}
 use Rattle.model.proofs.ArrivalParts.{afterItemReport, afterCountReport, ArrivalCase, noCountReport, countReported, closesOne, closesMore, arrival-case, networkThen}
 use Rattle.model.proofs.AfterArrival.{after-arrival}
@@ -105,7 +106,7 @@ module _ (settings : Settings) (network : Network) (arrival : Arrival)
     -- While the threshold is 1 they sum to the total; later they stay.
     counted-within : (value : ℕ)
         → (getD (afterCountReport settings network arrival Idle .histogram) value 0
-        ≤ countOfValue network value + 32000000000)
+        ≤ countOfValue network value + 1)
         → getD (afterCountReport settings network arrival Idle .histogram) value 0
         ≤ coordinatorLimit
     counted-within value grown = by-threshold (eqb (before .threshold) 1) refl
@@ -128,13 +129,13 @@ module _ (settings : Settings) (network : Network) (arrival : Arrival)
     values-within : (value : ℕ) → countOfValue final value ≤ coordinatorLimit
     values-within value = by-case (arrival-case settings network arrival)
       where
-        grown : countOfValue final value ≤ countOfValue network value + 32000000000
+        grown : countOfValue final value ≤ countOfValue network value + 1
         grown =
             omega (
               arith,
               number-claims .arrival-grows settings network arrival passes sound taken
                   .value-grows value,
-              arrivals-few (settled settings passes) sound-final,
+              number-claims .arrival-counted settings network arrival passes sound taken,
             )
 
         by-case : (which : ArrivalCase settings network arrival)

@@ -5,6 +5,7 @@ ghost use mathlib.Core.Path.{_≡_};
 ghost use mathlib.Core.Bool.{true, false};
 ghost use mathlib.Core.List.{List};
 ghost use Prim.Native.Nat.{ℕ, _<_};
+ghost use Rattle.model.specs.Limits.{mostSites};
 ghost use Rattle.network_tests.specs.Contracts.{SitesFit};
 ghost use Rattle.public_delivery.specs.Progress.{carriedLimit, sent, refusedWith, recordIn};
 ghost use Rattle.public_delivery.specs.Steps.{AskAsks, HandAsks, DueAsks, StepSays};
@@ -43,7 +44,7 @@ fn stop(progress: Progress, refusal: u32) -> Progress
 
 // The record of one site. Internal: its callers test that there is such a site.
 pub fn record_at(sites: Sites, which: usize) -> SiteRecord
-    requires { ⌜ which < 32 ⌝ }
+    requires { ⌜ which < mostSites ⌝ }
     ensures { λ r. ⌜ r ≡ recordIn sites which ⌝ }
 {
     sites.records[which]

@@ -3,7 +3,7 @@
 --   Clearing, clearing-start, clearing-on, clearing-end   the memory, place by place
 --   words-fit                                             how much memory that is at most
 --   start-settings, start-short, start-accepted           the answers
-use Prim.Native.Nat.{ℕ, _+_, _<_, _≤_}
+use Prim.Native.Nat.{ℕ, _+_, _*_, _<_, _≤_}
 use mathlib.Core.Path.{_≡_, refl, ap, sym, _∙_}
 use mathlib.Core.List.{List}
 use native.Mathlib.Nat.{mul-le-mul}
@@ -14,6 +14,7 @@ use Rattle.laws.proofs.FlatMemory.{overwritten, filled-on}
 use Rattle.model.specs.declared.Settings.{Settings}
 use Rattle.model.specs.declared.Sites.{Sites}
 use Rattle.model.specs.Refusals.{accepted, memoryTooShort}
+use Rattle.model.specs.Limits.{mostSites, mostSiteWords}
 use Rattle.model.specs.Settings.{settingsRefusal}
 use Rattle.model.specs.SiteMemory.{siteWords, overwrite}
 use Rattle.model.specs.NetworkMemory.{sitesWords, freshSites}
@@ -60,13 +61,13 @@ clearing-end before words memory i clearing past =
 
 -- ---- The answers
 
--- 32 sites of 4 × 3000 + 1024 numbers each.
+-- The memory of all sites, at most.
 pub words-fit : (settings : Settings)
     → settingsRefusal settings ≡ accepted
-    → sitesWords settings ≤ 416768
+    → sitesWords settings ≤ mostSites * mostSiteWords
 words-fit settings none =
     let known = settled settings none in
-    let each : siteWords settings ≤ 13024 =
+    let each : siteWords settings ≤ mostSiteWords =
     omega (arith, known .capacity .at-most, valueCount-is) in
     omega (arith, mul-le-mul (known .sites .at-most) each)
 

@@ -13,6 +13,7 @@ use native.Mathlib.Omega.{arith}
 use lib.ListN.{length, take, drop, length-drop}
 use lib.Seq.{take-all}
 use Rattle.model.specs.declared.Settings.{Settings}
+use Rattle.model.specs.Limits.{mostSites, mostSiteWords}
 use Rattle.model.specs.SiteMemory.{siteWords}
 use Rattle.model.specs.NetworkMemory.{sitesWords}
 use Rattle.model.proofs.SettingsLaws.{Settled}
@@ -20,17 +21,17 @@ use Rattle.model.proofs.ReportLaws.{valueCount-is}
 
 -- Numbers of memory, and their bytes, are far from what a machine number holds.
 module _ {settings : Settings} (fit : Settled settings) where
-  pub words-small : siteWords settings ≤ 13024
+  pub words-small : siteWords settings ≤ mostSiteWords
   words-small = omega (arith, fit .capacity .at-most, valueCount-is)
 
-  pub all-small : sitesWords settings ≤ 32 * 13024
+  pub all-small : sitesWords settings ≤ mostSites * mostSiteWords
   all-small = mul-le-mul (fit .sites .at-most) words-small
 
   module _ {j : ℕ} (known : j < settings .sites) where
-    pub few-sites : j < 32
+    pub few-sites : j < mostSites
     few-sites = omega (arith, known, fit .sites .at-most)
 
-    pub start-small : j * siteWords settings ≤ 32 * 13024
+    pub start-small : j * siteWords settings ≤ mostSites * mostSiteWords
     start-small = mul-le-mul (le-of-lt few-sites) words-small
 
 abbrev pub part : List ℕ → ℕ → ℕ → List ℕ

@@ -26,12 +26,12 @@ use Rattle.model.specs.Network.{afterArrival}
 use Rattle.model.specs.NetworkMemory.{allArrivals, networkRefusal}
 use Rattle.model.specs.Runs.{Batch, batchRefusal}
 use Rattle.model.specs.SoundNetwork.{Sound}
+use Rattle.model.specs.NumberClaims.{Bounded}
 use Rattle.model.specs.DeliveryClaims.{delivery}
 use Rattle.site_refusals.specs.Bare.{bareSite}
 use Rattle.delivery.specs.declared.Underway.{Underway}
 use Rattle.sending.specs.Log.{logRoom}
 use Rattle.sending.specs.Sending.{nothingWaits}
-use Rattle.delivery.specs.Bounded.{Bounded}
 use Rattle.delivery.specs.Holding.{Given, state, Holds, Fits}
 use Rattle.tracker_steps.specs.declared.BatchAnswer.{BatchAnswer}
 
@@ -141,7 +141,7 @@ pub record BatchHolds
 pub record BatchReady (settings : Settings) (given : Given) (batch : Batch) : Type 0 where
   pub fits : Fits settings given
   pub sound : Sound settings (batch .network)
-  pub bounded : Bounded (batch .network) []
+  pub bounded : Bounded (batch .network)
   pub accepted-within : batch .accepted ≤ allArrivals (batch .network .sites)
   pub messages-within : length (batch .messages) ≤ logRoom (given .log)
 

@@ -22,6 +22,7 @@ use lib.ListN.{length, getD, drop, drop-of-length-le}
 use lib.Seq.{drop-cons}
 use native.Mathlib.Numerals.{add-one}
 use Rattle.model.specs.Choice.{if_then_else_}
+use Rattle.model.specs.Limits.{numberLimit}
 use Rattle.model.specs.Decimal.{isDigit, digitValue, leadingZero, Number, noNumber, number, moreDigits, readNumber}
 use Rattle.model.proofs.DecimalLaws.{digit-within, more-digits-on, more-digits-stop, more-digits-long}
 use Rattle.model.specs.Lines.{beforeMark}
@@ -110,11 +111,14 @@ reading-begins bytes start first within small = record {
 
 module _ {bytes : List ℕ} {begun : Number} {next value : ℕ} where
   -- value < 10 ^ (7 - more) ≤ 10 ^ 7, and less while a digit may come
-  pub reading-small : (more : ℕ) → Reading bytes begun next value more → value < 10000000
+  pub reading-small : (more : ℕ) → Reading bytes begun next value more → value < numberLimit
   reading-small more reading =
       omega (arith, pow-le-pow-right {n = 10} (omega arith) {i = 7 - more} {j = 7} (omega arith))
 
-  pub reading-room : (more : ℕ) → 0 < more → Reading bytes begun next value more → value < 1000000
+  pub reading-room : (more : ℕ)
+      → 0 < more
+      → Reading bytes begun next value more
+      → 10 * value < numberLimit
   reading-room more some reading =
       omega (arith, pow-le-pow-right {n = 10} (omega arith) {i = 7 - more} {j = 6} (omega arith))
 

@@ -9,6 +9,7 @@ use Rattle.worklist.specs.declared.ThreeRead.{ThreeRead}
 use Rattle.worklist.specs.declared.LineRead.{LineRead}
 use Rattle.model.specs.Choice.{if_then_else_}
 use Rattle.model.specs.Refusals.{when, malformedLine}
+use Rattle.model.specs.Limits.{numberLimit}
 use Rattle.model.specs.Decimal.{Number, noNumber, number, moreDigits, readNumber}
 use Rattle.model.specs.Lines.{Fields, malformed, fields, beforeMark, readField, readFieldsTo, readLine}
 
@@ -25,7 +26,7 @@ notRead = record { found = false; value = 0; next = 0 }
 pub record NumberSays (bytes : List ℕ) (expected : Number) (answer : NumberRead) : Type 0 where
   pub is : numberIn bytes answer ≡ expected
   pub within : answer .next ≤ length bytes
-  pub small : answer .value < 10000000
+  pub small : answer .value < numberLimit
 
 -- A number that was read, ended by a mark.
 abbrev pub endedNumber : ℕ → List ℕ → NumberRead → Number

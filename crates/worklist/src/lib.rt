@@ -4,6 +4,7 @@ ghost use mathlib.Core.Path.{_≡_};
 ghost use mathlib.Core.Bool.{true};
 ghost use Prim.Native.Nat.{_+_, _-_, _≤_, _<_};
 ghost use lib.ListN.{length, drop};
+ghost use Rattle.model.specs.Limits.{numberLimit};
 ghost use Rattle.model.specs.Decimal.{isDigit, digitValue, leadingZero};
 ghost use Rattle.worklist.specs.Contracts.{notRead, DigitsSay, NumberAt, EndedSays, FieldAt, ThreeAt, LineSays};
 use model::ACCEPTED;
@@ -130,7 +131,7 @@ fn read_number(bytes: &[u8], at: usize) -> NumberRead
 
 // A number that was read, if the mark stands right after it.
 fn ended_by(bytes: &[u8], number: NumberRead, mark: u8) -> NumberRead
-    requires { ⌜ (number .next ≤ length (now bytes)) × (number .value < 10000000) ⌝ }
+    requires { ⌜ (number .next ≤ length (now bytes)) × (number .value < numberLimit) ⌝ }
     ensures { λ r. ⌜ EndedSays mark (now (bytes .entry)) number r ⌝ }
 {
     let next = number.next;

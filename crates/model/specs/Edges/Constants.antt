@@ -15,6 +15,7 @@ use Rattle.model.specs.SiteMemory.{siteRecord}
 use Rattle.model.specs.CoordinatorMemory.{coordinatorRecord}
 use Rattle.model.specs.Network.{siteAt, deliveryFuel}
 use Rattle.model.specs.Runs.{runOf}
+use Rattle.model.specs.NumberClaims.{estimateLimit, valueCountLimit}
 use Rattle.model.specs.DeliveryClaims.{Delivery, deliverySteps, deliveryOf}
 use Rattle.model.specs.Instances.{settingsA, settingsP6, draw, draws, coordinatorAfter, messagesOf}
 use Rattle.model.specs.Edges.Inputs.{settingsTwo, drawAt, twelve, siteNumbers, coordinatorNumbers}
@@ -45,6 +46,9 @@ pub record ConstantEdges : Type 0 where
   -- "above 100,000,000,000", "above 100,000,000,000,000"
   pub coordinator-limit : coordinatorLimit ≡ 100000000000
   pub message-limit : messageLimit ≡ 100000000000000
+  -- and what follows: 10^11, 32 × 3000 counters and 32 sites of 10^9 each; the first and the last
+  pub estimate-limit : estimateLimit ≡ 96132000000000
+  pub value-count-limit : valueCountLimit ≡ 132000000000
   -- "messages ≤ 25 × n", "150,000 × k × (binary digits of n, plus 1) / e rounded down"
   pub messages-per-arrival : messagesPerArrival ≡ 25
   pub allowance-factor : allowanceFactor ≡ 150000

@@ -4,6 +4,7 @@ use mathlib.Core.Path.{_≡_}
 use mathlib.Core.Bool.{true, _&&_}
 use borrow.Author.Needs.{needs}
 use Rattle.model.specs.Choice.{between}
+use Rattle.model.specs.Limits.{mostSites, mostCapacity}
 use Rattle.laws.proofs.Tests.{false-of-not, true-of-not}
 use Rattle.settings.proofs.any_outside.Statement.{statement}
 use Rattle.settings.proofs.any_outside.Tie as tie
@@ -12,26 +13,28 @@ returns : tie.Need-returns
 returns c =
     let s = c .before .before .args .settings in
     rw
-    (false-of-not (between 1 (s .sites) 32) (c .before .outside .ensures) (c .if1 .taken))
+    (false-of-not (between 1 (s .sites) mostSites) (c .before .outside .ensures) (c .if1 .taken))
 
 returns-2 : tie.Need-returns-2
 returns-2 c =
     let first = c .before .before in
     let s = first .before .before .args .settings in
     rw (
-      true-of-not (between 1 (s .sites) 32) (first .before .outside .ensures) (first .if1 .left),
+      true-of-not (between 1 (s .sites) mostSites) (first .before .outside .ensures)
+          (first .if1 .left),
       false-of-not (between 2 (s .epsilon) 1000) (c .before .outside2 .ensures) (c .if2 .taken),
     )
 
 -- Two ranges were passed, and two more.
 two-within : (second : tie.Else2)
     → let s = second .before .before .before .before .args .settings in
-    (between 1 (s .sites) 32 && between 2 (s .epsilon) 1000) ≡ true
+    (between 1 (s .sites) mostSites && between 2 (s .epsilon) 1000) ≡ true
 two-within second =
     let first = second .before .before in
     let s = first .before .before .args .settings in
     rw (
-      true-of-not (between 1 (s .sites) 32) (first .before .outside .ensures) (first .if1 .left),
+      true-of-not (between 1 (s .sites) mostSites) (first .before .outside .ensures)
+          (first .if1 .left),
       true-of-not (between 2 (s .epsilon) 1000)
           (second .before .outside2 .ensures) (second .if2 .left),
     )
@@ -39,7 +42,7 @@ two-within second =
 four-within : (fourth : tie.Else4)
     → let third = fourth .before .before in
     let s = third .before .before .before .before .before .before .args .settings in
-    (between 1 (s .sites) 32 && between 2 (s .epsilon) 1000
+    (between 1 (s .sites) mostSites && between 2 (s .epsilon) 1000
     && between 1 (s .phi) 1000 && between 1 (s .rank) 1000) ≡ true
 four-within fourth =
     let third = fourth .before .before in
@@ -79,7 +82,8 @@ returns-5 c =
     let s = second .before .before .before .before .args .settings in
     rw (
       four-within fourth,
-      false-of-not (between 1 (s .capacity) 3000) (c .before .outside5 .ensures) (c .if5 .taken),
+      false-of-not (between 1 (s .capacity) mostCapacity) (c .before .outside5 .ensures)
+          (c .if5 .taken),
     )
 
 returns-6 : tie.Need-returns-6
@@ -90,7 +94,7 @@ returns-6 c =
     let s = second .before .before .before .before .args .settings in
     rw (
       four-within fourth,
-      true-of-not (between 1 (s .capacity) 3000)
+      true-of-not (between 1 (s .capacity) mostCapacity)
           (fifth .before .outside5 .ensures) (fifth .if5 .left),
     )
     (c .outside6 .ensures)

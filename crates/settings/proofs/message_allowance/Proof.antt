@@ -1,11 +1,12 @@
 -- The allowance is the definition's quotient: settings that pass their test keep every product
--- within 64 bits, since sites are at most 32 and digits at most 64.
+-- within 64 bits, since the sites are few and digits at most 64.
 use mathlib.Core.Path.{_≡_, sym, _∙_, ap}
 use Prim.Native.Nat.{ℕ, _+_, _*_, _/_, _≤_}
 use native.Mathlib.Nat.{mul-le-mul}
 use native.Mathlib.Omega.{arith}
 use borrow.Author.Needs.{needs}
 use borrow.Author.Tests.{eq-eqb, ne-eqb}
+use Rattle.model.specs.Limits.{mostSites}
 use Rattle.model.specs.Settings.{settingsRefusal}
 use Rattle.model.proofs.SettingsLaws.{settled}
 use Rattle.model.proofs.Digits.{digits-bound}
@@ -40,9 +41,10 @@ none-refused : (c : tie.After-count-digits)
     → settingsRefusal (c .before .before .before .args .settings) ≡ 0
 none-refused c = sym (c .before .before .test-settings .ensures) ∙ c .before .if1 .left
 
--- sites × (digits + 1) ≤ 32 × 65
+-- The number n has at most 64 digits.
 few-rounds : (c : tie.After-count-digits)
-    → c .before .before .before .args .settings .sites * (c .count-digits .result + 1) ≤ 2080
+    → c .before .before .before .args .settings .sites * (c .count-digits .result + 1)
+    ≤ mostSites * 65
 few-rounds c =
     let few : c .count-digits .result + 1 ≤ 65 = omega (arith, few-digits c) in
     let facts = settled (c .before .before .before .args .settings) (none-refused c) in

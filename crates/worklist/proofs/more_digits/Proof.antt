@@ -1,9 +1,10 @@
 -- Each turn of the loop takes a digit into the number, as `moreDigits` does.
 use mathlib.Core.Path.{sym, _∙_}
-use Prim.Native.Nat.{_-_, _<_}
+use Prim.Native.Nat.{_-_, _*_, _<_}
 use native.Mathlib.Omega.{arith}
 use lib.ListN.{length, drop}
 use borrow.Author.Needs.{needs}
+use Rattle.model.specs.Limits.{numberLimit}
 use Rattle.model.specs.Decimal.{moreDigits}
 use Rattle.worklist.specs.Reading.{Reading}
 use Rattle.worklist.proofs.ReadingLaws.{reading-begins, reading-room, reading-on, reading-long, reading-stop, reading-end}
@@ -32,9 +33,9 @@ returns c =
     (reading-long (turn .loop-test .taken) digit
     (rw (c .before .if2 .taken) at (turn .before .loop .inv)))
 
--- A digit may still come, so the value is below a million and ten times it fits.
+-- A digit may still come, so ten times the value fits.
 value-small : (c : tie.Else2 Inv-loop μ-loop)
-    → c .before .before .before .before .before .loop .value < 1000000
+    → 10 * c .before .before .before .before .before .loop .value < numberLimit
 value-small c =
     let head = c .before .before .before .before .before in
     reading-room _ (omega (arith, c .if2 .left)) (head .loop .inv)

@@ -6,28 +6,31 @@ use mathlib.Core.Path.{_≡_}
 use mathlib.Core.List.{List}
 use Prim.Native.Nat.{ℕ, _+_, _≤_}
 use native.Mathlib.Omega.{arith}
+use lib.ListN.{length}
 use Rattle.model.specs.declared.Settings.{Settings}
 use Rattle.model.specs.declared.Message.{Message}
 use Rattle.model.specs.declared.CoordinatorRecord.{CoordinatorRecord}
 use Rattle.model.specs.Refusals.{accepted}
 use Rattle.model.specs.Limits.{coordinatorLimit}
 use Rattle.model.specs.Coordinator.{Coordinator, coordinatorReceives, coordinatorRefusal, announced}
-use Rattle.model.specs.CoordinatorMemory.{coordinatorIn, coordinatorMemoryRefusal}
+use Rattle.model.specs.CoordinatorMemory.{coordinatorWords, coordinatorIn, coordinatorConsistent, coordinatorMemoryRefusal}
 use Rattle.model.specs.SoundNetwork.{SoundCoordinator}
 use Rattle.coordinator_steps.specs.Ready.{NumbersWithin, CoordinatorReady, readyLimit}
 use Rattle.coordinator_steps.proofs.Accepted.{message-accepted}
 use Rattle.coordinator_steps.proofs.StepLaws.{settings-fit, threshold-small}
 use Rattle.coordinator_steps.proofs.Kept.{sound-receives, sound-announced}
 use Rattle.coordinator_steps.proofs.WithinLaws.{within-receives, within-announced}
-use Rattle.coordinator_tests.proofs.ReadyLaws.{Tested, tested, within-more, within-of-consistent, ready-of-consistent}
+use Rattle.model.proofs.TestedMemory.{MemoryTested, coordinator-tested}
+use Rattle.coordinator_tests.proofs.ReadyLaws.{within-more, within-of-consistent, ready-of-consistent}
 
 module _ (settings : Settings) (numbers : CoordinatorRecord) (memory : List ℕ)
     (none : coordinatorMemoryRefusal settings numbers memory ≡ accepted) where
   abbrev here : Coordinator
   here = coordinatorIn settings numbers memory
 
-  facts : Tested settings numbers memory
-  facts = tested settings numbers memory none
+  facts : MemoryTested settings (coordinatorWords settings) (length memory)
+      (coordinatorConsistent settings here)
+  facts = coordinator-tested settings numbers memory none
 
   sound : SoundCoordinator settings here
   sound =

@@ -8,16 +8,14 @@ use mathlib.Core.Path.{_≡_, refl}
 use mathlib.Core.List.{List}
 use Prim.Native.Nat.{ℕ, zero, suc, _≤_}
 use native.Mathlib.Omega.{arith}
-use lib.Dec.{ltb}
 use lib.ListN.{length, take, length-take}
-use borrow.Author.Tests.{eq-eqb, ne-eqb, ltb-false}
+use borrow.Author.Tests.{eq-eqb, ne-eqb}
 use Rattle.model.specs.declared.Settings.{Settings}
 use Rattle.model.specs.declared.SiteRecord.{SiteRecord}
 use Rattle.model.specs.Choice.{if_then_else_, isZero}
 use Rattle.model.specs.Refusals.{accepted, _orElse_}
-use Rattle.model.specs.Settings.{settingsRefusal}
 use Rattle.model.specs.SiteMemory.{siteWords, siteMemoryRefusal}
-use Rattle.model.proofs.RefusalLaws.{both-accepted, passed}
+use Rattle.model.proofs.TestedMemory.{site-tested}
 
 -- ---- Choices
 
@@ -45,10 +43,7 @@ pub accepted-long : (settings : Settings) (numbers : SiteRecord) (memory : List 
     → siteMemoryRefusal settings numbers memory ≡ accepted
     → siteWords settings ≤ length memory
 accepted-long settings numbers memory none =
-    let rows = both-accepted (settingsRefusal settings) _ none in
-    ltb-false (length memory) (siteWords settings)
-    (passed (ltb (length memory) (siteWords settings)) 4 _ (omega arith) (rows .later-accepted)
-    .test-failed)
+    site-tested settings numbers memory none .memory-long
 
 -- A front as long as that is a front of at least so many numbers.
 pub words-enough : (words n : ℕ) (memory : List ℕ) → words ≤ length (take n memory) → words ≤ n

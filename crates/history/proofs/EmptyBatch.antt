@@ -4,28 +4,25 @@
 --   NothingDone, nothing-done    a batch of the model that accepts nothing
 --   batch-same                   the state after such a call
 use mathlib.Core.Path.{_≡_, refl, sym, ap, _∙_}
-use mathlib.Core.Bool.{Bool, true, false, not}
+use mathlib.Core.Bool.{Bool, true, false}
 use mathlib.Core.List.{List, [], _∷_, _++_, append-nil}
 use Prim.Native.Nat.{ℕ, suc, zero, _+_, _-_, _≤_, _<_}
 use native.Mathlib.Omega.{arith}
-use lib.Dec.{ltb}
 use lib.ListN.{length, drop}
-use borrow.Author.Tests.{eq-eqb, eqb-true, ltb-false, not-false}
-use Rattle.laws.proofs.Tests.{neither-of-or}
+use borrow.Author.Tests.{eq-eqb, eqb-true}
 use Rattle.model.specs.declared.Settings.{Settings}
 use Rattle.model.specs.declared.Arrival.{Arrival}
 use Rattle.model.specs.declared.SiteRecord.{SiteRecord}
 use Rattle.model.specs.Choice.{isZero}
 use Rattle.model.specs.Refusals.{accepted}
-use Rattle.model.specs.Settings.{settingsRefusal}
 use Rattle.model.specs.Site.{freshSite}
 use Rattle.model.specs.SiteMemory.{siteWords, siteIn, siteRecord}
 use Rattle.model.specs.CoordinatorMemory.{coordinatorWords}
 use Rattle.model.specs.Network.{Network, siteAt, afterArrival}
-use Rattle.model.specs.NetworkMemory.{sitesWords, networkRefusal, networkTooShort, networkConsistent, sitesIn}
+use Rattle.model.specs.NetworkMemory.{sitesWords, networkRefusal, sitesIn}
 use Rattle.model.specs.Runs.{Batch, batchRefusal, batchFrom, batchOf}
 use Rattle.model.specs.SoundNetwork.{Sound}
-use Rattle.model.proofs.RefusalLaws.{both-accepted, passed}
+use Rattle.model.proofs.TestedMemory.{network-tested}
 use Rattle.model.proofs.ConsistentSites.{length-countersIn}
 use Rattle.model.proofs.ConsistentNetwork.{network-sound-of}
 use Rattle.network_memory.proofs.SitesReading.{getD-sitesIn, siteRecords-sitesIn, sitesMemory-sitesIn}
@@ -106,24 +103,14 @@ passes-of : (settings : Settings) (held : Held)
     ≡ accepted
     → Passes settings held
 passes-of settings held none =
-    let short = networkTooShort settings (held .siteMemory) (held .coordinatorMemory) in
-    let consistent = networkConsistent settings (held .sites) (held .coordinator)
-    (held .siteMemory) (held .coordinatorMemory) in
-    let rows = both-accepted (settingsRefusal settings) _ none in
-    let long-row = passed short 4 _ (omega arith) (rows .later-accepted) in
-    let consistent-row = passed (not consistent) 11 _ (omega arith) (long-row .later-accepted) in
-    let both-long = neither-of-or (ltb (length (held .siteMemory)) (sitesWords settings)) _
-    (long-row .test-failed) in
-    let sites-long = ltb-false (length (held .siteMemory)) (sitesWords settings)
-    (both-long .first-false) in
-    let coordinator-long = ltb-false (length (held .coordinatorMemory)) (coordinatorWords settings)
-    (both-long .second-false) in
+    let tested = network-tested settings (held .sites) (held .coordinator)
+    (held .siteMemory) (held .coordinatorMemory) none in
     record {
-      sites-long = sites-long;
-      coordinator-long = coordinator-long;
+      sites-long = tested .sites-long;
+      coordinator-long = tested .coordinator-long;
       sound = network-sound-of settings (held .sites) (held .coordinator) (held .siteMemory)
-          (held .coordinatorMemory) sites-long coordinator-long
-          (not-false consistent (consistent-row .test-failed));
+          (held .coordinatorMemory) (tested .sites-long) (tested .coordinator-long)
+          (tested .consistent);
     }
 
 -- No more sites are read than there are records.

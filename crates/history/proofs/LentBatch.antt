@@ -28,7 +28,8 @@ use Rattle.history.specs.Histories.{batchCall, afterBatch, batch-accepts
 use Rattle.history.proofs.Answers.{accepted-choice, refused-choice}
 use Rattle.history.proofs.CoordinatorFronts.{front-then, overwrite-front}
 use Rattle.network_memory.proofs.SitesFronts.{sitesMemory-front}
-use Rattle.history.proofs.NetworkFronts.{LongEnough, long-enough, network-front}
+use Rattle.history.proofs.NetworkFronts.{network-front}
+use Rattle.model.proofs.TestedMemory.{NetworkTested, network-tested}
 use Rattle.history.proofs.Invariant.{StateOk}
 use Rattle.history.proofs.Accepted.{held-sound}
 use Rattle.history.proofs.BatchedState as Batched
@@ -79,9 +80,9 @@ module _ {settings : Settings} (passes : settingsRefusal settings ≡ accepted)
     abbrev coordinatorFront : List ℕ
     coordinatorFront = take coordinatorCount (held .coordinatorMemory)
 
-    long : LongEnough settings sitesFront coordinatorFront
+    long : NetworkTested settings (held .sites) (held .coordinator) sitesFront coordinatorFront
     long =
-        long-enough settings (held .sites) (held .coordinator) sitesFront coordinatorFront none
+        network-tested settings (held .sites) (held .coordinator) sitesFront coordinatorFront none
 
     batch-same : batchIn onFronts ≡ batchIn onAll
     batch-same =

@@ -1,53 +1,20 @@
 -- A front of each memory holds the network, if it is long enough.
 --
---   LongEnough, long-enough   memories that a batch call accepts are
---   network-front             the network that the fronts hold is the one that is held
+--   network-front   the network that the fronts hold is the one that is held
 use mathlib.Core.Path.{_≡_, sym, ap, _∙_}
-use mathlib.Core.Bool.{false}
-use mathlib.Core.List.{List}
 use Prim.Native.Nat.{ℕ, _≤_}
-use native.Mathlib.Omega.{arith}
-use lib.Dec.{ltb}
 use lib.ListN.{length, take, drop, take-append-drop}
-use borrow.Author.Tests.{ltb-false}
-use Rattle.laws.proofs.Tests.{neither-of-or}
 use Rattle.model.specs.declared.Settings.{Settings}
-use Rattle.model.specs.declared.Sites.{Sites}
-use Rattle.model.specs.declared.CoordinatorRecord.{CoordinatorRecord}
-use Rattle.model.specs.Refusals.{accepted, memoryTooShort}
+use Rattle.model.specs.Refusals.{accepted}
 use Rattle.model.specs.Settings.{settingsRefusal}
 use Rattle.model.specs.Site.{freshSite}
 use Rattle.model.specs.SiteMemory.{siteRecord}
 use Rattle.model.specs.CoordinatorMemory.{coordinatorWords}
-use Rattle.model.specs.NetworkMemory.{sitesWords, sitesIn, networkTooShort, networkRefusal}
-use Rattle.model.proofs.RefusalLaws.{both-accepted, passed}
+use Rattle.model.specs.NetworkMemory.{sitesWords, sitesIn}
 use Rattle.history.specs.State.{Held, networkOf, fronts, lending}
 use Rattle.history.proofs.CoordinatorFronts.{coordinatorIn-front}
 use Rattle.network_memory.proofs.SitesFronts.{sitesIn-front}
 use Rattle.history.proofs.Decoded.{Lengths, SitesSound, used-at}
-
--- Neither memory is too short.
-pub record LongEnough (settings : Settings) (siteMemory coordinatorMemory : List ℕ) : Type 0 where
-  pub sites-long : sitesWords settings ≤ length siteMemory
-  pub coordinator-long : coordinatorWords settings ≤ length coordinatorMemory
-
--- Not 4, and so long enough.
-pub long-enough : (settings : Settings) (sites : Sites) (coordinator : CoordinatorRecord)
-    (siteMemory coordinatorMemory : List ℕ)
-    → networkRefusal settings sites coordinator siteMemory coordinatorMemory ≡ accepted
-    → LongEnough settings siteMemory coordinatorMemory
-long-enough settings sites coordinator siteMemory coordinatorMemory none =
-    let short : networkTooShort settings siteMemory coordinatorMemory ≡ false =
-    passed (networkTooShort settings siteMemory coordinatorMemory) memoryTooShort _ (omega arith)
-    (both-accepted (settingsRefusal settings) _ none .later-accepted) .test-failed in
-    let neither = neither-of-or (ltb (length siteMemory) (sitesWords settings)) _ short in
-    record {
-      sites-long =
-          ltb-false (length siteMemory) (sitesWords settings) (neither .first-false);
-      coordinator-long =
-          ltb-false (length coordinatorMemory) (coordinatorWords settings)
-          (neither .second-false);
-    }
 
 -- Each site has its counters within its own part.
 pub network-front : {settings : Settings} (passes : settingsRefusal settings ≡ accepted)

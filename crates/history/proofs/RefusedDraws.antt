@@ -31,7 +31,8 @@ use Rattle.history.specs.Histories.{batchCall}
 use Rattle.history.specs.Given.{ofArrival}
 use Rattle.history.proofs.Answers.{accepted-choice, refused-choice}
 use Rattle.history.proofs.BatchStops.{runAt, batch-stops, not-of-arrival}
-use Rattle.history.proofs.NetworkFronts.{long-enough, network-front}
+use Rattle.history.proofs.NetworkFronts.{network-front}
+use Rattle.model.proofs.TestedMemory.{network-tested}
 use Rattle.history.proofs.Invariant.{StateOk}
 use Rattle.history.proofs.Accepted.{refused-by-rules, held-sound}
 use Rattle.history.proofs.SiteArrivals.{refusal-same}
@@ -205,7 +206,7 @@ module _ {settings : Settings} (passes : settingsRefusal settings ≡ accepted)
           → runFrom settings run (take 1 arrivals) ≡ run
       by-start true none =
           let accepts = eqb-true (startRefusal call) 0 none in
-          let long = long-enough settings (held .sites) (held .coordinator)
+          let long = network-tested settings (held .sites) (held .coordinator)
           (take siteCount (held .siteMemory)) (take coordinatorCount (held .coordinatorMemory))
           accepts in
           let model : batchIn call

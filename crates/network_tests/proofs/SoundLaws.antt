@@ -4,13 +4,13 @@
 --   sound-site                        a ready site is sound
 --   Passing, passing                  what an accepted start is worth
 use mathlib.Core.Path.{_≡_, refl, subst⁻¹}
-use mathlib.Core.Bool.{Bool, true, _&&_, not, false≢true}
+use mathlib.Core.Bool.{Bool, true, _&&_, false≢true}
 use mathlib.Core.List.{List, [], _∷_}
 use Prim.Native.Nat.{ℕ, zero, suc, _+_, _*_, _≤_, _<_}
 use native.Mathlib.Omega.{arith}
 use lib.Dec.{eqb, leb}
 use lib.ListN.{length, getD, drop}
-use borrow.Author.Tests.{leb-true, eqb-true, not-false}
+use borrow.Author.Tests.{leb-true, eqb-true}
 use Rattle.laws.proofs.Tests.{BothTrue, both-true}
 use Rattle.model.specs.declared.Settings.{Settings}
 use Rattle.model.specs.declared.Phase.{Phase}
@@ -19,15 +19,14 @@ use Rattle.model.specs.declared.Sites.{Sites}
 use Rattle.model.specs.declared.CoordinatorRecord.{CoordinatorRecord}
 use Rattle.model.specs.Refusals.{accepted}
 use Rattle.model.specs.Limits.{messageLimit}
-use Rattle.model.specs.Settings.{settingsRefusal}
 use Rattle.model.specs.Site.{Site, freshSite}
 use Rattle.model.specs.SiteMemory.{siteWords, siteIn}
 use Rattle.model.specs.Coordinator.{isIdle}
 use Rattle.model.specs.CoordinatorMemory.{coordinatorConsistent}
 use Rattle.model.specs.Network.{Network, siteAt}
-use Rattle.model.specs.NetworkMemory.{networkIn, sitesConsistent, sameThreshold, allPending, allArrivals, atRestTogether, networkConsistent, networkTooShort, networkRefusal}
+use Rattle.model.specs.NetworkMemory.{networkIn, sitesConsistent, sameThreshold, allPending, allArrivals, atRestTogether, networkConsistent, networkRefusal}
 use Rattle.model.specs.SoundNetwork.{SoundSite, Sound}
-use Rattle.model.proofs.RefusalLaws.{both-accepted, passed}
+use Rattle.model.proofs.TestedMemory.{network-tested}
 use Rattle.model.proofs.SettingsLaws.{settled}
 use Rattle.model.proofs.ConsistentCoordinator.{CoordinatorWithin, coordinator-sound-of, coordinator-within-of}
 use Rattle.counters.proofs.CounterMemory.{length-countersIn}
@@ -38,7 +37,7 @@ use Rattle.network_memory.proofs.SitesReading.{length-sitesIn, getD-sitesIn}
 use Rattle.delivery.specs.Bounded.{Bounded}
 use Rattle.delivery.proofs.BoundedLaws.{bounded-start}
 use Rattle.network_tests.specs.Contracts.{NetworkFits}
-use Rattle.network_tests.proofs.NetworkLaws.{enough-records, ready-at, fits-of-long}
+use Rattle.network_tests.proofs.NetworkLaws.{enough-records, ready-at}
 
 -- ---- A site
 
@@ -198,13 +197,13 @@ pub passing : (settings : Settings) (sites : Sites) (coordinator : CoordinatorRe
     → networkRefusal settings sites coordinator siteMemory coordinatorMemory ≡ accepted
     → Passing settings sites coordinator siteMemory coordinatorMemory
 passing settings sites coordinator siteMemory coordinatorMemory none =
-    let chain = both-accepted (settingsRefusal settings) _ none in
-    let short = passed (networkTooShort settings siteMemory coordinatorMemory) 4 _ (omega arith)
-    (chain .later-accepted) in
-    let inconsistent = passed
-    (not (networkConsistent settings sites coordinator siteMemory coordinatorMemory)) 11 _
-    (omega arith) (short .later-accepted) in
+    let tested = network-tested settings sites coordinator siteMemory coordinatorMemory none in
     consistent-passing settings sites coordinator siteMemory coordinatorMemory
-    (fits-of-long settings sites coordinator siteMemory coordinatorMemory
-    (chain .first-accepted) (short .test-failed))
-    (not-false _ (inconsistent .test-failed))
+    (record {
+      sites-fit = record {
+        settings-accepted = tested .settings-accepted;
+        long-enough = tested .sites-long;
+      };
+      coordinator-long = tested .coordinator-long;
+    })
+    (tested .consistent)

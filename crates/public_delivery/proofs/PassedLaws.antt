@@ -4,27 +4,28 @@
 --   Passed, passed-of            of records and memory that are not refused
 --   rest-of                      a state that holds them, with nothing waiting
 --   refused-start, refused-unknown, refused-arrival    the number that refuses the arrival
-use mathlib.Core.Path.{_≡_, refl, sym, ap, _∙_, subst}
-use mathlib.Core.Bool.{_&&_, not}
+use mathlib.Core.Path.{_≡_, refl, sym, _∙_, subst}
+use mathlib.Core.Bool.{_&&_}
 use mathlib.Core.List.{[]}
 use Prim.Native.Nat.{ℕ, suc, _-_, _*_, _≤_, _<_}
 use native.Mathlib.Nat.{mul-le-mul-right}
 use native.Mathlib.Omega.{arith}
 use lib.Dec.{leb}
 use lib.ListN.{length}
-use borrow.Author.Tests.{le-leb, not-false}
+use borrow.Author.Tests.{le-leb}
 use Rattle.laws.proofs.Tests.{both-true}
 use Rattle.model.specs.declared.Settings.{Settings}
 use Rattle.model.specs.declared.Arrival.{Arrival}
-use Rattle.model.specs.Refusals.{_orElse_, accepted, unknownSite}
+use Rattle.model.specs.Refusals.{accepted, unknownSite}
 use Rattle.model.specs.Limits.{mostSites, messageLimit}
 use Rattle.model.specs.Settings.{settingsRefusal}
 use Rattle.model.specs.SiteMemory.{siteWords}
 use Rattle.model.specs.CoordinatorMemory.{coordinatorConsistent}
-use Rattle.model.specs.NetworkMemory.{sitesConsistent, atRestTogether, networkConsistent, networkTooShort, networkRefusal}
+use Rattle.model.specs.NetworkMemory.{sitesConsistent, atRestTogether, networkRefusal}
 use Rattle.model.specs.Runs.{refusalIn}
 use Rattle.model.specs.SoundNetwork.{Sound}
-use Rattle.model.proofs.RefusalLaws.{both-accepted, passed, refused-same}
+use Rattle.model.proofs.RefusalLaws.{begin, pass-part, refuse-part, end}
+use Rattle.model.proofs.TestedMemory.{network-tested}
 use Rattle.model.proofs.ConsistentCoordinator.{CoordinatorWithin, coordinator-within-of}
 use Rattle.network_tests.specs.Contracts.{SitesFit}
 use Rattle.network_tests.proofs.SoundLaws.{passing}
@@ -58,17 +59,13 @@ within-of settings held none =
     let coordinator = held .coordinator in
     let siteMemory = held .siteMemory in
     let memory = held .coordinatorMemory in
-    let chain = both-accepted (settingsRefusal settings) _ none in
-    let short = passed (networkTooShort settings siteMemory memory) 4 _ (omega arith)
-    (chain .later-accepted) in
-    let test = passed (not (networkConsistent settings sites coordinator siteMemory memory)) 11 _
-    (omega arith) (short .later-accepted) in
+    let tested = network-tested settings sites coordinator siteMemory memory none in
     let network = networkOf settings held in
     let first = sitesConsistent (settings .sites) settings (sites .records) siteMemory in
     let second = coordinatorConsistent settings (network .coordinator) in
     let third = atRestTogether network in
     let four = both-true (first && second && third) (leb (sites .messages) messageLimit)
-    (not-false _ (test .test-failed)) in
+    (tested .consistent) in
     let three = both-true (first && second) third (four .first-true) in
     let two = both-true first second (three .first-true) in
     coordinator-within-of settings (network .coordinator) (two .second-true)
@@ -114,18 +111,15 @@ pub refused-start : (settings : Settings) (held : Held) (arrival : Arrival) (ref
     → refusal ≡ startRefusal settings held
     → (refusal ≡ accepted → ⊥)
     → refusal ≡ deliveryRefusal settings held arrival
-refused-start settings held arrival refusal =
-    refused-same refusal (startRefusal settings held)
-    (refusalIn settings (networkOf settings held) arrival)
+refused-start settings held arrival refusal is refused =
+    refuse-part _ _ (begin _) refl is refused
 
 module _ (settings : Settings) (held : Held) (arrival : Arrival)
     (none : startRefusal settings held ≡ accepted) where
   -- Past the start test, the rules' number.
   by-rules : refusalIn settings (networkOf settings held) arrival
       ≡ deliveryRefusal settings held arrival
-  by-rules =
-      sym (ap (λ (start : ℕ). start orElse refusalIn settings (networkOf settings held) arrival)
-      none)
+  by-rules = end (pass-part _ _ (begin _) refl none) refl
 
   -- 5.
   pub refused-unknown : settings .sites ≤ arrival .site

@@ -5,21 +5,19 @@
 use Prim.Native.Nat.{ℕ, zero, suc, _+_, _<_, _≤_}
 use mathlib.Core.Path.{_≡_, refl}
 use mathlib.Core.List.{List, [], _∷_}
-use mathlib.Core.Bool.{true, not}
+use mathlib.Core.Bool.{true}
 use native.Mathlib.Omega.{arith}
-use lib.Dec.{ltb}
 use lib.ListN.{length}
-use borrow.Author.Tests.{lt-ltb, le-ltb, le-leb, eq-eqb, ltb-true, leb-true, eqb-true, ltb-false, not-false}
+use borrow.Author.Tests.{lt-ltb, le-ltb, le-leb, eq-eqb, ltb-true, leb-true, eqb-true}
 use Rattle.laws.proofs.Tests.{both-true}
 use Rattle.model.specs.declared.Settings.{Settings}
 use Rattle.model.specs.declared.SiteRecord.{SiteRecord}
 use Rattle.model.specs.Refusals.{accepted}
 use Rattle.model.specs.Limits.{siteLimit}
-use Rattle.model.specs.Settings.{settingsRefusal}
 use Rattle.model.specs.Counters.{Counter, counterAt, unreported}
 use Rattle.model.specs.Site.{Site}
 use Rattle.model.specs.SiteMemory.{counterWords, siteWords, siteIn, sum, counterConsistent, countersConsistent, siteConsistent, siteMemoryRefusal}
-use Rattle.model.proofs.RefusalLaws.{both-accepted, passed}
+use Rattle.model.proofs.TestedMemory.{site-tested}
 use Rattle.model.proofs.SettingsLaws.{within-of-between}
 use Rattle.counters.proofs.CounterMemory.{length-countersIn}
 use Rattle.site_memory.specs.Ready.{CounterReady, SiteReady, StepReady}
@@ -126,17 +124,12 @@ module _ (settings : Settings) (numbers : SiteRecord) (memory : List ℕ) where
   pub step-ready : siteMemoryRefusal settings numbers memory ≡ accepted
       → StepReady settings numbers memory
   step-ready none =
-      let chain = both-accepted (settingsRefusal settings) _ none in
-      let short = passed (ltb (length memory) (siteWords settings)) 4 _ (omega arith)
-      (chain .later-accepted) in
-      let inconsistent = passed (not (siteConsistent settings numbers memory)) 11 _ (omega arith)
-      (short .later-accepted) in
-      let long = ltb-false (length memory) (siteWords settings) (short .test-failed) in
+      let tested = site-tested settings numbers memory none in
       record {
-        settings-accepted = chain .first-accepted;
-        long-enough = long;
-        site-ready = ready-of-consistent settings numbers memory long
-            (not-false _ (inconsistent .test-failed));
+        settings-accepted = tested .settings-accepted;
+        long-enough = tested .memory-long;
+        site-ready = ready-of-consistent settings numbers memory (tested .memory-long)
+            (tested .consistent);
       }
 
   pub accepted-of-ready : StepReady settings numbers memory

@@ -1,5 +1,5 @@
--- Messages that are due and carry the right amount are accepted: refusals 9, 6, 7 and 10 row by row,
--- one law for each kind; before them 5, one law for each receiver. PROOF.md section 8.
+-- Messages that are due and carry the right amount are accepted: refusals 9, 6, 7 and 10 row by
+-- row, one law for each kind; before them 5, one law for each receiver. PROOF.md section 8.
 --
 --   site-due-suffices, coordinator-due-suffices  a message of a known site
 --   itemReport-accepted, countReport-accepted    kinds 1 and 2 at an idle coordinator

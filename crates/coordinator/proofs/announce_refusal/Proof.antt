@@ -15,24 +15,15 @@ past-memory c =
     pass-part _ _ (begin _) refl
     (told (c .before .coordinator-memory-refusal .ensures) (c .if1 .left))
 
-returns : tie.Need-returns
-returns c =
-    refuse-part _ _ (begin _) refl (c .before .coordinator-memory-refusal .ensures)
-    (c .if1 .taken)
-
-returns-2 : tie.Need-returns-2
-returns-2 c =
-    end (past-memory (c .before .before))
-    (ap (λ (other : Bool). when other messageNotDue)
-    (sym (told (c .before .not-announcing .ensures) (c .if2 .taken))))
-
-returns-3 : tie.Need-returns-3
-returns-3 c =
-    end (past-memory (c .before .before))
-    (ap (λ (other : Bool). when other messageNotDue)
-    (sym (told (c .before .not-announcing .ensures) (c .if2 .left))))
-
 pub announce-refusal-spec : {M : Type 1} → statement M
 announce-refusal-spec =
     tie.close
-    (tie.spec (λ c κs. search needs) returns (λ c κs. search needs) returns-2 returns-3)
+    (tie.spec
+    (λ c κs. search needs)
+    (λ c. refuse-part _ _ (begin _) refl (c .before .coordinator-memory-refusal .ensures)
+    (c .if1 .taken))
+    (λ c κs. search needs)
+    (λ c. end (past-memory (c .before .before)) (ap (λ (other : Bool). when other messageNotDue)
+    (sym (told (c .before .not-announcing .ensures) (c .if2 .taken)))))
+    (λ c. end (past-memory (c .before .before)) (ap (λ (other : Bool). when other messageNotDue)
+    (sym (told (c .before .not-announcing .ensures) (c .if2 .left))))))

@@ -5,19 +5,16 @@ use Rattle.model.proofs.RefusalLaws.{begin, pass-part, refuse-part, end, told}
 use Rattle.coordinator.proofs.receive_refusal.Statement.{statement}
 use Rattle.coordinator.proofs.receive_refusal.Tie as tie
 
-returns : tie.Need-returns
-returns c =
-    refuse-part _ _ (begin _) refl (c .before .coordinator-memory-refusal .ensures)
-    (c .if1 .taken)
-
-returns-2 : tie.Need-returns-2
-returns-2 c =
-    let tests = c .before .before in
-    end (pass-part _ _ (begin _) refl
-    (told (tests .coordinator-memory-refusal .ensures) (c .before .if1 .left)))
-    (c .message-refusal .ensures (tests .before .before .args .memory .now))
-
 pub receive-refusal-spec : {M : Type 1} → statement M
 receive-refusal-spec =
     tie.close
-    (tie.spec (λ c κs. search needs) returns (λ c κs. search needs) returns-2)
+    (tie.spec
+    (λ c κs. search needs)
+    (λ c. refuse-part _ _ (begin _) refl (c .before .coordinator-memory-refusal .ensures)
+    (c .if1 .taken))
+    (λ c κs. search needs)
+    (λ c.
+    let tests = c .before .before in
+    end (pass-part _ _ (begin _) refl
+    (told (tests .coordinator-memory-refusal .ensures) (c .before .if1 .left)))
+    (c .message-refusal .ensures (tests .before .before .args .memory .now))))

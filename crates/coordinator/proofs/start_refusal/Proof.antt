@@ -16,9 +16,6 @@ abbrev past-settings : (c : tie.Else1)
 past-settings c =
     pass-part _ _ (begin _) refl (told (c .before .test-settings .ensures) (c .if1 .left))
 
-returns : tie.Need-returns
-returns c = refuse-part _ _ (begin _) refl (c .before .test-settings .ensures) (c .if1 .taken)
-
 returns-2 : tie.Need-returns-2
 returns-2 c =
     let a = c .before .before .before .before .args in
@@ -38,7 +35,7 @@ start-refusal-spec =
     tie.close
     (tie.spec
     (λ c κs. search needs)
-    returns
+    (λ c. refuse-part _ _ (begin _) refl (c .before .test-settings .ensures) (c .if1 .taken))
     (λ c. search needs) (λ c. search needs)
     returns-2
     returns-3)

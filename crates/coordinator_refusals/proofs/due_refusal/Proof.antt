@@ -35,43 +35,26 @@ past-value c memory =
     (told (c .before .names-large-value .ensures (given (c .before .before .before .before)) memory)
     (c .if3 .left))
 
-returns : tie.Need-returns
-returns c = λ memory.
-    refuse _ _ _ (begin _) refl (told (c .before .not-due .ensures) (c .if1 .taken))
-
-returns-2 : tie.Need-returns-2
-returns-2 c = λ memory.
-    refuse _ _ _ (past-due (c .before .before) memory) refl
-    (told (c .before .names-unknown-item .ensures) (c .if2 .taken))
-
-returns-3 : tie.Need-returns-3
-returns-3 c = λ memory.
-    refuse _ _ _ (past-item (c .before .before) memory) refl
-    (told (c .before .names-large-value .ensures (given (c .before .before .before .before)) memory)
-    (c .if3 .taken))
-
-returns-4 : tie.Need-returns-4
-returns-4 c = λ memory.
-    let settings = given (c .before .before .before .before .before .before) in
-    refuse _ _ _ (past-value (c .before .before) memory) refl
-    (told (c .before .wrong-amount .ensures settings memory) (c .if4 .taken))
-
-returns-5 : tie.Need-returns-5
-returns-5 c = λ memory.
-    let settings = given (c .before .before .before .before .before .before) in
-    end (pass _ _ _ (past-value (c .before .before) memory) refl
-    (told (c .before .wrong-amount .ensures settings memory) (c .if4 .left))) refl
-
 pub due-refusal-spec : {M : Type 1} → statement M
 due-refusal-spec =
     tie.close
     (tie.spec
     (λ c κs. search needs)
-    returns
+    (λ c memory. refuse _ _ _ (begin _) refl
+    (told (c .before .not-due .ensures) (c .if1 .taken)))
     (λ c κs. search needs)
-    returns-2
+    (λ c memory. refuse _ _ _ (past-due (c .before .before) memory) refl
+    (told (c .before .names-unknown-item .ensures) (c .if2 .taken)))
     (λ c κs. search needs)
-    returns-3
+    (λ c memory. refuse _ _ _ (past-item (c .before .before) memory) refl
+    (told (c .before .names-large-value .ensures (given (c .before .before .before .before)) memory)
+    (c .if3 .taken)))
     (λ c κs. search needs)
-    returns-4
-    returns-5)
+    (λ c memory.
+    let settings = given (c .before .before .before .before .before .before) in
+    refuse _ _ _ (past-value (c .before .before) memory) refl
+    (told (c .before .wrong-amount .ensures settings memory) (c .if4 .taken)))
+    (λ c memory.
+    let settings = given (c .before .before .before .before .before .before) in
+    end (pass _ _ _ (past-value (c .before .before) memory) refl
+    (told (c .before .wrong-amount .ensures settings memory) (c .if4 .left))) refl))

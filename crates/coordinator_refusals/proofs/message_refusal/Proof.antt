@@ -6,15 +6,11 @@ use Rattle.model.proofs.RefusalLaws.{begin, pass, refuse, end}
 use Rattle.coordinator_refusals.proofs.message_refusal.Statement.{statement}
 use Rattle.coordinator_refusals.proofs.message_refusal.Tie as tie
 
-returns-2 : tie.Need-returns-2
-returns-2 c = λ memory.
-    end (pass _ _ _ (begin _) refl (lt-leb _ _ (c .before .if1 .left)))
-    (c .due-refusal .ensures memory)
-
 pub message-refusal-spec : {M : Type 1} → statement M
 message-refusal-spec =
     tie.close
     (tie.spec
-    (λ c. λ memory. refuse _ _ _ (begin _) refl (le-leb _ _ (c .if1 .taken)))
+    (λ c memory. refuse _ _ _ (begin _) refl (le-leb _ _ (c .if1 .taken)))
     (λ c κs. search needs)
-    returns-2)
+    (λ c memory. end (pass _ _ _ (begin _) refl (lt-leb _ _ (c .before .if1 .left)))
+    (c .due-refusal .ensures memory)))

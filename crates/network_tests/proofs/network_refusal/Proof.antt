@@ -33,13 +33,6 @@ abbrev past-length : (c : tie.Else2) → Still (answer (c .before .before))
 past-length c =
     pass _ _ _ (past-settings (c .before .before)) refl (too-short (c .before) ∙ c .if2 .left)
 
-returns : tie.Need-returns
-returns c = refuse-part _ _ (begin _) refl (c .before .test-settings .ensures) (c .if1 .taken)
-
-returns-2 : tie.Need-returns-2
-returns-2 c =
-    refuse _ _ _ (past-settings (c .before .before)) refl (too-short (c .before) ∙ c .if2 .taken)
-
 network-consistent-requires : tie.Need-network-consistent-requires
 network-consistent-requires c κs =
     let settled = c .before .before in
@@ -48,24 +41,17 @@ network-consistent-requires c κs =
     (told (settled .before .test-settings .ensures) (settled .if1 .left))
     (too-short (c .before) ∙ c .if2 .left)
 
-returns-3 : tie.Need-returns-3
-returns-3 c =
-    end (pass _ _ _ (past-length (c .before .before)) refl
-    (ap not (told (c .before .network-consistent .ensures) (c .if3 .taken)))) refl
-
-returns-4 : tie.Need-returns-4
-returns-4 c =
-    refuse _ _ _ (past-length (c .before .before)) refl
-    (ap not (told (c .before .network-consistent .ensures) (c .if3 .left)))
-
 pub network-refusal-spec : {M : Type 1} → statement M
 network-refusal-spec =
     tie.close
     (tie.spec
     (λ c κs. search needs)
-    returns
+    (λ c. refuse-part _ _ (begin _) refl (c .before .test-settings .ensures) (c .if1 .taken))
     (λ c κs. search needs)
-    returns-2
+    (λ c. refuse _ _ _ (past-settings (c .before .before)) refl
+    (too-short (c .before) ∙ c .if2 .taken))
     network-consistent-requires
-    returns-3
-    returns-4)
+    (λ c. end (pass _ _ _ (past-length (c .before .before)) refl
+    (ap not (told (c .before .network-consistent .ensures) (c .if3 .taken)))) refl)
+    (λ c. refuse _ _ _ (past-length (c .before .before)) refl
+    (ap not (told (c .before .network-consistent .ensures) (c .if3 .left)))))

@@ -26,38 +26,19 @@ past-limits c =
     pass _ _ _ (past-settings (c .before .before)) refl
     (told (c .before .beyond-limits .ensures) (c .if3 .left))
 
-returns : tie.Need-returns
-returns c = refuse-part _ _ (begin _) refl refl (c .if1 .taken)
-
-returns-2 : tie.Need-returns-2
-returns-2 c =
-    refuse-part _ _ (past-line (c .before .before)) refl
-    (c .before .test-settings .ensures) (c .if2 .taken)
-
-returns-3 : tie.Need-returns-3
-returns-3 c =
-    refuse _ _ _ (past-settings (c .before .before)) refl
-    (told (c .before .beyond-limits .ensures) (c .if3 .taken))
-
-returns-4 : tie.Need-returns-4
-returns-4 c =
-    refuse _ _ _ (past-limits (c .before .before)) refl
-    (told (c .before .shorter-than-limits .ensures) (c .if4 .taken))
-
-returns-5 : tie.Need-returns-5
-returns-5 c =
-    end (pass _ _ _ (past-limits (c .before .before)) refl
-    (told (c .before .shorter-than-limits .ensures) (c .if4 .left))) refl
-
 pub start-refusal-spec : {M : Type 1} → statement M
 start-refusal-spec =
     tie.close
     (tie.spec
-    returns
+    (λ c. refuse-part _ _ (begin _) refl refl (c .if1 .taken))
     (λ c κs. search needs)
-    returns-2
+    (λ c. refuse-part _ _ (past-line (c .before .before)) refl
+    (c .before .test-settings .ensures) (c .if2 .taken))
     (λ c κs. search needs)
-    returns-3
+    (λ c. refuse _ _ _ (past-settings (c .before .before)) refl
+    (told (c .before .beyond-limits .ensures) (c .if3 .taken)))
     (λ c κs. search needs)
-    returns-4
-    returns-5)
+    (λ c. refuse _ _ _ (past-limits (c .before .before)) refl
+    (told (c .before .shorter-than-limits .ensures) (c .if4 .taken)))
+    (λ c. end (pass _ _ _ (past-limits (c .before .before)) refl
+    (told (c .before .shorter-than-limits .ensures) (c .if4 .left))) refl))

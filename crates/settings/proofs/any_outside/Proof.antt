@@ -1,6 +1,7 @@
 -- Some setting is outside its range: the ranges before it hold, and its own fails.
 use mathlib.Core.Bool.{Bool}
 use borrow.Author.Needs.{needs}
+use Rattle.model.specs.declared.Settings.{Settings}
 use Rattle.model.specs.Choice.{between}
 use Rattle.laws.proofs.Tests.{AllHold, no-test, also, false-of-not, true-of-not}
 use Rattle.settings.proofs.any_outside.Statement.{statement}
@@ -14,14 +15,17 @@ sites-range c = between 1 (c .before .args .settings .sites) 32
 abbrev epsilon-range : tie.After-outside2 → Bool
 epsilon-range c = between 2 (c .before .before .before .args .settings .epsilon) 1000
 
+abbrev given : tie.After-outside3 → Settings
+given c = c .before .before .before .before .before .args .settings
+
 abbrev phi-range : tie.After-outside3 → Bool
-phi-range c = between 1 (c .before .before .before .before .before .args .settings .phi) 1000
+phi-range c = between 1 (given c .phi) 1000
 
 abbrev rank-range : tie.After-outside4 → Bool
-rank-range c = between 1 (c .before .before .before .before .before .before .before .args .settings .rank) 1000
+rank-range c = between 1 (given (c .before .before) .rank) 1000
 
 abbrev capacity-range : tie.After-outside5 → Bool
-capacity-range c = between 1 (c .before .before .before .before .before .before .before .before .before .args .settings .capacity) 3000
+capacity-range c = between 1 (given (c .before .before .before .before) .capacity) 3000
 
 -- ---- The ranges that hold, each place of the code leaning on the one before
 
@@ -50,53 +54,32 @@ within-capacity c =
     also (within-rank (c .before .before)) (capacity-range (c .before))
     (true-of-not _ (c .before .outside5 .ensures) (c .if5 .left))
 
-returns : tie.Need-returns
-returns c = rw (false-of-not (sites-range (c .before)) (c .before .outside .ensures) (c .if1 .taken))
-
-returns-2 : tie.Need-returns-2
-returns-2 c =
-    rw (
-      within-sites (c .before .before) .hold,
-      false-of-not (epsilon-range (c .before)) (c .before .outside2 .ensures) (c .if2 .taken),
-    )
-
-returns-3 : tie.Need-returns-3
-returns-3 c =
-    rw (
-      within-epsilon (c .before .before) .hold,
-      false-of-not (phi-range (c .before)) (c .before .outside3 .ensures) (c .if3 .taken),
-    )
-
-returns-4 : tie.Need-returns-4
-returns-4 c =
-    rw (
-      within-phi (c .before .before) .hold,
-      false-of-not (rank-range (c .before)) (c .before .outside4 .ensures) (c .if4 .taken),
-    )
-
-returns-5 : tie.Need-returns-5
-returns-5 c =
-    rw (
-      within-rank (c .before .before) .hold,
-      false-of-not (capacity-range (c .before)) (c .before .outside5 .ensures) (c .if5 .taken),
-    )
-
-returns-6 : tie.Need-returns-6
-returns-6 c = rw (within-capacity (c .before) .hold) (c .outside6 .ensures)
-
 pub any-outside-spec : {M : Type 1} → statement M
 any-outside-spec =
     tie.close
     (tie.spec
     (λ c κs. search needs)
-    returns
+    (λ c.
+    rw (false-of-not (sites-range (c .before)) (c .before .outside .ensures) (c .if1 .taken)))
     (λ c κs. search needs)
-    returns-2
+    (λ c. rw (
+      within-sites (c .before .before) .hold,
+      false-of-not (epsilon-range (c .before)) (c .before .outside2 .ensures) (c .if2 .taken),
+    ))
     (λ c κs. search needs)
-    returns-3
+    (λ c. rw (
+      within-epsilon (c .before .before) .hold,
+      false-of-not (phi-range (c .before)) (c .before .outside3 .ensures) (c .if3 .taken),
+    ))
     (λ c κs. search needs)
-    returns-4
+    (λ c. rw (
+      within-phi (c .before .before) .hold,
+      false-of-not (rank-range (c .before)) (c .before .outside4 .ensures) (c .if4 .taken),
+    ))
     (λ c κs. search needs)
-    returns-5
+    (λ c. rw (
+      within-rank (c .before .before) .hold,
+      false-of-not (capacity-range (c .before)) (c .before .outside5 .ensures) (c .if5 .taken),
+    ))
     (λ c κs. search needs)
-    returns-6)
+    (λ c. rw (within-capacity (c .before) .hold) (c .outside6 .ensures)))

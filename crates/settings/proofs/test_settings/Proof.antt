@@ -20,12 +20,6 @@ past-ranges c = pass _ _ _ (begin _) refl (told (c .before .any-outside .ensures
 abbrev past-phi : (c : tie.Else2) → Still (answer (c .before .before))
 past-phi c = pass _ _ _ (past-ranges (c .before .before)) refl (le-ltb _ _ (c .if2 .left))
 
-returns : tie.Need-returns
-returns c = refuse _ _ _ (begin _) refl (told (c .before .any-outside .ensures) (c .if1 .taken))
-
-returns-2 : tie.Need-returns-2
-returns-2 c = refuse _ _ _ (past-ranges (c .before .before)) refl (lt-ltb _ _ (c .if2 .taken))
-
 mul-product : tie.Need-mul-product
 mul-product c =
     let s = c .before .before .before .before .before .before .args .settings in
@@ -33,22 +27,15 @@ mul-product c =
     let small : s .epsilon ≤ 4294967295 = search needs in
     omega (arith, mul-le-mul few small)
 
-returns-3 : tie.Need-returns-3
-returns-3 c =
-    refuse _ _ _ (past-phi (c .before .before .before)) refl (lt-ltb _ _ (c .if3 .taken))
-
-returns-4 : tie.Need-returns-4
-returns-4 c =
-    end (pass _ _ _ (past-phi (c .before .before .before)) refl (le-ltb _ _ (c .if3 .left))) refl
-
 pub test-settings-spec : {M : Type 1} → statement M
 test-settings-spec =
     tie.close
     (tie.spec
     (λ c κs. search needs)
-    returns
-    returns-2
+    (λ c. refuse _ _ _ (begin _) refl (told (c .before .any-outside .ensures) (c .if1 .taken)))
+    (λ c. refuse _ _ _ (past-ranges (c .before .before)) refl (lt-ltb _ _ (c .if2 .taken)))
     (λ c. search needs) (λ c. search needs)
     mul-product
-    returns-3
-    returns-4)
+    (λ c. refuse _ _ _ (past-phi (c .before .before .before)) refl (lt-ltb _ _ (c .if3 .taken)))
+    (λ c. end (pass _ _ _ (past-phi (c .before .before .before)) refl (le-ltb _ _ (c .if3 .left)))
+    refl))

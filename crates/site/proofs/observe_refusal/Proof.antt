@@ -5,16 +5,13 @@ use Rattle.model.proofs.RefusalLaws.{begin, pass-part, refuse-part, end, told}
 use Rattle.site.proofs.observe_refusal.Statement.{statement}
 use Rattle.site.proofs.observe_refusal.Tie as tie
 
-returns : tie.Need-returns
-returns c =
-    refuse-part _ _ (begin _) refl (c .before .site-memory-refusal .ensures) (c .if1 .taken)
-
-returns-2 : tie.Need-returns-2
-returns-2 c =
-    let tested = c .before .before .site-memory-refusal in
-    end (pass-part _ _ (begin _) refl (told (tested .ensures) (c .before .if1 .left)))
-    (c .arrival-refusal .ensures)
-
 pub observe-refusal-spec : {M : Type 1} → statement M
 observe-refusal-spec =
-    tie.close (tie.spec (λ c κs. search needs) returns (λ c κs. search needs) returns-2)
+    tie.close
+    (tie.spec
+    (λ c κs. search needs)
+    (λ c. refuse-part _ _ (begin _) refl (c .before .site-memory-refusal .ensures) (c .if1 .taken))
+    (λ c κs. search needs)
+    (λ c. end (pass-part _ _ (begin _) refl
+    (told (c .before .before .site-memory-refusal .ensures) (c .before .if1 .left)))
+    (c .arrival-refusal .ensures)))

@@ -14,20 +14,14 @@ abbrev past-memory : (c : tie.Else1)
 past-memory c =
     pass-part _ _ (begin _) refl (told (c .before .site-memory-refusal .ensures) (c .if1 .left))
 
-returns : tie.Need-returns
-returns c =
-    refuse-part _ _ (begin _) refl (c .before .site-memory-refusal .ensures) (c .if1 .taken)
-
-returns-2 : tie.Need-returns-2
-returns-2 c = refuse _ _ _ (past-memory (c .before .before)) refl (le-leb _ _ (c .if2 .taken))
-
-returns-3 : tie.Need-returns-3
-returns-3 c =
-    end (pass _ _ _ (past-memory (c .before .before .before)) refl
-    (lt-leb _ _ (c .before .if2 .left)))
-    (c .message-refusal .ensures)
-
 pub receive-refusal-spec : {M : Type 1} → statement M
 receive-refusal-spec =
     tie.close
-    (tie.spec (λ c κs. search needs) returns returns-2 (λ c κs. search needs) returns-3)
+    (tie.spec
+    (λ c κs. search needs)
+    (λ c. refuse-part _ _ (begin _) refl (c .before .site-memory-refusal .ensures) (c .if1 .taken))
+    (λ c. refuse _ _ _ (past-memory (c .before .before)) refl (le-leb _ _ (c .if2 .taken)))
+    (λ c κs. search needs)
+    (λ c. end (pass _ _ _ (past-memory (c .before .before .before)) refl
+    (lt-leb _ _ (c .before .if2 .left)))
+    (c .message-refusal .ensures)))

@@ -1,7 +1,7 @@
 -- `site_memory::site_memory_refusal` meets its contract: the rows of the chain in their order.
 use mathlib.Core.Path.{refl, ap}
 use mathlib.Core.Bool.{not}
-use Prim.Native.Nat.{ℕ, _≤_}
+use Prim.Native.Nat.{ℕ, _≤_, _<_}
 use native.Mathlib.Omega.{arith}
 use lib.ListN.{length}
 use borrow.Author.Tests.{lt-ltb, le-ltb}
@@ -20,6 +20,11 @@ abbrev past-settings : (c : tie.Else1) → Still (answer c)
 past-settings c =
     pass-part _ _ (begin _) refl (told (c .before .test-settings .ensures) (c .if1 .left))
 
+short : (c : tie.Then2)
+    → let a = c .before .before .before .before .before .args in
+    length (a .memory .now) < siteWords (a .settings)
+short c = omega (arith, c .before .site-words .ensures, c .if2 .taken)
+
 long : (c : tie.Else2)
     → let a = c .before .before .before .before .before .args in
     siteWords (a .settings) ≤ length (a .memory .now)
@@ -27,16 +32,6 @@ long c = omega (arith, c .before .site-words .ensures, c .if2 .left)
 
 abbrev past-length : (c : tie.Else2) → Still (answer (c .before .before))
 past-length c = pass _ _ _ (past-settings (c .before .before)) refl (le-ltb _ _ (long c))
-
-returns : tie.Need-returns
-returns c = refuse-part _ _ (begin _) refl (c .before .test-settings .ensures) (c .if1 .taken)
-
-returns-2 : tie.Need-returns-2
-returns-2 c =
-    let a = c .before .before .before .before .before .args in
-    refuse _ _ _ (past-settings (c .before .before)) refl
-    (lt-ltb (length (a .memory .now)) (siteWords (a .settings))
-    (omega (arith, c .before .site-words .ensures, c .if2 .taken)))
 
 site-consistent-requires : tie.Need-site-consistent-requires
 site-consistent-requires c κs =
@@ -46,24 +41,16 @@ site-consistent-requires c κs =
       long-enough = long c;
     }
 
-returns-3 : tie.Need-returns-3
-returns-3 c =
-    end (pass _ _ _ (past-length (c .before .before)) refl
-    (ap not (told (c .before .site-consistent .ensures) (c .if3 .taken)))) refl
-
-returns-4 : tie.Need-returns-4
-returns-4 c =
-    refuse _ _ _ (past-length (c .before .before)) refl
-    (ap not (told (c .before .site-consistent .ensures) (c .if3 .left)))
-
 pub site-memory-refusal-spec : {M : Type 1} → statement M
 site-memory-refusal-spec =
     tie.close
     (tie.spec
     (λ c κs. search needs)
-    returns
+    (λ c. refuse-part _ _ (begin _) refl (c .before .test-settings .ensures) (c .if1 .taken))
     (λ c κs. told (c .before .test-settings .ensures) (c .if1 .left))
-    returns-2
+    (λ c. refuse _ _ _ (past-settings (c .before .before)) refl (lt-ltb _ _ (short c)))
     site-consistent-requires
-    returns-3
-    returns-4)
+    (λ c. end (pass _ _ _ (past-length (c .before .before)) refl
+    (ap not (told (c .before .site-consistent .ensures) (c .if3 .taken)))) refl)
+    (λ c. refuse _ _ _ (past-length (c .before .before)) refl
+    (ap not (told (c .before .site-consistent .ensures) (c .if3 .left)))))

@@ -19,19 +19,12 @@ past-site c = pass _ _ _ (begin _) refl (lt-leb _ _ (c .if1 .left))
 abbrev past-item : (c : tie.Else2) → Still (answer (c .before .before .before))
 past-item c = pass _ _ _ (past-site (c .before .before .before)) refl (lt-leb _ _ (c .if2 .left))
 
-returns-3 : tie.Need-returns-3
-returns-3 c =
-    refuse _ _ _ (past-item (c .before .before)) refl (lt-ltb topValue _ (c .if3 .taken))
-
-returns-4 : tie.Need-returns-4
-returns-4 c =
-    end (pass _ _ _ (past-item (c .before .before)) refl (le-ltb topValue _ (c .if3 .left))) refl
-
 pub address-refusal-spec : {M : Type 1} → statement M
 address-refusal-spec =
     tie.close
     (tie.spec
     (λ c. refuse _ _ _ (begin _) refl (le-leb _ _ (c .if1 .taken)))
     (λ c. refuse _ _ _ (past-site (c .before .before .before)) refl (le-leb _ _ (c .if2 .taken)))
-    returns-3
-    returns-4)
+    (λ c. refuse _ _ _ (past-item (c .before .before)) refl (lt-ltb topValue _ (c .if3 .taken)))
+    (λ c. end (pass _ _ _ (past-item (c .before .before)) refl (le-ltb topValue _ (c .if3 .left)))
+    refl))

@@ -22,33 +22,18 @@ past-value c =
     pass _ _ _ (past-due (c .before .before)) refl
     (told (c .before .value-unknown .ensures) (c .if2 .left))
 
-returns : tie.Need-returns
-returns c =
-    refuse _ _ _ (begin _) refl (told (c .before .message-not-due .ensures) (c .if1 .taken))
-
-returns-2 : tie.Need-returns-2
-returns-2 c =
-    refuse _ _ _ (past-due (c .before .before)) refl
-    (told (c .before .value-unknown .ensures) (c .if2 .taken))
-
-returns-3 : tie.Need-returns-3
-returns-3 c =
-    refuse _ _ _ (past-value (c .before .before)) refl
-    (told (c .before .amount-wrong .ensures) (c .if3 .taken))
-
-returns-4 : tie.Need-returns-4
-returns-4 c =
-    end (pass _ _ _ (past-value (c .before .before)) refl
-    (told (c .before .amount-wrong .ensures) (c .if3 .left))) refl
-
 pub due-refusal-spec : {M : Type 1} → statement M
 due-refusal-spec =
     tie.close
     (tie.spec
     (λ c κs. search needs)
-    returns
+    (λ c. refuse _ _ _ (begin _) refl
+    (told (c .before .message-not-due .ensures) (c .if1 .taken)))
     (λ c κs. search needs)
-    returns-2
+    (λ c. refuse _ _ _ (past-due (c .before .before)) refl
+    (told (c .before .value-unknown .ensures) (c .if2 .taken)))
     (λ c κs. search needs)
-    returns-3
-    returns-4)
+    (λ c. refuse _ _ _ (past-value (c .before .before)) refl
+    (told (c .before .amount-wrong .ensures) (c .if3 .taken)))
+    (λ c. end (pass _ _ _ (past-value (c .before .before)) refl
+    (told (c .before .amount-wrong .ensures) (c .if3 .left))) refl))

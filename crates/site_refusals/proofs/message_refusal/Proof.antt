@@ -6,14 +6,11 @@ use Rattle.model.proofs.RefusalLaws.{begin, pass, refuse, end}
 use Rattle.site_refusals.proofs.message_refusal.Statement.{statement}
 use Rattle.site_refusals.proofs.message_refusal.Tie as tie
 
-returns-2 : tie.Need-returns-2
-returns-2 c =
-    end (pass _ _ _ (begin _) refl (lt-leb _ _ (c .before .if1 .left))) (c .due-refusal .ensures)
-
 pub message-refusal-spec : {M : Type 1} → statement M
 message-refusal-spec =
     tie.close
     (tie.spec
     (λ c. refuse _ _ _ (begin _) refl (le-leb _ _ (c .if1 .taken)))
     (λ c κs. search needs)
-    returns-2)
+    (λ c. end (pass _ _ _ (begin _) refl (lt-leb _ _ (c .before .if1 .left)))
+    (c .due-refusal .ensures)))

@@ -15,9 +15,6 @@ abbrev past-arrival : (c : tie.Else1)
 past-arrival c =
     pass-part _ _ (begin _) refl (told (c .before .arrival-refusal .ensures) (c .if1 .left))
 
-returns : tie.Need-returns
-returns c = refuse-part _ _ (begin _) refl (c .before .arrival-refusal .ensures) (c .if1 .taken)
-
 returns-2 : tie.Need-returns-2
 returns-2 c =
     let a = c .before .before .before .before .args in
@@ -37,7 +34,7 @@ one-refusal-spec =
     tie.close
     (tie.spec
     (λ c κs. search needs)
-    returns
+    (λ c. refuse-part _ _ (begin _) refl (c .before .arrival-refusal .ensures) (c .if1 .taken))
     (λ c. search needs) (λ c κs. search needs)
     returns-2
     returns-3)

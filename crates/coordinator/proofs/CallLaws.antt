@@ -8,8 +8,6 @@ use mathlib.Core.Path.{_≡_, ap, sym, _∙_}
 use mathlib.Core.List.{List}
 use Prim.Native.Nat.{ℕ, _+_, _≤_, _<_}
 use native.Mathlib.Omega.{arith}
-use lib.Dec.{ltb}
-use borrow.Author.Tests.{ltb-false}
 use lib.ListN.{length, set, replicate, length-set, replicate-append-replicate}
 use Rattle.laws.proofs.FlatMemory.{filled-on}
 use Rattle.model.specs.declared.Settings.{Settings}
@@ -18,19 +16,18 @@ use Rattle.model.specs.declared.CoordinatorRecord.{CoordinatorRecord}
 use Rattle.model.specs.Choice.{isZero}
 use Rattle.model.specs.Refusals.{accepted}
 use Rattle.model.specs.Limits.{valueCount}
-use Rattle.model.specs.Settings.{settingsRefusal}
 use Rattle.model.specs.Messages.{noMessage}
 use Rattle.model.specs.SiteMemory.{overwrite}
 use Rattle.model.specs.Coordinator.{CoordinatorStep, freshCoordinator}
 use Rattle.model.specs.CoordinatorMemory.{coordinatorMemory, coordinatorWords, coordinatorMemoryRefusal}
-use Rattle.model.proofs.RefusalLaws.{both-accepted, passed}
+use Rattle.model.proofs.RefusalLaws.{both-accepted, accepts, refuses}
+use Rattle.model.proofs.TestedMemory.{length-tested, coordinator-tested}
 use Rattle.coordinator_kinds.specs.declared.Answered.{Answered}
 use Rattle.coordinator.specs.declared.Received.{Received}
 use Rattle.coordinator_kinds.specs.Steps.{answerOf}
 use Rattle.coordinator_steps.specs.Ready.{StepAsks, AnnounceAsks}
 use Rattle.coordinator.specs.Calls.{Hands, startRefusal, receiveRefusal, announceRefusal}
-use Rattle.coordinator_tests.proofs.Chains.{accepts, refuses}
-use Rattle.coordinator_tests.proofs.ReadyLaws.{tested, ready-of-consistent}
+use Rattle.coordinator_tests.proofs.ReadyLaws.{ready-of-consistent}
 
 -- ---- The fresh coordinator in memory
 
@@ -67,17 +64,14 @@ pub start-long : (settings : Settings) (words : ℕ)
     → startRefusal settings words ≡ accepted
     → coordinatorWords settings ≤ words
 start-long settings words none =
-    let rows = both-accepted (settingsRefusal settings) _ none in
-    let length-row = passed (ltb words (coordinatorWords settings)) 4 _ (omega arith)
-    (rows .later-accepted) in
-    ltb-false _ _ (length-row .test-failed)
+    length-tested settings (coordinatorWords settings) words _ none .memory-long
 
 pub step-asks : (settings : Settings) (numbers : CoordinatorRecord) (m : Message) (memory : List ℕ)
     → receiveRefusal settings numbers m memory ≡ accepted
     → StepAsks settings numbers m memory
 step-asks settings numbers m memory none =
     let rows = both-accepted (coordinatorMemoryRefusal settings numbers memory) _ none in
-    let facts = tested settings numbers memory (rows .first-accepted) in
+    let facts = coordinator-tested settings numbers memory (rows .first-accepted) in
     record {
       settings-accepted = facts .settings-accepted;
       memory-long = facts .memory-long;
@@ -91,7 +85,7 @@ pub announce-asks : (settings : Settings) (numbers : CoordinatorRecord) (memory 
     → AnnounceAsks settings numbers
 announce-asks settings numbers memory none =
     let rows = both-accepted (coordinatorMemoryRefusal settings numbers memory) _ none in
-    let facts = tested settings numbers memory (rows .first-accepted) in
+    let facts = coordinator-tested settings numbers memory (rows .first-accepted) in
     let ready = ready-of-consistent settings numbers memory (facts .memory-long)
     (facts .consistent) in
     record {

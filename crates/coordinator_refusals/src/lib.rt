@@ -7,7 +7,7 @@ ghost use Prim.Native.Nat.{ℕ};
 ghost use lib.Dec.{leb};
 ghost use Rattle.model.specs.declared.Settings.{Settings};
 ghost use Rattle.model.specs.Messages.{isItemReport};
-ghost use Rattle.model.specs.Coordinator.{dueIn, askedValue, namesLargeValue, wrongAtCoordinator, coordinatorRefusal};
+ghost use Rattle.model.specs.Coordinator.{dueIn, askedValue, namesLargeValue, wrongAtCoordinator, coordinatorDueRefusal, coordinatorRefusal};
 ghost use Rattle.model.specs.CoordinatorMemory.{coordinatorIn};
 use model::ACCEPTED;
 use model::AMOUNT_NOT_DUE;
@@ -125,14 +125,11 @@ fn wrong_amount(coordinator: CoordinatorRecord, message: Message) -> bool
     false
 }
 
-// The refusal of a message, or 0.
-pub fn message_refusal(settings: Settings, coordinator: CoordinatorRecord, message: Message) -> u32
-    ensures { λ r. ⌜ ((memory : List ℕ) → r ≡ coordinatorRefusal settings
+// Why the kind, the item, the value or the amounts of a message are refused: 9, 6, 7, 10.
+fn due_refusal(settings: Settings, coordinator: CoordinatorRecord, message: Message) -> u32
+    ensures { λ r. ⌜ ((memory : List ℕ) → r ≡ coordinatorDueRefusal settings
         (coordinatorIn settings coordinator memory) message) ⌝ }
 {
-    if settings.sites <= message.site {
-        return UNKNOWN_SITE;
-    }
     let phase = coordinator.phase;
     if not_due(phase, message) {
         return MESSAGE_NOT_DUE;
@@ -147,4 +144,15 @@ pub fn message_refusal(settings: Settings, coordinator: CoordinatorRecord, messa
         return AMOUNT_NOT_DUE;
     }
     ACCEPTED
+}
+
+// The refusal of a message, or 0: 5; then 9, 6, 7, 10.
+pub fn message_refusal(settings: Settings, coordinator: CoordinatorRecord, message: Message) -> u32
+    ensures { λ r. ⌜ ((memory : List ℕ) → r ≡ coordinatorRefusal settings
+        (coordinatorIn settings coordinator memory) message) ⌝ }
+{
+    if settings.sites <= message.site {
+        return UNKNOWN_SITE;
+    }
+    due_refusal(settings, coordinator, message)
 }

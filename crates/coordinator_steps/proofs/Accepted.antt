@@ -9,17 +9,17 @@ use mathlib.Core.Path.{_≡_, refl}
 use mathlib.Core.Bool.{Bool, true, false, _&&_, _||_, not}
 use Prim.Native.Nat.{ℕ, _≤_, _<_}
 use native.Mathlib.Omega.{arith}
-use lib.Dec.{eqb, ltb, leb}
+use lib.Dec.{eqb, ltb, leb, lit<}
 use borrow.Author.Tests.{leb-false, ltb-false, eqb-true, ne-eqb, not-false}
 use Rattle.laws.proofs.Tests.{both-true, neither-of-or}
 use Rattle.model.specs.declared.Settings.{Settings}
 use Rattle.model.specs.declared.Message.{Message}
 use Rattle.model.specs.declared.Phase.the-variants.{Idle, Collecting, Probing}
-use Rattle.model.specs.Refusals.{accepted}
+use Rattle.model.specs.Refusals.{accepted, unknownSite, messageNotDue, unknownItem, valueTooLarge, amountNotDue}
 use Rattle.model.specs.Choice.{isZero}
 use Rattle.model.specs.Limits.{topValue, siteLimit}
 use Rattle.model.specs.Messages.{isItemReport, isCountReport, isPollAnswer, isProbeAnswer}
-use Rattle.model.specs.Coordinator.{Coordinator, dueIn, askedValue, namesLargeValue, wrongAtCoordinator, coordinatorRefusal}
+use Rattle.model.specs.Coordinator.{Coordinator, dueIn, askedValue, namesLargeValue, wrongAtCoordinator, coordinatorDueRefusal, coordinatorRefusal}
 use Rattle.model.proofs.RefusalLaws.{passed}
 
 -- ---- The rows of the chain
@@ -59,13 +59,12 @@ pub message-accepted : (settings : Settings) (c : Coordinator) (m : Message)
     → coordinatorRefusal settings c m ≡ accepted
     → MessageAccepted settings c m
 message-accepted settings c m none =
-    let site-row = passed (leb (settings .sites) (m .site)) 5 _ (omega arith) none in
-    let due-row = passed (not (dueIn (c .phase) m)) 9 _ (omega arith) (site-row .later-accepted) in
-    let item-row = passed (isItemReport m && leb (settings .universe) (m .a)) 6 _ (omega arith)
-    (due-row .later-accepted) in
-    let value-row = passed (namesLargeValue c m) 7 _ (omega arith) (item-row .later-accepted) in
-    let amount-row = passed (wrongAtCoordinator c m) 10 _ (omega arith)
-    (value-row .later-accepted) in
+    let site-row = passed (leb (settings .sites) (m .site)) unknownSite
+    (coordinatorDueRefusal settings c m) (lit< tt) none in
+    let due-row = passed _ messageNotDue _ (lit< tt) (site-row .later-accepted) in
+    let item-row = passed _ unknownItem _ (lit< tt) (due-row .later-accepted) in
+    let value-row = passed _ valueTooLarge _ (lit< tt) (item-row .later-accepted) in
+    let amount-row = passed _ amountNotDue _ (lit< tt) (value-row .later-accepted) in
     record {
       site-known = leb-false _ _ (site-row .test-failed);
       due = not-false _ (due-row .test-failed);

@@ -1,29 +1,26 @@
--- Why the tests in the code's order are document 01's refusals 4 and 11.
+-- Why the tests in the code's order are document 01's refusal 11.
 --
 --   consistent-parts                the consistency test as record, threshold and numbers
 --   record-facts                    what the record's part is worth
 --   histogram-part, numbers-at-one, numbers-above-one, numbers-histogram-off, numbers-estimates-off
---   refused-by-settings, refused-by-length, decided-by-consistency     the chain 1, 2, 3; 4, 11
-use mathlib.Core.Path.{_≡_, refl, ap, sym, _∙_}
+use mathlib.Core.Path.{_≡_, refl, ap, sym}
 use mathlib.Core.Bool.{Bool, true, false, _&&_, _||_, not}
 use mathlib.Core.List.{List}
-use Prim.Native.Nat.{ℕ, _+_, _-_, _≤_, _<_}
+use Prim.Native.Nat.{ℕ, _+_, _-_, _≤_}
 use native.Mathlib.Omega.{arith}
 use lib.Dec.{eqb, leb}
-use lib.ListN.{length, take, drop}
-use borrow.Author.Tests.{leb-true, lt-ltb, le-ltb, eq-eqb, ne-eqb}
+use lib.ListN.{take, drop}
+use borrow.Author.Tests.{leb-true, eq-eqb, ne-eqb}
 use Rattle.laws.proofs.Tests.{both-true, and-false}
 use Rattle.model.specs.declared.Settings.{Settings}
 use Rattle.model.specs.declared.CoordinatorRecord.{CoordinatorRecord}
-use Rattle.model.specs.Refusals.{when, _orElse_, accepted, memoryTooShort, memoryInconsistent}
 use Rattle.model.specs.Limits.{topValue, valueCount, coordinatorLimit}
-use Rattle.model.specs.Settings.{settingsRefusal, thresholdOf}
+use Rattle.model.specs.Settings.{thresholdOf}
 use Rattle.model.specs.SiteMemory.{sum}
 use Rattle.model.specs.Coordinator.{Coordinator}
-use Rattle.model.specs.CoordinatorMemory.{coordinatorIn, coordinatorWords, coordinatorConsistent, coordinatorMemoryRefusal, phaseConsistent, allWithin}
+use Rattle.model.specs.CoordinatorMemory.{coordinatorIn, coordinatorConsistent, phaseConsistent, allWithin}
 use Rattle.coordinator_tests.specs.Consistency.{recordConsistent, numbersConsistent}
 use Rattle.model.proofs.ReportLaws.{valueCount-is}
-use Rattle.coordinator_tests.proofs.Chains.{refused-first, accepted-first}
 
 -- ---- The parts of the test
 
@@ -114,38 +111,3 @@ module _ (c : Coordinator) where
 
   pub numbers-estimates-off : estimates-test ≡ false → numbersConsistent c ≡ false
   numbers-estimates-off estimates = rw estimates
-
--- ---- The chain of refusals
-
-module _ (settings : Settings) (numbers : CoordinatorRecord) (memory : List ℕ) where
-  abbrev consistency-row : Bool → ℕ
-  consistency-row consistent = when (not consistent) memoryInconsistent orElse accepted
-
-  pub refused-by-settings : (settingsRefusal settings ≡ accepted → ⊥)
-      → coordinatorMemoryRefusal settings numbers memory ≡ settingsRefusal settings
-  refused-by-settings refused = refused-first (settingsRefusal settings) _ refused
-
-  module _ (none : settingsRefusal settings ≡ accepted) where
-    pub refused-by-length : length memory < coordinatorWords settings
-        → coordinatorMemoryRefusal settings numbers memory ≡ memoryTooShort
-    refused-by-length short =
-        accepted-first (settingsRefusal settings) _ none
-        ∙ ap
-        (λ (test : Bool). when test memoryTooShort
-        orElse consistency-row (coordinatorConsistent settings
-        (coordinatorIn settings numbers memory)))
-        (lt-ltb _ _ short)
-
-    -- With settings accepted and memory long enough, consistency decides.
-    pub decided-by-consistency : (consistent : Bool)
-        → coordinatorWords settings ≤ length memory
-        → coordinatorConsistent settings (coordinatorIn settings numbers memory) ≡ consistent
-        → coordinatorMemoryRefusal settings numbers memory ≡ consistency-row consistent
-    decided-by-consistency consistent long test =
-        accepted-first (settingsRefusal settings) _ none
-        ∙ ap
-        (λ (row : Bool). when row memoryTooShort
-        orElse consistency-row (coordinatorConsistent settings
-        (coordinatorIn settings numbers memory)))
-        (le-ltb _ _ long)
-        ∙ ap consistency-row test

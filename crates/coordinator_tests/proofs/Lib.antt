@@ -1,5 +1,4 @@
--- The laws behind the tests: refusal chains, walks over numbers, and what consistency is worth.
-pub mod Chains
+-- The laws behind the tests: walks over numbers, and what consistency is worth.
 pub mod NumberLaws
 pub mod ConsistencyLaws
 pub mod ReadyLaws

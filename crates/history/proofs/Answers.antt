@@ -15,7 +15,7 @@ use Rattle.model.specs.declared.SiteRecord.{SiteRecord}
 use Rattle.model.specs.Choice.{if_then_else_, isZero}
 use Rattle.model.specs.Refusals.{accepted, _orElse_}
 use Rattle.model.specs.SiteMemory.{siteWords, siteMemoryRefusal}
-use Rattle.site_memory.proofs.ReadyLaws.{step-ready}
+use Rattle.model.proofs.TestedMemory.{site-tested}
 
 -- ---- Choices
 
@@ -42,7 +42,8 @@ or-accepted (suc refusal) = refl
 pub accepted-long : (settings : Settings) (numbers : SiteRecord) (memory : List ℕ)
     → siteMemoryRefusal settings numbers memory ≡ accepted
     → siteWords settings ≤ length memory
-accepted-long settings numbers memory none = step-ready settings numbers memory none .long-enough
+accepted-long settings numbers memory none =
+    site-tested settings numbers memory none .memory-long
 
 -- A front as long as that is a front of at least so many numbers.
 pub words-enough : (words n : ℕ) (memory : List ℕ) → words ≤ length (take n memory) → words ≤ n

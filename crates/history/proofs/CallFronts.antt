@@ -10,7 +10,7 @@ use Prim.Native.Nat.{ℕ, _≤_}
 use native.Mathlib.Omega.{arith}
 use lib.Dec.{ltb}
 use lib.ListN.{length, take, replicate, length-replicate, length-append}
-use borrow.Author.Tests.{le-ltb, ltb-false}
+use borrow.Author.Tests.{le-ltb}
 use Rattle.model.specs.declared.Settings.{Settings}
 use Rattle.model.specs.declared.Message.{Message}
 use Rattle.model.specs.declared.CoordinatorRecord.{CoordinatorRecord}
@@ -21,7 +21,8 @@ use Rattle.model.specs.Settings.{settingsRefusal}
 use Rattle.model.specs.Coordinator.{Coordinator, CoordinatorStep, freshCoordinator, coordinatorReceives, coordinatorRefusal, announced, announcementRefusal}
 use Rattle.model.specs.CoordinatorMemory.{coordinatorWords, coordinatorIn, coordinatorMemory, coordinatorMemoryRefusal}
 use Rattle.model.specs.NetworkMemory.{sitesWords}
-use Rattle.model.proofs.RefusalLaws.{both-accepted, passed}
+use Rattle.model.proofs.RefusalLaws.{both-accepted}
+use Rattle.model.proofs.TestedMemory.{length-tested}
 use Rattle.coordinator_kinds.proofs.MemoryLaws.{estimates-long, histogram-long}
 use Rattle.site.specs.declared.StartedSites.{StartedSites}
 use Rattle.site.specs.Calls as SiteCalls
@@ -40,10 +41,7 @@ started-long : (settings : Settings) (words many : ℕ)
     → (settingsRefusal settings orElse when (ltb many words) memoryTooShort orElse accepted)
     ≡ accepted
     → words ≤ many
-started-long settings words many none =
-    ltb-false many words
-    (passed (ltb many words) memoryTooShort _ (omega arith)
-    (both-accepted (settingsRefusal settings) _ none .later-accepted) .test-failed)
+started-long settings words many none = length-tested settings words many _ none .memory-long
 
 -- As much as is enough, or more: 4 does not tell.
 started-same : (settings : Settings) (words n : ℕ) (memory : List ℕ)

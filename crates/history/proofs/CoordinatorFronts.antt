@@ -15,7 +15,7 @@ use native.Mathlib.Omega.{arith}
 use lib.Dec.{ltb}
 use lib.ListN.{length, take, drop, length-take, length-drop, take-append-drop}
 use lib.Seq.{take-append-le, drop-append-le}
-use borrow.Author.Tests.{le-ltb, ltb-false}
+use borrow.Author.Tests.{le-ltb}
 use Rattle.model.specs.declared.Settings.{Settings}
 use Rattle.model.specs.declared.CoordinatorRecord.{CoordinatorRecord}
 use Rattle.model.specs.Refusals.{when, _orElse_, accepted, memoryTooShort, memoryInconsistent}
@@ -24,7 +24,7 @@ use Rattle.model.specs.Settings.{settingsRefusal}
 use Rattle.model.specs.SiteMemory.{overwrite}
 use Rattle.model.specs.Coordinator.{Coordinator}
 use Rattle.model.specs.CoordinatorMemory.{coordinatorWords, coordinatorIn, coordinatorConsistent, coordinatorMemoryRefusal}
-use Rattle.model.proofs.RefusalLaws.{both-accepted, passed}
+use Rattle.model.proofs.TestedMemory.{coordinator-tested}
 use Rattle.history.specs.State.{withPart}
 
 -- ---- Fronts of a memory
@@ -114,7 +114,4 @@ pub coordinator-long : (settings : Settings) (numbers : CoordinatorRecord) (memo
     → coordinatorMemoryRefusal settings numbers memory ≡ accepted
     → coordinatorWords settings ≤ length memory
 coordinator-long settings numbers memory none =
-    let rows = both-accepted (settingsRefusal settings) _ none in
-    ltb-false (length memory) (coordinatorWords settings)
-    (passed (ltb (length memory) (coordinatorWords settings)) 4 _ (omega arith)
-    (rows .later-accepted) .test-failed)
+    coordinator-tested settings numbers memory none .memory-long

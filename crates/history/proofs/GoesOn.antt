@@ -9,15 +9,13 @@
 use mathlib.Core.Path.{_≡_, sym, ap, _∙_, subst}
 use mathlib.Core.Bool.{true, false}
 use mathlib.Core.List.{List, []}
-use Prim.Native.Nat.{ℕ, suc, _+_, _≤_, _<_}
+use Prim.Native.Nat.{ℕ, suc, _+_, _≤_}
 use native.Mathlib.Omega.{arith}
-use lib.Dec.{leb}
-use borrow.Author.Tests.{leb-false}
 use Rattle.model.specs.declared.Settings.{Settings}
 use Rattle.model.specs.declared.Arrival.{Arrival}
 use Rattle.model.specs.declared.Message.{Message}
 use Rattle.model.specs.declared.Phase.the-variants.{Idle}
-use Rattle.model.specs.Refusals.{_orElse_, accepted, unknownSite}
+use Rattle.model.specs.Refusals.{_orElse_, accepted}
 use Rattle.model.specs.Settings.{settingsRefusal}
 use Rattle.model.specs.Messages.{toCoordinator}
 use Rattle.model.specs.Site.{siteMessageRefusal}
@@ -26,7 +24,7 @@ use Rattle.model.specs.Coordinator.{Coordinator, isAnnouncing, coordinatorRefus
 use Rattle.model.specs.CoordinatorMemory.{coordinatorWords}
 use Rattle.model.specs.Network.{Network, Delivered, siteAt, afterArrival}
 use Rattle.model.specs.DeliveryClaims.{messageRefusal}
-use Rattle.model.proofs.RefusalLaws.{passed}
+use Rattle.model.proofs.SettingsLaws.{site-known}
 use Rattle.model.proofs.SoundTheorem.{sound-claims}
 use Rattle.model.proofs.ConsistentCoordinator.{CoordinatorWithin}
 use Rattle.site.specs.Calls as SiteCalls
@@ -113,9 +111,7 @@ module _ {settings : Settings} (passes : settingsRefusal settings ≡ accepted) 
       ≡ siteMessageRefusal settings (siteAt network (m .site)) (m .site) m = rw way in
       let none : siteMessageRefusal settings (siteAt network (m .site)) (m .site) m ≡ accepted =
       sym by ∙ head in
-      let known : m .site < settings .sites =
-      leb-false (settings .sites) (m .site)
-      (passed (leb (settings .sites) (m .site)) unknownSite _ (omega arith) none .test-failed) in
+      let known = site-known settings (m .site) _ none in
       site-message-by-rules passes (state .held) lengths parts (m .site) words known enough m
       ∙ none
 

@@ -1,6 +1,6 @@
 -- A front of each memory holds the network, if it is long enough.
 --
---   network-front             the network that the fronts hold is the one that is held
+--   network-front   the network that the fronts hold is the one that is held
 use mathlib.Core.Path.{_≡_, sym, ap, _∙_}
 use Prim.Native.Nat.{ℕ, _≤_}
 use lib.ListN.{length, take, drop, take-append-drop}
@@ -16,7 +16,6 @@ use Rattle.history.proofs.CoordinatorFronts.{coordinatorIn-front}
 use Rattle.site_memory.proofs.SitesFronts.{sitesIn-front}
 use Rattle.history.proofs.Decoded.{Lengths, SitesSound, used-at}
 
--- Neither memory is too short.
 -- Each site has its counters within its own part.
 pub network-front : {settings : Settings} (passes : settingsRefusal settings ≡ accepted)
     (held : Held) (lengths : Lengths settings held) (sound : SitesSound settings held)

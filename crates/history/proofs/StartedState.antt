@@ -3,12 +3,10 @@
 --   start-ok     the invariant of that state
 use mathlib.Core.Path.{_≡_, refl, sym, ap, _∙_, subst}
 use mathlib.Core.List.{List, _++_}
-use Prim.Native.Nat.{ℕ, _+_, _≤_}
+use Prim.Native.Nat.{ℕ, _≤_}
 use native.Mathlib.Omega.{arith}
-use lib.Dec.{ltb}
 use lib.ListN.{length, drop, replicate, length-replicate, replicate-append-replicate}
 use lib.Seq.{take-at}
-use borrow.Author.Tests.{ltb-false}
 use Rattle.laws.proofs.FlatMemory.{length-overwritten}
 use Rattle.model.specs.declared.Settings.{Settings}
 use Rattle.model.specs.Refusals.{accepted}
@@ -20,7 +18,7 @@ use Rattle.model.specs.Coordinator.{Coordinator, freshCoordinator}
 use Rattle.model.specs.CoordinatorMemory.{coordinatorWords, coordinatorIn, coordinatorRecord, coordinatorMemory}
 use Rattle.model.specs.Network.{freshNetwork}
 use Rattle.model.specs.NetworkMemory.{sitesWords, sitesIn, freshSites}
-use Rattle.model.proofs.RefusalLaws.{both-accepted, passed}
+use Rattle.model.proofs.TestedMemory.{length-tested}
 use Rattle.model.proofs.SettingsLaws.{Settled, settled}
 use Rattle.coordinator_kinds.proofs.MemoryLaws.{written-coordinator}
 use Rattle.site.specs.declared.StartedSites.{StartedSites}
@@ -141,21 +139,18 @@ module _ (settings : Settings) (sitesBefore sitesAfter coordinatorBefore coordin
 
   -- A start that is accepted had settings that pass.
   pub start-passes : settingsRefusal settings ≡ accepted
-  start-passes = both-accepted (settingsRefusal settings) _ none-sites .first-accepted
+  start-passes =
+      length-tested settings (sitesWords settings) (length sitesBefore) _ none-sites
+      .settings-accepted
 
   sites-long : sitesWords settings ≤ length sitesBefore
   sites-long =
-      let rows = both-accepted (settingsRefusal settings) _ none-sites in
-      ltb-false (length sitesBefore) (sitesWords settings)
-      (passed (ltb (length sitesBefore) (sitesWords settings)) 4 _ (omega arith)
-      (rows .later-accepted) .test-failed)
+      length-tested settings (sitesWords settings) (length sitesBefore) _ none-sites .memory-long
 
   coordinator-long : coordinatorWords settings ≤ length coordinatorBefore
   coordinator-long =
-      let rows = both-accepted (settingsRefusal settings) _ none-coordinator in
-      ltb-false (length coordinatorBefore) (coordinatorWords settings)
-      (passed (ltb (length coordinatorBefore) (coordinatorWords settings)) 4 _ (omega arith)
-      (rows .later-accepted) .test-failed)
+      length-tested settings (coordinatorWords settings) (length coordinatorBefore) _
+      none-coordinator .memory-long
 
   -- The answers and memories are those of a fresh start.
   state-is : startState (sites .sites) (coordinator .coordinator) sitesAfter coordinatorAfter

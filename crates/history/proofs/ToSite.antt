@@ -6,10 +6,8 @@ use mathlib.Core.Path.{_≡_, sym, ap, _∙_, subst}
 use mathlib.Core.Bool.{false}
 use mathlib.Core.List.{List, [], _∷_}
 use Prim.Native.Nat.{ℕ, suc, _≤_, _<_}
-use native.Mathlib.Omega.{arith}
 use lib.Dec.{leb}
 use lib.ListN.{length, getD, take, drop}
-use borrow.Author.Tests.{leb-false}
 use Rattle.model.specs.declared.Settings.{Settings}
 use Rattle.model.specs.declared.Arrival.{Arrival}
 use Rattle.model.specs.declared.Message.{Message}
@@ -22,7 +20,8 @@ use Rattle.model.specs.SiteMemory.{siteWords, siteIn, siteRecord, siteMemoryRef
 use Rattle.model.specs.Network.{Network, Delivered, siteAt, handToSite, handOver}
 use Rattle.model.specs.DeliveryClaims.{joining, deliveryOf}
 use Rattle.model.specs.SoundClaims.{Reached}
-use Rattle.model.proofs.RefusalLaws.{BothAccepted, both-accepted, passed}
+use Rattle.model.proofs.RefusalLaws.{BothAccepted, both-accepted}
+use Rattle.model.proofs.SettingsLaws.{site-known}
 use Rattle.site_steps.specs.declared.Answered.{Answered}
 use Rattle.site.specs.Calls as SiteCalls
 use Rattle.history.specs.State.{Held, State, networkOf, recordAt, siteStart, sitePart, afterSiteCall, sending}
@@ -71,10 +70,7 @@ module _ {settings : Settings} (passes : settingsRefusal settings ≡ accepted)
 
     -- The message names one of the k sites, as the call accepts it.
     pub known : j < settings .sites
-    known =
-        leb-false (settings .sites) j
-        (passed (leb (settings .sites) j) unknownSite _ (omega arith) (rows .later-accepted)
-        .test-failed)
+    known = site-known settings j _ (rows .later-accepted)
 
     long : siteWords settings ≤ length given
     long = accepted-long settings (recordAt held j) given (rows .first-accepted)

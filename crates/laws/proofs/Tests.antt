@@ -1,6 +1,7 @@
 -- Laws of tests joined by `&&`, `||` and `not`.
 --
 --   both-true        both tests of a conjunction hold
+--   AllHold, no-test, also   tests that hold one after another, as one conjunction
 --   neither-of-or    neither test of a disjunction holds that fails
 --   false-of-not     what a test's negation says of it: it fails
 --   true-of-not      and it holds
@@ -19,6 +20,23 @@ pub record BothTrue (first second : Bool) : Type 0 where
 pub both-true : (first second : Bool) → (first && second) ≡ true → BothTrue first second
 both-true true second holds = record { first-true = refl; second-true = holds }
 both-true false second impossible = absurd (false≢true impossible)
+
+-- Tests found to hold one after another: none, and one more.
+pub record AllHold : Type 0 where
+  pub tests : Bool
+  pub hold : tests ≡ true
+
+abbrev pub no-test : AllHold
+no-test = record { tests = true; hold = refl }
+
+pub and-both : (first second : Bool) → first ≡ true → second ≡ true → (first && second) ≡ true
+and-both first second holds also-holds = rw (holds, also-holds)
+
+abbrev pub also : (so-far : AllHold) (test : Bool) → test ≡ true → AllHold
+also so-far test holds = record {
+  tests = so-far .tests && test;
+  hold = and-both (so-far .tests) test (so-far .hold) holds;
+}
 
 pub record NeitherTrue (first second : Bool) : Type 0 where
   pub first-false : first ≡ false

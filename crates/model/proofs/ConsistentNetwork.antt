@@ -6,14 +6,14 @@
 --   Passes, passes-of         what an accepted start is worth: no row of 1 to 4 and 11
 --   network-consistent-of     a sound network within the limits passes
 use mathlib.Core.Path.{_≡_, refl, ap}
-use mathlib.Core.Bool.{Bool, true, _&&_, not, false≢true}
+use mathlib.Core.Bool.{Bool, true, _&&_, false≢true}
 use mathlib.Core.List.{List, [], _∷_}
 use Prim.Native.Nat.{ℕ, zero, suc, _+_, _*_, _≤_, _<_}
 use native.Mathlib.Omega.{arith}
 use lib.Dec.{eqb, leb, ltb}
 use lib.ListN.{length, getD, drop, length-drop}
 use lib.Seq.{length-take-le}
-use borrow.Author.Tests.{eqb-true, leb-true, ltb-false, le-leb, eq-eqb, not-false}
+use borrow.Author.Tests.{eqb-true, leb-true, ltb-false, le-leb, eq-eqb}
 use Rattle.laws.proofs.Tests.{both-true, neither-of-or}
 use Rattle.laws.proofs.Lists.{all-cons}
 use Rattle.model.specs.declared.Settings.{Settings}
@@ -22,7 +22,7 @@ use Rattle.model.specs.declared.Sites.{Sites}
 use Rattle.model.specs.declared.Phase.{Phase}
 use Rattle.model.specs.declared.Phase.the-variants.{Idle, Collecting, Probing, Announcing}
 use Rattle.model.specs.declared.CoordinatorRecord.{CoordinatorRecord}
-use Rattle.model.specs.Refusals.{accepted, memoryTooShort, memoryInconsistent}
+use Rattle.model.specs.Refusals.{accepted, memoryTooShort}
 use Rattle.model.specs.Limits.{valueCount, messageLimit}
 use Rattle.model.specs.Settings.{settingsRefusal}
 use Rattle.model.specs.Site.{Site, freshSite}
@@ -33,6 +33,7 @@ use Rattle.model.specs.Network.{Network}
 use Rattle.model.specs.NetworkMemory.{sitesWords, sitesIn, networkIn, sitesConsistent, allPending, allArrivals, sameThreshold, atRestTogether, networkConsistent, networkTooShort, networkRefusal}
 use Rattle.model.specs.SoundNetwork.{SoundSite, Sound}
 use Rattle.model.proofs.RefusalLaws.{both-accepted, passed}
+use Rattle.model.proofs.TestedMemory.{consistent-of}
 use Rattle.model.proofs.ConsistentSites.{sound-of-consistent, consistent-of-sound}
 use Rattle.model.proofs.ConsistentCoordinator.{CoordinatorWithin, coordinator-sound-of, coordinator-within-of, coordinator-consistent-of}
 
@@ -192,16 +193,13 @@ module _ (settings : Settings) (sites : Sites) (coordinator : CoordinatorRecord)
       let chain = both-accepted (settingsRefusal settings) _ none in
       let short = passed (networkTooShort settings siteNumbers coordinatorNumbers) memoryTooShort
       _ (omega arith) (chain .later-accepted) in
-      let inconsistent = passed
-      (not (networkConsistent settings sites coordinator siteNumbers coordinatorNumbers))
-      memoryInconsistent _ (omega arith) (short .later-accepted) in
       let long = neither-of-or (ltb (length siteNumbers) (sitesWords settings)) _
       (short .test-failed) in
       let sites-long = ltb-false (length siteNumbers) (sitesWords settings)
       (long .first-false) in
       let coordinator-long = ltb-false (length coordinatorNumbers) (coordinatorWords settings)
       (long .second-false) in
-      let holds = not-false _ (inconsistent .test-failed) in
+      let holds = consistent-of _ (short .later-accepted) in
       let rows : Rows = rows-of holds in
       record {
         settings-accepted = chain .first-accepted;

@@ -1,6 +1,7 @@
 -- The theorems over the model's definitions.
 pub mod RefusalLaws
 pub mod SettingsLaws
+pub mod TestedMemory
 pub mod Digits
 pub mod DecimalLaws
 pub mod LineLaws

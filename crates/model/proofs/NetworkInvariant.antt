@@ -4,7 +4,8 @@
 --   NetworkOk                 what holds between arrivals
 --   network-fresh             of a fresh network
 --   ArrivalKnown              an accepted arrival: site, item and value are known
---   known-of-no-refusal       an arrival that is not refused is one
+--   known-of-address          an arrival whose address is not refused is one
+--   known-of-no-refusal       and so one that is not refused at all
 use mathlib.Core.Path.{_≡_, refl, sym, ap, _∙_}
 use mathlib.Core.List.{List, []}
 use Prim.Native.Nat.{ℕ, _+_, _*_, _≤_, _<_}
@@ -22,7 +23,7 @@ use Rattle.model.specs.Refusals.{accepted, unknownSite, unknownItem, val
 use Rattle.model.specs.Limits.{topValue, valueCount, probingMessages}
 use Rattle.model.specs.Settings.{thresholdOf}
 use Rattle.model.specs.Counters.{unreported}
-use Rattle.model.specs.Site.{Site, freshSite, addressRefusal, arrivalRefusal, upTo}
+use Rattle.model.specs.Site.{Site, freshSite, addressRefusal, roomRefusal, arrivalRefusal, upTo}
 use Rattle.model.specs.Network.{Network, freshNetwork}
 use Rattle.model.specs.Claims.{counted}
 use Rattle.model.proofs.RefusalLaws.{passed, both-accepted}
@@ -142,13 +143,12 @@ pub record ArrivalKnown (settings : Settings) (arrival : Arrival) : Type 0 where
   pub item-known : arrival .item < settings .universe
   pub value-known : arrival .value ≤ topValue
 
--- Of an arrival that is not refused, they are.
-pub known-of-no-refusal : (settings : Settings) (site : Site) (arrival : Arrival)
-    → arrivalRefusal settings site arrival ≡ accepted
+-- Of an arrival whose address is not refused, they are.
+pub known-of-address : (settings : Settings) (arrival : Arrival)
+    → addressRefusal settings arrival ≡ accepted
     → ArrivalKnown settings arrival
-known-of-no-refusal settings site arrival none =
-    let address = both-accepted (addressRefusal settings arrival) _ none in
-    let site-row = passed _ unknownSite _ (lit< tt) (address .first-accepted) in
+known-of-address settings arrival none =
+    let site-row = passed _ unknownSite _ (lit< tt) none in
     let item-row = passed _ unknownItem _ (lit< tt) (site-row .later-accepted) in
     let value-row = passed _ valueTooLarge _ (lit< tt) (item-row .later-accepted) in
     record {
@@ -156,3 +156,10 @@ known-of-no-refusal settings site arrival none =
       item-known = leb-false _ _ (item-row .test-failed);
       value-known = ltb-false _ _ (value-row .test-failed);
     }
+
+pub known-of-no-refusal : (settings : Settings) (site : Site) (arrival : Arrival)
+    → arrivalRefusal settings site arrival ≡ accepted
+    → ArrivalKnown settings arrival
+known-of-no-refusal settings site arrival none =
+    known-of-address settings arrival
+    (both-accepted (addressRefusal settings arrival) (roomRefusal site) none .first-accepted)

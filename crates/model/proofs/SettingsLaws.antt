@@ -2,17 +2,18 @@
 --
 --   Settled settings     the record of those facts
 --   settled              accepted settings have them
+--   site-known           a number that row 5 lets pass is that of a site
 use mathlib.Core.Path.{_≡_}
 use mathlib.Core.Bool.{true, not}
-use Prim.Native.Nat.{ℕ, _*_, _≤_}
+use Prim.Native.Nat.{ℕ, _*_, _≤_, _<_}
 use lib.Dec.{leb, ltb}
 use native.Mathlib.Omega.{arith}
-use borrow.Author.Tests.{leb-true, ltb-false, not-false}
+use borrow.Author.Tests.{leb-true, leb-false, ltb-false, not-false}
 use Rattle.laws.proofs.Tests.{both-true}
 use Rattle.model.specs.declared.Settings.{Settings}
 use Rattle.model.specs.Choice.{between}
 use Rattle.model.specs.Limits.{mostSites, mostCapacity, mostUniverse}
-use Rattle.model.specs.Refusals.{accepted}
+use Rattle.model.specs.Refusals.{when, _orElse_, accepted, unknownSite}
 use Rattle.model.specs.Settings.{inRange, settingsRefusal}
 use Rattle.model.proofs.RefusalLaws.{passed}
 
@@ -62,3 +63,11 @@ settled settings none =
       phi-epsilon = ltb-false _ _ (row-2 .test-failed);
       enough-counters = ltb-false _ _ (row-3 .test-failed);
     }
+
+-- A chain of refusals that begins with row 5 and refuses nothing names one of the k sites.
+pub site-known : (settings : Settings) (which later : ℕ)
+    → (when (leb (settings .sites) which) unknownSite orElse later) ≡ accepted
+    → which < settings .sites
+site-known settings which later none =
+    leb-false (settings .sites) which
+    (passed (leb (settings .sites) which) unknownSite later (omega arith) none .test-failed)

@@ -22,7 +22,7 @@ use Rattle.model.specs.Choice.{if_then_else_}
 use Rattle.model.specs.Refusals.{accepted, siteFull}
 use Rattle.model.specs.Limits.{valueCount, siteLimit}
 use Rattle.model.specs.Counters.{unreported, lostBy}
-use Rattle.model.specs.Site.{Site, freshSite, addressRefusal, arrivalRefusal, oneMoreAt, placementIn, placeFor, countersWith, reportsItem, reportsCount, observed, upTo}
+use Rattle.model.specs.Site.{Site, freshSite, addressRefusal, roomRefusal, arrivalRefusal, oneMoreAt, placementIn, placeFor, countersWith, reportsItem, reportsCount, observed, upTo}
 use Rattle.model.specs.SiteMemory.{sum}
 use Rattle.model.specs.SoundNetwork.{SoundSite}
 use Rattle.model.proofs.RefusalLaws.{both-accepted, passed}
@@ -67,7 +67,7 @@ pub taken-of-no-refusal : (settings : Settings) (site : Site) (arrival : Arrival
     → ArrivalTaken settings site arrival
 taken-of-no-refusal settings site arrival none =
     let room-row = passed (leb siteLimit (site .arrivals)) siteFull accepted (omega arith)
-    (both-accepted (addressRefusal settings arrival) _ none .later-accepted) in
+    (both-accepted (addressRefusal settings arrival) (roomRefusal site) none .later-accepted) in
     record {
       known = known-of-no-refusal settings site arrival none;
       room = leb-false siteLimit (site .arrivals) (room-row .test-failed);

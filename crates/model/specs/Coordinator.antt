@@ -277,14 +277,19 @@ wrongAtCoordinator c m =
     || isPollAnswer m && (leb (c .threshold) (m .a) || not (isZero (m .b)))
     || isProbeAnswer m && (not (eqb (m .a) (askedValue (c .phase))) || ltb siteLimit (m .b))
 
-abbrev pub coordinatorRefusal : Settings → Coordinator → Message → ℕ
-coordinatorRefusal settings c m =
-    when (leb (settings .sites) (m .site)) unknownSite
-    orElse when (not (dueIn (c .phase) m)) messageNotDue
+-- Kind, code, class and amounts of a message: 9, 6, 7, 10.
+abbrev pub coordinatorDueRefusal : Settings → Coordinator → Message → ℕ
+coordinatorDueRefusal settings c m =
+    when (not (dueIn (c .phase) m)) messageNotDue
     orElse when (isItemReport m && leb (settings .universe) (m .a)) unknownItem
     orElse when (namesLargeValue c m) valueTooLarge
     orElse when (wrongAtCoordinator c m) amountNotDue
     orElse accepted
+
+abbrev pub coordinatorRefusal : Settings → Coordinator → Message → ℕ
+coordinatorRefusal settings c m =
+    when (leb (settings .sites) (m .site)) unknownSite
+    orElse coordinatorDueRefusal settings c m
 
 -- "a kind 7 wanted from a desk that isn't announcing"
 abbrev pub announcementRefusal : Coordinator → ℕ

@@ -1,9 +1,12 @@
 -- A site: document 01's deck. What an arrival does to it and which messages go out; the messages
 -- that a site takes and how it answers.
 --
---   arrivalRefusal settings site arrival           5, 6, 7, 8 in that order, or accepted
+--   addressRefusal settings arrival                5, 6, 7 in that order, or accepted
+--   roomRefusal site                               8, or accepted
+--   arrivalRefusal settings site arrival           5, 6, 7; then 8
 --   observed settings site arrival                 the site and its messages after an arrival
---   siteMessageRefusal settings site which m       5, 9, 7, 10 in that order, or accepted
+--   siteDueRefusal site which m                    9, 7, 10 in that order, or accepted
+--   siteMessageRefusal settings site which m       5; then 9, 7, 10
 --   siteReceives site m                            the site and its answer after a message
 use mathlib.Core.Bool.{Bool, _&&_, _||_, not}
 use mathlib.Core.List.{List, [], _∷_, _++_}
@@ -48,11 +51,16 @@ addressRefusal settings arrival =
     orElse when (ltb topValue (arrival .value)) valueTooLarge
     orElse accepted
 
+-- A deck that is full: 8.
+abbrev pub roomRefusal : Site → ℕ
+roomRefusal site =
+    when (leb siteLimit (site .arrivals)) siteFull
+    orElse accepted
+
 abbrev pub arrivalRefusal : Settings → Site → Arrival → ℕ
 arrivalRefusal settings site arrival =
     addressRefusal settings arrival
-    orElse when (leb siteLimit (site .arrivals)) siteFull
-    orElse accepted
+    orElse roomRefusal site
 
 -- One more at a place of a list of numbers.
 abbrev pub oneMoreAt : List ℕ → ℕ → List ℕ
@@ -130,14 +138,19 @@ wrongAtSite site m =
     || isProbe m && not (isZero (m .b))
     || isAnnouncement m && (ltb (m .a) (site .threshold) || ltb siteLimit (m .a))
 
+-- Kind, class and amounts of a message: 9, 7, 10.
+abbrev pub siteDueRefusal : Site → ℕ → Message → ℕ
+siteDueRefusal site which m =
+    when (not (dueAtSite which m)) messageNotDue
+    orElse when (isProbe m && ltb topValue (m .a)) valueTooLarge
+    orElse when (wrongAtSite site m) amountNotDue
+    orElse accepted
+
 -- "for a message 5, 9, 6, 7, 10, with 6 and 7 only where the message table gives a code or a class"
 abbrev pub siteMessageRefusal : Settings → Site → ℕ → Message → ℕ
 siteMessageRefusal settings site which m =
     when (leb (settings .sites) (m .site)) unknownSite
-    orElse when (not (dueAtSite which m)) messageNotDue
-    orElse when (isProbe m && ltb topValue (m .a)) valueTooLarge
-    orElse when (wrongAtSite site m) amountNotDue
-    orElse accepted
+    orElse siteDueRefusal site which m
 
 -- "draws at or below it": the counts of the values up to and with this one.
 abbrev pub upTo : ℕ → List ℕ → ℕ

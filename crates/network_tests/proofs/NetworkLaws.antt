@@ -2,7 +2,6 @@
 --
 --   counts-fit                        numbers that can be added up
 --   count-refused .. sites-refused    the rows of the test
---   refused-settings .. refused-not   the rows of the refusal
 --   fits-of-long                      memory that is not too short
 use mathlib.Core.Path.{_≡_, sym, subst}
 use mathlib.Core.Bool.{Bool, true, false, _&&_}
@@ -16,14 +15,13 @@ use Rattle.laws.proofs.Tests.{and-true, and-false, neither-of-or}
 use Rattle.model.specs.declared.Settings.{Settings}
 use Rattle.model.specs.declared.Sites.{Sites}
 use Rattle.model.specs.declared.CoordinatorRecord.{CoordinatorRecord}
-use Rattle.model.specs.Refusals.{accepted, memoryTooShort, memoryInconsistent}
+use Rattle.model.specs.Refusals.{accepted}
 use Rattle.model.specs.Limits.{messageLimit}
 use Rattle.model.specs.Settings.{settingsRefusal}
 use Rattle.model.specs.SiteMemory.{siteWords, siteIn}
 use Rattle.model.specs.CoordinatorMemory.{coordinatorIn, coordinatorConsistent}
 use Rattle.model.specs.Network.{Network}
-use Rattle.model.specs.NetworkMemory.{sitesWords, networkIn, sitesConsistent, atRestTogether, networkConsistent, networkTooShort, networkRefusal}
-use Rattle.model.proofs.RefusalLaws.{refused-same}
+use Rattle.model.specs.NetworkMemory.{sitesWords, networkIn, sitesConsistent, atRestTogether, networkConsistent, networkTooShort}
 use Rattle.model.specs.SoundNetwork.{SoundSite}
 use Rattle.model.proofs.ConsistentCoordinator.{coordinator-within-of}
 use Rattle.model.proofs.ConsistentNetwork.{sites-sound-of}
@@ -98,37 +96,9 @@ module _ (settings : Settings) (sites : Sites) (coordinator : CoordinatorRecord)
   pub sites-refused : sites-test ≡ false → false ≡ whole-test
   sites-refused fails = rw fails
 
--- ---- The rows of the refusal
+-- ---- What fits
 
-module _ (settings : Settings) (sites : Sites) (coordinator : CoordinatorRecord)
-    (siteMemory coordinatorMemory : List ℕ) where
-  abbrev refusal : ℕ
-  refusal = networkRefusal settings sites coordinator siteMemory coordinatorMemory
-
-  pub refused-settings : (number : ℕ)
-      → number ≡ settingsRefusal settings
-      → (number ≡ accepted → ⊥)
-      → number ≡ refusal
-  refused-settings number is refused =
-      refused-same number (settingsRefusal settings) _ is refused
-
-  pub refused-short : settingsRefusal settings ≡ accepted
-      → networkTooShort settings siteMemory coordinatorMemory ≡ true
-      → memoryTooShort ≡ refusal
-  refused-short none short = rw (none, short)
-
-  pub refused-inconsistent : settingsRefusal settings ≡ accepted
-      → networkTooShort settings siteMemory coordinatorMemory ≡ false
-      → networkConsistent settings sites coordinator siteMemory coordinatorMemory ≡ false
-      → memoryInconsistent ≡ refusal
-  refused-inconsistent none long fails = rw (none, long, fails)
-
-  pub refused-not : settingsRefusal settings ≡ accepted
-      → networkTooShort settings siteMemory coordinatorMemory ≡ false
-      → networkConsistent settings sites coordinator siteMemory coordinatorMemory ≡ true
-      → accepted ≡ refusal
-  refused-not none long holds = rw (none, long, holds)
-
+module _ (settings : Settings) (siteMemory coordinatorMemory : List ℕ) where
   -- What passes the test 4 fits.
   pub fits-of-long : settingsRefusal settings ≡ accepted
       → networkTooShort settings siteMemory coordinatorMemory ≡ false

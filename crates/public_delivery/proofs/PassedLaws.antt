@@ -4,7 +4,7 @@
 --   Passed, passed-of            of records and memory that are not refused
 --   rest-of                      a state that holds them, with nothing waiting
 --   refused-start, refused-unknown, refused-arrival    the number that refuses the arrival
-use mathlib.Core.Path.{_≡_, refl, sym, ap, _∙_, subst}
+use mathlib.Core.Path.{_≡_, refl, sym, _∙_, subst}
 use mathlib.Core.List.{[]}
 use Prim.Native.Nat.{ℕ, suc, _-_, _*_, _≤_, _<_}
 use native.Mathlib.Nat.{mul-le-mul-right}
@@ -13,14 +13,14 @@ use lib.ListN.{length}
 use borrow.Author.Tests.{le-leb}
 use Rattle.model.specs.declared.Settings.{Settings}
 use Rattle.model.specs.declared.Arrival.{Arrival}
-use Rattle.model.specs.Refusals.{_orElse_, accepted, unknownSite}
+use Rattle.model.specs.Refusals.{accepted, unknownSite}
 use Rattle.model.specs.Limits.{mostSites}
 use Rattle.model.specs.Settings.{settingsRefusal}
 use Rattle.model.specs.SiteMemory.{siteWords}
 use Rattle.model.specs.NetworkMemory.{networkRefusal}
 use Rattle.model.specs.Runs.{refusalIn}
 use Rattle.model.specs.SoundNetwork.{Sound}
-use Rattle.model.proofs.RefusalLaws.{refused-same}
+use Rattle.model.proofs.RefusalLaws.{begin, pass-part, refuse-part, end}
 use Rattle.model.proofs.ConsistentCoordinator.{CoordinatorWithin}
 use Rattle.model.proofs.ConsistentNetwork.{passes-of}
 use Rattle.network_tests.specs.Contracts.{SitesFit}
@@ -89,18 +89,15 @@ pub refused-start : (settings : Settings) (held : Held) (arrival : Arrival) (ref
     → refusal ≡ startRefusal settings held
     → (refusal ≡ accepted → ⊥)
     → refusal ≡ deliveryRefusal settings held arrival
-refused-start settings held arrival refusal =
-    refused-same refusal (startRefusal settings held)
-    (refusalIn settings (networkOf settings held) arrival)
+refused-start settings held arrival refusal is refused =
+    refuse-part _ _ (begin _) refl is refused
 
 module _ (settings : Settings) (held : Held) (arrival : Arrival)
     (none : startRefusal settings held ≡ accepted) where
   -- Past the start test, the rules' number.
   by-rules : refusalIn settings (networkOf settings held) arrival
       ≡ deliveryRefusal settings held arrival
-  by-rules =
-      sym (ap (λ (start : ℕ). start orElse refusalIn settings (networkOf settings held) arrival)
-      none)
+  by-rules = end (pass-part _ _ (begin _) refl none) refl
 
   -- 5.
   pub refused-unknown : settings .sites ≤ arrival .site

@@ -1,6 +1,5 @@
 -- A message at a site, as a step of delivery: accepted, refused, or for no site at all.
 --
---   known-of-accepted     what a site accepts names one of the sites
 --   site-goes, site-stops, site-unknown
 -- Letter: j the site that the message names.
 use mathlib.Core.Path.{_≡_, refl, sym, ap, _∙_, subst}
@@ -9,19 +8,17 @@ use mathlib.Core.List.{List, _∷_}
 use Prim.Native.Nat.{ℕ, suc, _-_, _*_, _≤_, _<_}
 use native.Mathlib.Nat.{mul-le-mul-right}
 use native.Mathlib.Omega.{arith}
-use lib.Dec.{leb}
 use lib.ListN.{length, take, drop}
-use borrow.Author.Tests.{leb-false}
 use Rattle.model.specs.declared.Settings.{Settings}
 use Rattle.model.specs.declared.Message.{Message}
 use Rattle.model.specs.declared.SiteRecord.{SiteRecord}
 use Rattle.model.specs.declared.Sites.{Sites}
-use Rattle.model.specs.Refusals.{when, _orElse_, accepted, unknownSite}
-use Rattle.model.specs.Site.{siteMessageRefusal}
-use Rattle.model.specs.SiteMemory.{siteWords, siteIn, siteMemoryRefusal}
+use Rattle.model.specs.Refusals.{accepted, unknownSite}
+use Rattle.model.specs.SiteMemory.{siteWords, siteMemoryRefusal}
 use Rattle.sending.specs.declared.Queue.{Queue}
 use Rattle.sending.specs.Sending.{withoutHead}
-use Rattle.model.proofs.RefusalLaws.{both-accepted, passed}
+use Rattle.model.proofs.RefusalLaws.{both-accepted}
+use Rattle.model.proofs.SettingsLaws.{site-known}
 use Rattle.network_tests.specs.Contracts.{SitesFit}
 use Rattle.site_steps.specs.declared.Answered.{Answered}
 use Rattle.site.specs.Calls as SiteCalls
@@ -32,16 +29,6 @@ use Rattle.public_delivery.specs.Progress.{sent, refusedWith, recordIn, 
 use Rattle.public_delivery.specs.Steps.{site-refuses, HandAsks, StepSays}
 use Rattle.public_delivery.proofs.QueueLaws.{queued-head, few-without-head}
 use Rattle.public_delivery.proofs.StepLaws.{movedOn, went, stopped}
-
--- What a site accepts names one of the sites.
-known-of-accepted : (settings : Settings) (which first later : ℕ)
-    → (first orElse (when (leb (settings .sites) which) unknownSite orElse later)) ≡ accepted
-    → which < settings .sites
-known-of-accepted settings which first later none =
-    leb-false (settings .sites) which
-    (passed (leb (settings .sites) which) unknownSite later (omega arith)
-    (both-accepted first _ none .later-accepted)
-    .test-failed)
 
 module _ {settings : Settings} {siteMemory : List ℕ} {progress : Progress}
     (fits : SitesFit settings siteMemory) (asks : HandAsks false progress) where
@@ -72,8 +59,8 @@ module _ {settings : Settings} {siteMemory : List ℕ} {progress : Progress}
       (λ none.
       let numbers = recordAt (state .held) j in
       let part = sitePart settings (state .held) j (siteWords settings) in
-      let known = known-of-accepted settings j (siteMemoryRefusal settings numbers part)
-      (siteMessageRefusal settings (siteIn settings numbers part) j message) none in
+      let known = site-known settings j _
+      (both-accepted (siteMemoryRefusal settings numbers part) _ none .later-accepted) in
       omega (arith, known, none-such)))
 
   -- The site's record and its part of the memory, as the code names them.

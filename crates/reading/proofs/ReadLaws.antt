@@ -27,15 +27,16 @@ use Rattle.model.specs.Reading.{leastValue, leastValueFrom, quantileOf}
 use Rattle.model.proofs.RefusalLaws.{both-accepted, passed}
 use Rattle.model.proofs.SettingsLaws.{settled}
 use Rattle.model.proofs.ReportLaws.{valueCount-is}
+use Rattle.model.proofs.TestedMemory.{coordinator-tested}
 use Rattle.coordinator_tests.proofs.ConsistencyLaws.{histogram-part}
-use Rattle.coordinator_tests.proofs.ReadyLaws.{tested, within-of-consistent}
+use Rattle.coordinator_tests.proofs.ReadyLaws.{within-of-consistent}
 use Rattle.reading.specs.Contracts.{ReadAsks, SidesAsk, ValuesAsk, marginRefusal}
 
 pub read-asks : (settings : Settings) (numbers : CoordinatorRecord) (memory : List ℕ)
     → coordinatorMemoryRefusal settings numbers memory ≡ accepted
     → ReadAsks settings numbers memory
 read-asks settings numbers memory none =
-    let facts = tested settings numbers memory none in
+    let facts = coordinator-tested settings numbers memory none in
     record {
       settings-accepted = facts .settings-accepted;
       memory-long = facts .memory-long;

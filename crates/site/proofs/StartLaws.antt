@@ -18,7 +18,7 @@ use Rattle.model.specs.Limits.{mostSites, mostSiteWords}
 use Rattle.model.specs.Settings.{settingsRefusal}
 use Rattle.model.specs.SiteMemory.{siteWords, overwrite}
 use Rattle.model.specs.NetworkMemory.{sitesWords, freshSites}
-use Rattle.model.proofs.RefusalLaws.{refused-same}
+use Rattle.model.proofs.RefusalLaws.{Still, begin, pass, pass-part, refuse, refuse-part, end}
 use Rattle.model.proofs.SettingsLaws.{settled}
 use Rattle.model.proofs.ReportLaws.{valueCount-is}
 use Rattle.site.specs.Calls.{startRefusal, cleared, StartSays}
@@ -86,16 +86,17 @@ module _ (settings : Settings) (before : List ℕ) (sites : Sites) (fresh : site
       → (refusal ≡ accepted → ⊥)
       → StartSays settings before before (record { refusal = refusal; sites = sites })
   start-settings refusal same not-accepted =
-      refused refusal
-      (refused-same refusal (settingsRefusal settings) _ same not-accepted)
-      not-accepted
+      refused refusal (refuse-part _ _ (begin _) refl same not-accepted) not-accepted
+
+  abbrev past-settings : settingsRefusal settings ≡ accepted → Still (startRefusal settings before)
+  past-settings none = pass-part _ _ (begin _) refl none
 
   pub start-short : settingsRefusal settings ≡ accepted
       → length before < sitesWords settings
       → StartSays settings before before (record { refusal = memoryTooShort; sites = sites })
   start-short none short =
       refused memoryTooShort
-      (rw (none, lt-ltb (length before) (sitesWords settings) short))
+      (refuse _ _ _ (past-settings none) refl (lt-ltb _ _ short))
       (omega arith)
 
   pub start-accepted : (after : List ℕ)
@@ -104,7 +105,7 @@ module _ (settings : Settings) (before : List ℕ) (sites : Sites) (fresh : site
       → after ≡ cleared settings before
       → StartSays settings before after (record { refusal = accepted; sites = sites })
   start-accepted after none long after-is =
-      let accepted-is : startRefusal settings before ≡ accepted =
-      rw (none, le-ltb (length before) (sitesWords settings) long) in
-      let test = eq-eqb (startRefusal settings before) 0 accepted-is in
-      record { refusal = sym accepted-is; sites = fresh; memory = rw test after-is }
+      let accepted-is : accepted ≡ startRefusal settings before =
+      end (pass _ _ _ (past-settings none) refl (le-ltb _ _ long)) refl in
+      let test = eq-eqb (startRefusal settings before) 0 (sym accepted-is) in
+      record { refusal = accepted-is; sites = fresh; memory = rw test after-is }

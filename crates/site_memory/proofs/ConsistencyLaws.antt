@@ -5,25 +5,21 @@
 --   Passing, passing-start, passing-on, passing-fails, passing-end   the counters, place by place
 --   used-above, arrivals-above, pending-above, threshold-above, counters-pass, counters-fail
 --                                                              a whole site
---   settings-refused, memory-short, memory-tested              refusals 1, 2, 3; then 4, 11
 use Prim.Native.Nat.{ℕ, _+_, _<_, _≤_}
 use mathlib.Core.Path.{_≡_, ap, sym, _∙_}
 use mathlib.Core.List.{List}
-use mathlib.Core.Bool.{Bool, true, false, _&&_, not}
+use mathlib.Core.Bool.{Bool, true, false, _&&_}
 use native.Mathlib.Omega.{arith}
 use lib.Dec.{eqb, ltb}
-use lib.ListN.{length, take, drop}
+use lib.ListN.{take, drop}
 use borrow.Author.Tests.{lt-ltb, le-ltb, le-leb, lt-leb}
 use Rattle.laws.proofs.Tests.{and-false, and-true}
 use Rattle.model.specs.declared.Settings.{Settings}
 use Rattle.model.specs.declared.SiteRecord.{SiteRecord}
-use Rattle.model.specs.Refusals.{when, _orElse_, accepted, memoryTooShort, memoryInconsistent}
 use Rattle.model.specs.Limits.{valueCount, siteLimit}
-use Rattle.model.specs.Settings.{settingsRefusal}
 use Rattle.model.specs.Counters.{Counter, unreported}
 use Rattle.model.specs.Site.{Site}
-use Rattle.model.specs.SiteMemory.{counterWords, siteWords, siteMemoryRefusal, siteIn, countersIn, sum, counterConsistent, countersConsistent, siteConsistent}
-use Rattle.model.proofs.RefusalLaws.{refused-same}
+use Rattle.model.specs.SiteMemory.{counterWords, siteIn, countersIn, sum, counterConsistent, countersConsistent, siteConsistent}
 use Rattle.counters.specs.Stored.{storedAt}
 use Rattle.counters.proofs.Search.{countersFrom, counters-start, counters-end, counters-cons}
 
@@ -154,23 +150,3 @@ module _ (settings : Settings) (numbers : SiteRecord) (memory : List ℕ) where
       ≡ false
       → false ≡ siteConsistent settings numbers memory
   counters-fail fails = simp (fails, and-false)
-
--- ---- Refusals 1, 2, 3; then 4, 11
-
-module _ (settings : Settings) (numbers : SiteRecord) (memory : List ℕ) where
-  pub settings-refused : (refusal : ℕ)
-      → refusal ≡ settingsRefusal settings
-      → (refusal ≡ accepted → ⊥)
-      → refusal ≡ siteMemoryRefusal settings numbers memory
-  settings-refused refusal = refused-same refusal (settingsRefusal settings) _
-
-  pub memory-short : settingsRefusal settings ≡ accepted
-      → length memory < siteWords settings
-      → memoryTooShort ≡ siteMemoryRefusal settings numbers memory
-  memory-short none short = rw (none, lt-ltb (length memory) (siteWords settings) short)
-
-  pub memory-tested : settingsRefusal settings ≡ accepted
-      → siteWords settings ≤ length memory
-      → (when (not (siteConsistent settings numbers memory)) memoryInconsistent orElse accepted)
-      ≡ siteMemoryRefusal settings numbers memory
-  memory-tested none long = rw (none, le-ltb (length memory) (siteWords settings) long)

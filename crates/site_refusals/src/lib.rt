@@ -6,7 +6,7 @@ ghost use mathlib.Core.Bool.{not, _&&_};
 ghost use lib.Dec.{ltb};
 ghost use Rattle.model.specs.Limits.{topValue};
 ghost use Rattle.model.specs.Messages.{isProbe};
-ghost use Rattle.model.specs.Site.{addressRefusal, arrivalRefusal, dueAtSite, wrongAtSite, siteMessageRefusal};
+ghost use Rattle.model.specs.Site.{addressRefusal, roomRefusal, arrivalRefusal, dueAtSite, wrongAtSite, siteDueRefusal, siteMessageRefusal};
 ghost use Rattle.site_refusals.specs.Bare.{bareSite};
 use model::ACCEPTED;
 use model::AMOUNT_NOT_DUE;
@@ -41,7 +41,17 @@ pub fn address_refusal(settings: Settings, arrival: Arrival) -> u32
     ACCEPTED
 }
 
-// Why an arrival is refused at a site that is consistent: 5, 6, 7, 8.
+// Whether a site takes no further arrival: 8.
+fn room_refusal(site: SiteRecord) -> u32
+    ensures { λ r. ⌜ r ≡ roomRefusal (bareSite site) ⌝ }
+{
+    if SITE_LIMIT <= site.arrivals {
+        return SITE_FULL;
+    }
+    ACCEPTED
+}
+
+// Why an arrival is refused at a site that is consistent: 5, 6, 7; then 8.
 pub fn arrival_refusal(settings: Settings, site: SiteRecord, arrival: Arrival) -> u32
     ensures { λ r. ⌜ r ≡ arrivalRefusal settings (bareSite site) arrival ⌝ }
 {
@@ -49,10 +59,7 @@ pub fn arrival_refusal(settings: Settings, site: SiteRecord, arrival: Arrival) -
     if refusal != ACCEPTED {
         return refusal;
     }
-    if SITE_LIMIT <= site.arrivals {
-        return SITE_FULL;
-    }
-    ACCEPTED
+    room_refusal(site)
 }
 
 // Whether a message is not due at a site: of another kind, or with another site's number.
@@ -104,13 +111,10 @@ fn amount_wrong(site: SiteRecord, message: Message) -> bool
     false
 }
 
-// Why a message is refused at a site that is consistent: 5, 9, 7, 10.
-pub fn message_refusal(settings: Settings, site: SiteRecord, which: u32, message: Message) -> u32
-    ensures { λ r. ⌜ r ≡ siteMessageRefusal settings (bareSite site) which message ⌝ }
+// Why the kind, the value or the amounts of a message are refused: 9, 7, 10.
+fn due_refusal(site: SiteRecord, which: u32, message: Message) -> u32
+    ensures { λ r. ⌜ r ≡ siteDueRefusal (bareSite site) which message ⌝ }
 {
-    if settings.sites <= message.site {
-        return UNKNOWN_SITE;
-    }
     if message_not_due(which, message) {
         return MESSAGE_NOT_DUE;
     }
@@ -121,4 +125,14 @@ pub fn message_refusal(settings: Settings, site: SiteRecord, which: u32, message
         return AMOUNT_NOT_DUE;
     }
     ACCEPTED
+}
+
+// Why a message is refused at a site that is consistent: 5; then 9, 7, 10.
+pub fn message_refusal(settings: Settings, site: SiteRecord, which: u32, message: Message) -> u32
+    ensures { λ r. ⌜ r ≡ siteMessageRefusal settings (bareSite site) which message ⌝ }
+{
+    if settings.sites <= message.site {
+        return UNKNOWN_SITE;
+    }
+    due_refusal(site, which, message)
 }

@@ -2,22 +2,19 @@
 -- model's refusal in the network that they hold.
 --
 --   place-known, place-within                    the place of an arrival's site
---   arrival-refused, log-refused, not-refused    the rows, as the code has them
 --   placesRefusal-is                             the model's refusal
 use mathlib.Core.Path.{_≡_}
-use Prim.Native.Nat.{ℕ, _-_, _/_, _≤_, _<_}
+use Prim.Native.Nat.{ℕ, _-_, _/_, _<_}
 use native.Mathlib.Omega.{arith}
 use native.Mathlib.Decide.{decLt}
 use borrow.Author.Tests.{lt-ltb, le-ltb, le-leb}
 use Rattle.model.specs.declared.Settings.{Settings}
 use Rattle.model.specs.declared.Arrival.{Arrival}
 use Rattle.model.specs.declared.SiteRecord.{SiteRecord}
-use Rattle.model.specs.Refusals.{accepted, logTooShort}
-use Rattle.model.specs.Limits.{mostSites, mostMessages}
+use Rattle.model.specs.Limits.{mostSites}
 use Rattle.model.specs.Site.{Site, arrivalRefusal}
 use Rattle.model.specs.Network.{Network, siteAt}
 use Rattle.model.specs.Runs.{batchRefusal}
-use Rattle.model.proofs.RefusalLaws.{refused-same}
 use Rattle.site_refusals.specs.Bare.{bareSite}
 use Rattle.tracker_steps.specs.Steps.{placesRefusal}
 use Rattle.tracker_steps.specs.Turns.{placeOf}
@@ -32,26 +29,6 @@ place-within arrival = by-site (decLt (arrival .site) mostSites)
     by-site : Dec (arrival .site < mostSites) → placeOf arrival < mostSites
     by-site (yes few) = rw (place-known arrival few) few
     by-site (no past) = rw (le-ltb (arrival .site) mostSites (omega (arith, past))) (omega arith)
-
-module _ (settings : Settings) (own : SiteRecord) (arrival : Arrival) (numbers written : ℕ) where
-  abbrev refusal : ℕ
-  refusal = arrivalRefusal settings (bareSite own) arrival
-
-  pub arrival-refused : (number : ℕ) → number ≡ refusal → (number ≡ accepted → ⊥)
-      → number ≡ placesRefusal settings own arrival numbers written
-  arrival-refused number is refused = refused-same number refusal _ is refused
-
-  pub log-refused : refusal ≡ accepted
-      → numbers / 4 - written < mostMessages (settings .sites)
-      → logTooShort ≡ placesRefusal settings own arrival numbers written
-  log-refused none few =
-      rw (none, lt-ltb (numbers / 4 - written) (mostMessages (settings .sites)) few)
-
-  pub not-refused : refusal ≡ accepted
-      → mostMessages (settings .sites) ≤ numbers / 4 - written
-      → accepted ≡ placesRefusal settings own arrival numbers written
-  not-refused none enough =
-      rw (none, le-ltb (numbers / 4 - written) (mostMessages (settings .sites)) enough)
 
 -- A site's own number is all that is looked at, and only where the site is known.
 same-refusal : (settings : Settings) (own site : Site) (arrival : Arrival)

@@ -6,7 +6,7 @@ use Prim.Native.Nat.{ℕ, _+_}
 use borrow.Author.Needs.{needs}
 use Rattle.coordinator.proofs.CallLaws.{fresh-memory, start-long}
 use Rattle.model.proofs.ReportLaws.{valueCount-is}
-use Rattle.coordinator_tests.proofs.Chains.{accepts, refuses}
+use Rattle.model.proofs.RefusalLaws.{accepts, refuses}
 use Rattle.coordinator.specs.Calls.{startRefusal}
 use Rattle.model.specs.CoordinatorMemory.{coordinatorWords}
 use Rattle.model.specs.SiteMemory.{overwrite}

@@ -1,56 +1,41 @@
 -- Each return is the row of `startRefusal` whose test was the first to hold.
-use borrow.Author.Tests.{lt-ltb, le-ltb}
+use mathlib.Core.Path.{refl}
 use native.Mathlib.Omega.{arith}
-use mathlib.Core.Path.{sym, ap, _∙_}
-use mathlib.Core.Bool.{Bool}
+use borrow.Author.Tests.{lt-ltb, le-ltb}
 use borrow.Author.Needs.{needs}
 use Rattle.model.specs.CoordinatorMemory.{coordinatorWords}
-use Rattle.coordinator_tests.proofs.Chains.{refused-first, accepted-first}
+use Rattle.model.proofs.RefusalLaws.{Still, begin, pass, pass-part, refuse, refuse-part, end, told}
 use Rattle.model.proofs.ReportLaws.{valueCount-is}
-use Rattle.model.specs.Settings.{settingsRefusal}
-use Rattle.model.specs.Refusals.{when, _orElse_, accepted, memoryTooShort}
+use Rattle.coordinator.specs.Calls.{startRefusal}
 use Rattle.coordinator.proofs.start_refusal.Statement.{statement}
 use Rattle.coordinator.proofs.start_refusal.Tie as tie
 
-test-settings-requires : tie.Need-test-settings-requires
-test-settings-requires c κs = search needs
-
-returns : tie.Need-returns
-returns c =
-    let start = c .before .before .args in
-    let result-is = c .before .test-settings .ensures in
-    result-is
-    ∙ sym (refused-first (settingsRefusal (start .settings)) _
-    (λ none. c .if1 .taken (result-is ∙ none)))
-
-cast-if2 : tie.Need-cast-if2
-cast-if2 c = search needs
-
-add-if2 : tie.Need-add-if2
-add-if2 c = search needs
+abbrev past-settings : (c : tie.Else1)
+    → let a = c .before .before .args in
+    Still (startRefusal (a .settings) (a .words))
+past-settings c =
+    pass-part _ _ (begin _) refl (told (c .before .test-settings .ensures) (c .if1 .left))
 
 returns-2 : tie.Need-returns-2
 returns-2 c =
-    let at-settings = c .before .before in
-    let settings = at-settings .before .before .args .settings in
-    let words = at-settings .before .before .args .words in
-    sym
-    (accepted-first (settingsRefusal settings) _
-    (sym (at-settings .before .test-settings .ensures) ∙ at-settings .if1 .left)
-    ∙ ap (λ (short : Bool). when short memoryTooShort orElse accepted)
-    (lt-ltb words (coordinatorWords settings) (omega (arith, c .if2 .taken, valueCount-is))))
+    let a = c .before .before .before .before .args in
+    refuse _ _ _ (past-settings (c .before .before)) refl
+    (lt-ltb (a .words) (coordinatorWords (a .settings))
+    (omega (arith, c .if2 .taken, valueCount-is)))
 
 returns-3 : tie.Need-returns-3
 returns-3 c =
-    let at-settings = c .before .before in
-    let settings = at-settings .before .before .args .settings in
-    let words = at-settings .before .before .args .words in
-    sym
-    (accepted-first (settingsRefusal settings) _
-    (sym (at-settings .before .test-settings .ensures) ∙ at-settings .if1 .left)
-    ∙ ap (λ (short : Bool). when short memoryTooShort orElse accepted)
-    (le-ltb words (coordinatorWords settings) (omega (arith, c .if2 .left, valueCount-is))))
+    let a = c .before .before .before .before .args in
+    end (pass _ _ _ (past-settings (c .before .before)) refl
+    (le-ltb (a .words) (coordinatorWords (a .settings))
+    (omega (arith, c .if2 .left, valueCount-is)))) refl
 
 pub start-refusal-spec : {M : Type 1} → statement M
 start-refusal-spec =
-    tie.close (tie.spec test-settings-requires returns cast-if2 add-if2 returns-2 returns-3)
+    tie.close
+    (tie.spec
+    (λ c κs. search needs)
+    (λ c. refuse-part _ _ (begin _) refl (c .before .test-settings .ensures) (c .if1 .taken))
+    (λ c. search needs) (λ c. search needs)
+    returns-2
+    returns-3)

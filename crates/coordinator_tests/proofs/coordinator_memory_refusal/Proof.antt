@@ -1,79 +1,57 @@
 -- Each return is the row of `coordinatorMemoryRefusal` that decides.
+use mathlib.Core.Path.{refl, ap}
+use mathlib.Core.Bool.{not}
+use Prim.Native.Nat.{ℕ, _≤_, _<_}
 use native.Mathlib.Omega.{arith}
-use mathlib.Core.Path.{sym, _∙_}
-use mathlib.Core.Bool.{true, false}
+use lib.ListN.{length}
+use borrow.Author.Tests.{lt-ltb, le-ltb}
 use borrow.Author.Needs.{needs}
-use Rattle.coordinator_tests.proofs.ConsistencyLaws.{refused-by-settings, refused-by-length, decided-by-consistency}
+use Rattle.model.specs.CoordinatorMemory.{coordinatorWords, coordinatorMemoryRefusal}
+use Rattle.model.proofs.RefusalLaws.{Still, begin, pass, pass-part, refuse, refuse-part, end, told}
 use Rattle.model.proofs.ReportLaws.{valueCount-is}
 use Rattle.coordinator_tests.proofs.coordinator_memory_refusal.Statement.{statement}
 use Rattle.coordinator_tests.proofs.coordinator_memory_refusal.Tie as tie
 
-test-settings-requires : tie.Need-test-settings-requires
-test-settings-requires c κs = search needs
+abbrev answer : tie.Else1 → ℕ
+answer c =
+    let a = c .before .before .before .args in
+    coordinatorMemoryRefusal (a .settings) (a .coordinator) (a .memory .now)
 
-returns : tie.Need-returns
-returns c =
-    let start = c .before .before .before .args in
-    let tested = c .before .test-settings .ensures in
-    tested
-    ∙ sym (refused-by-settings (start .settings) (start .coordinator) (start .memory .now)
-    (λ none. c .if1 .taken (tested ∙ none)))
+abbrev past-settings : (c : tie.Else1) → Still (answer c)
+past-settings c =
+    pass-part _ _ (begin _) refl (told (c .before .test-settings .ensures) (c .if1 .left))
 
-cast-if2 : tie.Need-cast-if2
-cast-if2 c = search needs
+short : (c : tie.Then2)
+    → let a = c .before .before .before .before .before .args in
+    length (a .memory .now) < coordinatorWords (a .settings)
+short c = omega (arith, c .if2 .taken, valueCount-is)
 
-add-if2 : tie.Need-add-if2
-add-if2 c = search needs
+long : (c : tie.Else2)
+    → let a = c .before .before .before .before .before .args in
+    coordinatorWords (a .settings) ≤ length (a .memory .now)
+long c = omega (arith, c .if2 .left, valueCount-is)
 
-returns-2 : tie.Need-returns-2
-returns-2 c =
-    let at-settings = c .before .before in
-    let start = at-settings .before .before .before .args in
-    sym
-    (refused-by-length (start .settings) (start .coordinator) (start .memory .now)
-    (sym (at-settings .before .test-settings .ensures) ∙ at-settings .if1 .left)
-    (omega (arith, c .if2 .taken, valueCount-is)))
+abbrev past-length : (c : tie.Else2) → Still (answer (c .before .before))
+past-length c = pass _ _ _ (past-settings (c .before .before)) refl (le-ltb _ _ (long c))
 
 coordinator-consistent-requires : tie.Need-coordinator-consistent-requires
 coordinator-consistent-requires c κs =
-    let at-settings = c .before .before in
+    let settled = c .before .before in
     record {
-      settings-accepted = sym (at-settings .before .test-settings .ensures) ∙ at-settings .if1
-          .left;
-      memory-long = omega (arith, c .if2 .left, valueCount-is);
+      settings-accepted = told (settled .before .test-settings .ensures) (settled .if1 .left);
+      memory-long = long c;
     }
-
-returns-3 : tie.Need-returns-3
-returns-3 c =
-    let at-length = c .before .before in
-    let at-settings = at-length .before .before in
-    let start = at-settings .before .before .before .args in
-    sym
-    (decided-by-consistency (start .settings) (start .coordinator) (start .memory .now)
-    (sym (at-settings .before .test-settings .ensures) ∙ at-settings .if1 .left) true
-    (omega (arith, at-length .if2 .left, valueCount-is))
-    (sym (c .before .coordinator-consistent .ensures) ∙ c .if3 .taken))
-
-returns-4 : tie.Need-returns-4
-returns-4 c =
-    let at-length = c .before .before in
-    let at-settings = at-length .before .before in
-    let start = at-settings .before .before .before .args in
-    sym
-    (decided-by-consistency (start .settings) (start .coordinator) (start .memory .now)
-    (sym (at-settings .before .test-settings .ensures) ∙ at-settings .if1 .left) false
-    (omega (arith, at-length .if2 .left, valueCount-is))
-    (sym (c .before .coordinator-consistent .ensures) ∙ c .if3 .left))
 
 pub coordinator-memory-refusal-spec : {M : Type 1} → statement M
 coordinator-memory-refusal-spec =
     tie.close
     (tie.spec
-    test-settings-requires
-    returns
-    cast-if2
-    add-if2
-    returns-2
+    (λ c κs. search needs)
+    (λ c. refuse-part _ _ (begin _) refl (c .before .test-settings .ensures) (c .if1 .taken))
+    (λ c. search needs) (λ c. search needs)
+    (λ c. refuse _ _ _ (past-settings (c .before .before)) refl (lt-ltb _ _ (short c)))
     coordinator-consistent-requires
-    returns-3
-    returns-4)
+    (λ c. end (pass _ _ _ (past-length (c .before .before)) refl
+    (ap not (told (c .before .coordinator-consistent .ensures) (c .if3 .taken)))) refl)
+    (λ c. refuse _ _ _ (past-length (c .before .before)) refl
+    (ap not (told (c .before .coordinator-consistent .ensures) (c .if3 .left)))))

@@ -9,7 +9,7 @@ use Prim.Native.Nat.{ℕ, _*_}
 use borrow.Author.Needs.{needs}
 use Rattle.reading.proofs.ReadLaws.{margin-tested, sides-ask}
 use Rattle.reading.specs.Contracts.{marginRefusal, sideNeeded}
-use Rattle.coordinator_tests.proofs.Chains.{accepts, refuses}
+use Rattle.model.proofs.RefusalLaws.{accepts, refuses}
 use Rattle.model.specs.Reading.{difference}
 use Rattle.reading.proofs.read_margin.Statement.{statement}
 use Rattle.reading.proofs.read_margin.Tie as tie

@@ -2,7 +2,7 @@
 use mathlib.Core.Path.{sym, _∙_}
 use borrow.Author.Needs.{needs}
 use Rattle.reading.proofs.ReadLaws.{read-asks}
-use Rattle.coordinator_tests.proofs.Chains.{accepts, refuses}
+use Rattle.model.proofs.RefusalLaws.{accepts, refuses}
 use Rattle.model.specs.CoordinatorMemory.{coordinatorMemoryRefusal}
 use Rattle.reading.proofs.read_quantile.Statement.{statement}
 use Rattle.reading.proofs.read_quantile.Tie as tie

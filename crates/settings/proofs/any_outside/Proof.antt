@@ -1,117 +1,86 @@
--- Some setting is outside its range: the ranges before it hold, and its own fails. Each place of
--- the code where a range was passed is named by it.
-use mathlib.Core.Path.{_≡_}
-use mathlib.Core.Bool.{true, _&&_}
+-- Some setting is outside its range: the ranges before it hold, and its own fails.
+use mathlib.Core.Bool.{Bool}
 use borrow.Author.Needs.{needs}
+use Rattle.model.specs.declared.Settings.{Settings}
 use Rattle.model.specs.Choice.{between}
 use Rattle.model.specs.Limits.{mostSites, mostCapacity}
-use Rattle.laws.proofs.Tests.{false-of-not, true-of-not}
+use Rattle.laws.proofs.Tests.{AllHold, no-test, also, false-of-not, true-of-not}
 use Rattle.settings.proofs.any_outside.Statement.{statement}
 use Rattle.settings.proofs.any_outside.Tie as tie
 
-returns : tie.Need-returns
-returns c =
-    let s = c .before .before .args .settings in
-    rw
-    (false-of-not (between 1 (s .sites) mostSites) (c .before .outside .ensures) (c .if1 .taken))
+-- ---- The ranges, each where it was tested
 
-returns-2 : tie.Need-returns-2
-returns-2 c =
-    let first = c .before .before in
-    let s = first .before .before .args .settings in
-    rw (
-      true-of-not (between 1 (s .sites) mostSites) (first .before .outside .ensures)
-          (first .if1 .left),
-      false-of-not (between 2 (s .epsilon) 1000) (c .before .outside2 .ensures) (c .if2 .taken),
-    )
+abbrev sites-range : tie.After-outside → Bool
+sites-range c = between 1 (c .before .args .settings .sites) mostSites
 
--- Two ranges were passed, and two more.
-two-within : (second : tie.Else2)
-    → let s = second .before .before .before .before .args .settings in
-    (between 1 (s .sites) mostSites && between 2 (s .epsilon) 1000) ≡ true
-two-within second =
-    let first = second .before .before in
-    let s = first .before .before .args .settings in
-    rw (
-      true-of-not (between 1 (s .sites) mostSites) (first .before .outside .ensures)
-          (first .if1 .left),
-      true-of-not (between 2 (s .epsilon) 1000)
-          (second .before .outside2 .ensures) (second .if2 .left),
-    )
+abbrev epsilon-range : tie.After-outside2 → Bool
+epsilon-range c = between 2 (c .before .before .before .args .settings .epsilon) 1000
 
-four-within : (fourth : tie.Else4)
-    → let third = fourth .before .before in
-    let s = third .before .before .before .before .before .before .args .settings in
-    (between 1 (s .sites) mostSites && between 2 (s .epsilon) 1000
-    && between 1 (s .phi) 1000 && between 1 (s .rank) 1000) ≡ true
-four-within fourth =
-    let third = fourth .before .before in
-    let second = third .before .before in
-    let s = second .before .before .before .before .args .settings in
-    rw (
-      two-within second,
-      true-of-not (between 1 (s .phi) 1000) (third .before .outside3 .ensures) (third .if3 .left),
-      true-of-not (between 1 (s .rank) 1000)
-          (fourth .before .outside4 .ensures) (fourth .if4 .left),
-    )
+abbrev given : tie.After-outside3 → Settings
+given c = c .before .before .before .before .before .args .settings
 
-returns-3 : tie.Need-returns-3
-returns-3 c =
-    let second = c .before .before in
-    let s = second .before .before .before .before .args .settings in
-    rw (
-      two-within second,
-      false-of-not (between 1 (s .phi) 1000) (c .before .outside3 .ensures) (c .if3 .taken),
-    )
+abbrev phi-range : tie.After-outside3 → Bool
+phi-range c = between 1 (given c .phi) 1000
 
-returns-4 : tie.Need-returns-4
-returns-4 c =
-    let third = c .before .before in
-    let second = third .before .before in
-    let s = second .before .before .before .before .args .settings in
-    rw (
-      two-within second,
-      true-of-not (between 1 (s .phi) 1000) (third .before .outside3 .ensures) (third .if3 .left),
-      false-of-not (between 1 (s .rank) 1000) (c .before .outside4 .ensures) (c .if4 .taken),
-    )
+abbrev rank-range : tie.After-outside4 → Bool
+rank-range c = between 1 (given (c .before .before) .rank) 1000
 
-returns-5 : tie.Need-returns-5
-returns-5 c =
-    let fourth = c .before .before in
-    let second = fourth .before .before .before .before in
-    let s = second .before .before .before .before .args .settings in
-    rw (
-      four-within fourth,
-      false-of-not (between 1 (s .capacity) mostCapacity) (c .before .outside5 .ensures)
-          (c .if5 .taken),
-    )
+abbrev capacity-range : tie.After-outside5 → Bool
+capacity-range c = between 1 (given (c .before .before .before .before) .capacity) mostCapacity
 
-returns-6 : tie.Need-returns-6
-returns-6 c =
-    let fifth = c .before in
-    let fourth = fifth .before .before in
-    let second = fourth .before .before .before .before in
-    let s = second .before .before .before .before .args .settings in
-    rw (
-      four-within fourth,
-      true-of-not (between 1 (s .capacity) mostCapacity)
-          (fifth .before .outside5 .ensures) (fifth .if5 .left),
-    )
-    (c .outside6 .ensures)
+-- ---- The ranges that hold, each place of the code leaning on the one before
+
+abbrev within-sites : tie.Else1 → AllHold
+within-sites c =
+    also no-test (sites-range (c .before))
+    (true-of-not _ (c .before .outside .ensures) (c .if1 .left))
+
+abbrev within-epsilon : tie.Else2 → AllHold
+within-epsilon c =
+    also (within-sites (c .before .before)) (epsilon-range (c .before))
+    (true-of-not _ (c .before .outside2 .ensures) (c .if2 .left))
+
+abbrev within-phi : tie.Else3 → AllHold
+within-phi c =
+    also (within-epsilon (c .before .before)) (phi-range (c .before))
+    (true-of-not _ (c .before .outside3 .ensures) (c .if3 .left))
+
+abbrev within-rank : tie.Else4 → AllHold
+within-rank c =
+    also (within-phi (c .before .before)) (rank-range (c .before))
+    (true-of-not _ (c .before .outside4 .ensures) (c .if4 .left))
+
+abbrev within-capacity : tie.Else5 → AllHold
+within-capacity c =
+    also (within-rank (c .before .before)) (capacity-range (c .before))
+    (true-of-not _ (c .before .outside5 .ensures) (c .if5 .left))
 
 pub any-outside-spec : {M : Type 1} → statement M
 any-outside-spec =
     tie.close
     (tie.spec
     (λ c κs. search needs)
-    returns
+    (λ c.
+    rw (false-of-not (sites-range (c .before)) (c .before .outside .ensures) (c .if1 .taken)))
     (λ c κs. search needs)
-    returns-2
+    (λ c. rw (
+      within-sites (c .before .before) .hold,
+      false-of-not (epsilon-range (c .before)) (c .before .outside2 .ensures) (c .if2 .taken),
+    ))
     (λ c κs. search needs)
-    returns-3
+    (λ c. rw (
+      within-epsilon (c .before .before) .hold,
+      false-of-not (phi-range (c .before)) (c .before .outside3 .ensures) (c .if3 .taken),
+    ))
     (λ c κs. search needs)
-    returns-4
+    (λ c. rw (
+      within-phi (c .before .before) .hold,
+      false-of-not (rank-range (c .before)) (c .before .outside4 .ensures) (c .if4 .taken),
+    ))
     (λ c κs. search needs)
-    returns-5
+    (λ c. rw (
+      within-rank (c .before .before) .hold,
+      false-of-not (capacity-range (c .before)) (c .before .outside5 .ensures) (c .if5 .taken),
+    ))
     (λ c κs. search needs)
-    returns-6)
+    (λ c. rw (within-capacity (c .before) .hold) (c .outside6 .ensures)))

@@ -1,32 +1,24 @@
 -- Each return of the settings test is the row of `settingsRefusal` whose test was the first to
 -- hold.
-use Prim.Native.Nat.{_≤_}
+use mathlib.Core.Path.{refl}
+use Prim.Native.Nat.{ℕ, _≤_}
 use native.Mathlib.Omega.{arith}
 use native.Mathlib.Nat.{mul-le-mul}
 use borrow.Author.Tests.{lt-ltb, le-ltb}
 use borrow.Author.Needs.{needs}
+use Rattle.model.specs.Settings.{settingsRefusal}
+use Rattle.model.proofs.RefusalLaws.{Still, begin, pass, refuse, end, told}
 use Rattle.settings.proofs.test_settings.Statement.{statement}
 use Rattle.settings.proofs.test_settings.Tie as tie
 
-any-outside-requires : tie.Need-any-outside-requires
-any-outside-requires c κs = search needs
+abbrev answer : tie.Else1 → ℕ
+answer c = settingsRefusal (c .before .before .args .settings)
 
-returns : tie.Need-returns
-returns c = simp (← c .before .any-outside .ensures, c .if1 .taken)
+abbrev past-ranges : (c : tie.Else1) → Still (answer c)
+past-ranges c = pass _ _ _ (begin _) refl (told (c .before .any-outside .ensures) (c .if1 .left))
 
-returns-2 : tie.Need-returns-2
-returns-2 c =
-    simp (
-      ← c .before .before .before .any-outside .ensures,
-      c .before .before .if1 .left,
-      lt-ltb _ _ (c .if2 .taken),
-    )
-
-cast-product : tie.Need-cast-product
-cast-product c = search needs
-
-cast-product-2 : tie.Need-cast-product-2
-cast-product-2 c = search needs
+abbrev past-phi : (c : tie.Else2) → Still (answer (c .before .before))
+past-phi c = pass _ _ _ (past-ranges (c .before .before)) refl (le-ltb _ _ (c .if2 .left))
 
 mul-product : tie.Need-mul-product
 mul-product c =
@@ -35,33 +27,15 @@ mul-product c =
     let small : s .epsilon ≤ 4294967295 = search needs in
     omega (arith, mul-le-mul few small)
 
-returns-3 : tie.Need-returns-3
-returns-3 c =
-    simp (
-      ← c .before .before .before .before .before .before .any-outside .ensures,
-      c .before .before .before .before .before .if1 .left,
-      le-ltb _ _ (c .before .before .before .if2 .left),
-      lt-ltb _ _ (c .if3 .taken),
-    )
-
-returns-4 : tie.Need-returns-4
-returns-4 c =
-    simp (
-      ← c .before .before .before .before .before .before .any-outside .ensures,
-      c .before .before .before .before .before .if1 .left,
-      le-ltb _ _ (c .before .before .before .if2 .left),
-      le-ltb _ _ (c .if3 .left),
-    )
-
 pub test-settings-spec : {M : Type 1} → statement M
 test-settings-spec =
     tie.close
     (tie.spec
-    any-outside-requires
-    returns
-    returns-2
-    cast-product
-    cast-product-2
+    (λ c κs. search needs)
+    (λ c. refuse _ _ _ (begin _) refl (told (c .before .any-outside .ensures) (c .if1 .taken)))
+    (λ c. refuse _ _ _ (past-ranges (c .before .before)) refl (lt-ltb _ _ (c .if2 .taken)))
+    (λ c. search needs) (λ c. search needs)
     mul-product
-    returns-3
-    returns-4)
+    (λ c. refuse _ _ _ (past-phi (c .before .before .before)) refl (lt-ltb _ _ (c .if3 .taken)))
+    (λ c. end (pass _ _ _ (past-phi (c .before .before .before)) refl (le-ltb _ _ (c .if3 .left)))
+    refl))

@@ -1,39 +1,40 @@
 -- `tracker_steps::one_refusal` meets its contract: row by row.
-use mathlib.Core.Path.{sym, _∙_}
-use Rattle.tracker_steps.proofs.RefusalLaws.{arrival-refused, log-refused, not-refused}
+use mathlib.Core.Path.{refl}
+use Prim.Native.Nat.{_-_, _/_}
+use borrow.Author.Tests.{lt-ltb, le-ltb}
 use borrow.Author.Needs.{needs}
+use Rattle.model.specs.Limits.{mostMessages}
+use Rattle.model.proofs.RefusalLaws.{Still, begin, pass, pass-part, refuse, refuse-part, end, told}
+use Rattle.tracker_steps.specs.Steps.{placesRefusal}
 use Rattle.tracker_steps.proofs.one_refusal.Statement.{statement}
 use Rattle.tracker_steps.proofs.one_refusal.Tie as tie
 
-returns : tie.Need-returns
-returns c =
-    let called = c .before .arrival-refusal in
-    let a = c .before .before .args in
-    arrival-refused (a .settings) (a .own) (a .arrival) (a .numbers) (a .written)
-    (called .result) (called .ensures) (c .if1 .taken)
+abbrev past-arrival : (c : tie.Else1)
+    → let a = c .before .before .args in
+    Still (placesRefusal (a .settings) (a .own) (a .arrival) (a .numbers) (a .written))
+past-arrival c =
+    pass-part _ _ (begin _) refl (told (c .before .arrival-refusal .ensures) (c .if1 .left))
 
 returns-2 : tie.Need-returns-2
 returns-2 c =
-    let tested = c .before .before in
-    let a = tested .before .before .args in
-    log-refused (a .settings) (a .own) (a .arrival) (a .numbers) (a .written)
-    (sym (tested .before .arrival-refusal .ensures) ∙ tested .if1 .left)
-    (rw (← c .before .most-messages .ensures) (c .if2 .taken))
+    let a = c .before .before .before .before .args in
+    refuse _ _ _ (past-arrival (c .before .before)) refl
+    (lt-ltb (a .numbers / 4 - a .written) (mostMessages (a .settings .sites))
+    (rw (← c .before .most-messages .ensures) (c .if2 .taken)))
 
 returns-3 : tie.Need-returns-3
 returns-3 c =
-    let tested = c .before .before in
-    let a = tested .before .before .args in
-    not-refused (a .settings) (a .own) (a .arrival) (a .numbers) (a .written)
-    (sym (tested .before .arrival-refusal .ensures) ∙ tested .if1 .left)
-    (rw (← c .before .most-messages .ensures) (c .if2 .left))
+    let a = c .before .before .before .before .args in
+    end (pass _ _ _ (past-arrival (c .before .before)) refl
+    (le-ltb (a .numbers / 4 - a .written) (mostMessages (a .settings .sites))
+    (rw (← c .before .most-messages .ensures) (c .if2 .left)))) refl
 
 pub one-refusal-spec : {M : Type 1} → statement M
 one-refusal-spec =
     tie.close
     (tie.spec
     (λ c κs. search needs)
-    returns
+    (λ c. refuse-part _ _ (begin _) refl (c .before .arrival-refusal .ensures) (c .if1 .taken))
     (λ c. search needs) (λ c κs. search needs)
     returns-2
     returns-3)

@@ -117,6 +117,9 @@ pub const PROBE_ANSWER: u32 = 6;
 
 pub const ANNOUNCEMENT: u32 = 7;
 
+// A number of a site's lent memory: 4 bytes. Of the coordinator's lent memory it is 8.
+pub type Word = u32;
+
 // The settings of a network: document 01's k, e, p, q, c and u. `epsilon` (leeway), `phi` (list
 // share) and `rank` are in thousandths; `rank` is a relative rank, not a position.
 pub struct Settings {

@@ -5,12 +5,12 @@ ghost use Rattle.public_delivery.specs.Progress.{QueueSays};
 ghost use Rattle.public_delivery.specs.Arriving.{mostCalls, BeginAsks, BeginSays};
 use crate::Progress;
 use crate::calls::record_at;
-use counters::Word;
 use model::Arrival;
 use model::CoordinatorRecord;
 use model::Message;
 use model::Settings;
 use model::Sites;
+use model::Word;
 use sending::Queue;
 
 // No delivery has more than 24 calls for each site and 2 beside; here is one more. The loop ends by

@@ -6,7 +6,7 @@ ghost use Prim.Native.Nat.{_+_, _*_, _≤_};
 ghost use lib.ListN.{length};
 ghost use Rattle.sending.specs.Log.{putRecord};
 ghost use Rattle.sending.specs.Sending.{nothingWaits, joined, withoutHead, SendAsks, SendSays, AnswerSays, SendTwoAsks, TwoSay};
-use coordinator_kinds::no_message;
+use messages::no_message;
 use model::Message;
 
 // The messages that wait to be handed over, or are to go out: two at most, since an arrival sends

@@ -17,6 +17,7 @@ use model::SITE_RECORDS;
 use model::Settings;
 use model::SiteRecord;
 use model::Sites;
+use model::Word;
 use reader::SettingsRead;
 use session_steps::Session;
 use session_steps::Turn;
@@ -135,7 +136,7 @@ fn fresh_session(settings: Settings, at: usize) -> Session
 // the memory; the records that they answer are the fresh session's.
 pub fn begin(
     input: &[u8],
-    site_memory: &mut [u32],
+    site_memory: &mut [Word],
     coordinator_memory: &mut [u64],
     out: &mut [u8],
 ) -> Turn
@@ -170,7 +171,7 @@ pub fn begin(
 pub fn advance(
     session: Session,
     input: &[u8],
-    site_memory: &mut [u32],
+    site_memory: &mut [Word],
     coordinator_memory: &mut [u64],
     log: &mut [u64],
     list: &mut [u32],

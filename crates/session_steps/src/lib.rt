@@ -13,6 +13,7 @@ use model::ACCEPTED;
 use model::CoordinatorRecord;
 use model::Settings;
 use model::Sites;
+use model::Word;
 use reader::Step;
 
 // Where a session stands: whether it goes on, the settings, the records of the network, the place
@@ -72,7 +73,7 @@ pub fn refuse(session: Session, refusal: u32, out: &mut [u8]) -> Turn
 pub fn take_draw(
     session: Session,
     step: Step,
-    site_memory: &mut [u32],
+    site_memory: &mut [Word],
     coordinator_memory: &mut [u64],
     log: &mut [u64],
     out: &mut [u8],

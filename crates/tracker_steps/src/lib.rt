@@ -5,7 +5,6 @@
 ghost use mathlib.Core.Path.{_≡_};
 ghost use Rattle.tracker_steps.specs.Steps.{OpenSays, OneAsks, OneSays, placesRefusal, PlacesAsk, lentOf};
 ghost use Rattle.tracker_steps.specs.Turns.{placeOf, refusedTurn, counted, TurnAsks, TurnSays, CountAsks, DeliverAsks, DeliverSays};
-use counters::Word;
 use model::ACCEPTED;
 use model::Arrival;
 use model::CoordinatorRecord;
@@ -14,6 +13,7 @@ use model::MOST_SITES;
 use model::Settings;
 use model::SiteRecord;
 use model::Sites;
+use model::Word;
 use sending::Queue;
 
 // What the batch call answers: the refusal that stopped it or 0, the arrivals accepted, the

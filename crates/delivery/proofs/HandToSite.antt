@@ -17,7 +17,7 @@ use borrow.Author.Tests.{eq-eqb, ne-eqb}
 use Rattle.model.specs.declared.Settings.{Settings}
 use Rattle.model.specs.declared.Message.{Message}
 use Rattle.model.specs.declared.SiteRecord.{SiteRecord}
-use Rattle.model.specs.Messages.{noMessage, toCoordinator}
+use Rattle.model.specs.Messages.{messageWidth, noMessage, toCoordinator}
 use Rattle.model.specs.Site.{Site, SiteStep, siteReceives}
 use Rattle.model.specs.SiteMemory.{siteWords, siteIn, siteRecord}
 use Rattle.model.specs.Network.{Network, siteAt, withSite}
@@ -139,7 +139,7 @@ module _ {settings : Settings} {held : State} (u : Delivering settings held)
             ∙ sym (sitesMemory-kept settings (now .sites) (u .given .siteMemory) j (after .site)
             (quiet .counters-kept) (quiet .histogram-kept)))
 
-        abbrev room-then : 4 * length (u .earlier ++ (u .now .log ++ after .messages))
+        abbrev room-then : messageWidth * length (u .earlier ++ (u .now .log ++ after .messages))
             ≤ length (u .given .log)
         room-then = rw way at (room u hand)
 

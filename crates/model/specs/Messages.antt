@@ -35,6 +35,10 @@ probeAnswerKind = 6
 abbrev pub announcementKind : ℕ
 announcementKind = 7
 
+-- "A message is four numbers": so many of the log it takes.
+abbrev pub messageWidth : ℕ
+messageWidth = 4
+
 abbrev pub message : ℕ → ℕ → ℕ → ℕ → Message
 message kind site a b = record { kind = kind; site = site; a = a; b = b }
 

@@ -101,6 +101,9 @@ pub const LINE_FEED: u8 = 10;
 // "1 to 7 digits each": after a number's first digit, six more at most.
 pub const MORE_DIGITS: u32 = 6;
 
+// "A message is four numbers": so many of the log it takes.
+pub const MESSAGE_WIDTH: usize = 4;
+
 // The kinds of message: document 01's table. 0 is no kind: where no message goes out, the place of
 // one holds four zeros.
 pub const ITEM_REPORT: u32 = 1;

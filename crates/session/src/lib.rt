@@ -10,8 +10,11 @@ ghost use Rattle.session_steps.specs.Outcome.{lent};
 ghost use Rattle.session.specs.Begin.{shorterThanLimits, startRefusalOf, freshSession, BeginSays};
 ghost use Rattle.session.specs.Advance.{AdvanceSays};
 use model::ACCEPTED;
+use model::ARRIVAL_MESSAGES;
+use model::CLOSING_MESSAGES;
 use model::CoordinatorRecord;
 use model::MEMORY_TOO_SHORT;
+use model::MESSAGE_WIDTH;
 use model::Phase;
 use model::SITE_RECORDS;
 use model::Settings;
@@ -39,7 +42,10 @@ pub const SESSION_COORDINATOR_NUMBERS: usize = 2024;
 
 // Room for what a call writes: 4 × (23 × 4 + 2) numbers of a log, 1000 places of a list, and the
 // bytes of the lines of either.
-pub const SESSION_LOG_NUMBERS: usize = 376;
+const SESSION_CLOSING: usize = (CLOSING_MESSAGES as usize) * (SESSION_SITES as usize);
+
+pub const SESSION_LOG_NUMBERS: usize = MESSAGE_WIDTH
+    * (SESSION_CLOSING + (ARRIVAL_MESSAGES as usize));
 
 pub const SESSION_LIST_PLACES: usize = 1000;
 

@@ -14,6 +14,7 @@ use Rattle.model.specs.declared.Arrival.{Arrival}
 use Rattle.model.specs.declared.SiteRecord.{SiteRecord}
 use Rattle.model.specs.Refusals.{accepted, logTooShort}
 use Rattle.model.specs.Limits.{mostSites, mostMessages}
+use Rattle.model.specs.Messages.{messageWidth}
 use Rattle.model.specs.Site.{Site, arrivalRefusal}
 use Rattle.model.specs.Network.{Network, siteAt}
 use Rattle.model.specs.Runs.{batchRefusal}
@@ -42,16 +43,16 @@ module _ (settings : Settings) (own : SiteRecord) (arrival : Arrival) (numbers w
   arrival-refused number is refused = refused-same number refusal _ is refused
 
   pub log-refused : refusal ≡ accepted
-      → numbers / 4 - written < mostMessages (settings .sites)
+      → numbers / messageWidth - written < mostMessages settings
       → logTooShort ≡ placesRefusal settings own arrival numbers written
   log-refused none few =
-      rw (none, lt-ltb (numbers / 4 - written) (mostMessages (settings .sites)) few)
+      rw (none, lt-ltb (numbers / messageWidth - written) (mostMessages settings) few)
 
   pub not-refused : refusal ≡ accepted
-      → mostMessages (settings .sites) ≤ numbers / 4 - written
+      → mostMessages settings ≤ numbers / messageWidth - written
       → accepted ≡ placesRefusal settings own arrival numbers written
   not-refused none enough =
-      rw (none, le-ltb (numbers / 4 - written) (mostMessages (settings .sites)) enough)
+      rw (none, le-ltb (numbers / messageWidth - written) (mostMessages settings) enough)
 
 -- A site's own number is all that is looked at, and only where the site is known.
 same-refusal : (settings : Settings) (own site : Site) (arrival : Arrival)
@@ -68,7 +69,7 @@ same-refusal settings own site arrival same =
 pub placesRefusal-is : (settings : Settings) (own : SiteRecord) (arrival : Arrival)
     (numbers written : ℕ) (network : Network) (free : ℕ)
     → (arrival .site < settings .sites → own .arrivals ≡ siteAt network (arrival .site) .arrivals)
-    → numbers / 4 - written ≡ free
+    → numbers / messageWidth - written ≡ free
     → placesRefusal settings own arrival numbers written
     ≡ batchRefusal settings network free arrival
 placesRefusal-is settings own arrival numbers written network free same free-is =

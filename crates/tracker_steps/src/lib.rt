@@ -9,6 +9,7 @@ use model::ACCEPTED;
 use model::Arrival;
 use model::CoordinatorRecord;
 use model::LOG_TOO_SHORT;
+use model::MESSAGE_WIDTH;
 use model::MOST_SITES;
 use model::Settings;
 use model::SiteRecord;
@@ -91,7 +92,7 @@ fn one_refusal(
     if of_site != ACCEPTED {
         return of_site;
     }
-    let free = ((numbers / 4) as u64) - written;
+    let free = ((numbers / MESSAGE_WIDTH) as u64) - written;
     if free < settings::most_messages(settings) {
         return LOG_TOO_SHORT;
     }

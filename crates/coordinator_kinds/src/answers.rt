@@ -1,52 +1,11 @@
-// What a step hands back, put together: the messages of the coordinator, and an answer with one or
-// with none.
+// What a step hands back, put together: an answer with a message or with none.
 ghost use mathlib.Core.Path.{_≡_};
-ghost use Rattle.model.specs.Messages.{poll, probe, announcement};
 ghost use Rattle.coordinator_kinds.specs.Steps.{inPhase, spoken, silent};
 use crate::Answered;
-use crate::no_message;
-use model::ANNOUNCEMENT;
+use messages::no_message;
 use model::CoordinatorRecord;
 use model::Message;
-use model::POLL;
-use model::PROBE;
 use model::Phase;
-
-// A kind 3.
-pub fn poll_of(site: u32) -> Message
-    ensures { λ r. ⌜ r ≡ poll site ⌝ }
-{
-    Message {
-        kind: POLL,
-        site: site,
-        a: 0,
-        b: 0,
-    }
-}
-
-// A kind 5.
-pub fn probe_of(site: u32, value: u32) -> Message
-    ensures { λ r. ⌜ r ≡ probe site value ⌝ }
-{
-    Message {
-        kind: PROBE,
-        site: site,
-        a: value as u64,
-        b: 0,
-    }
-}
-
-// A kind 7.
-pub fn announcement_of(site: u32, threshold: u64, base: u64) -> Message
-    ensures { λ r. ⌜ r ≡ announcement site threshold base ⌝ }
-{
-    Message {
-        kind: ANNOUNCEMENT,
-        site: site,
-        a: threshold,
-        b: base,
-    }
-}
 
 // A record in another phase.
 fn in_phase(coordinator: CoordinatorRecord, phase: Phase) -> CoordinatorRecord

@@ -3,7 +3,6 @@
 // functions are internal: the steps of crate `coordinator_steps` call them.
 ghost use mathlib.Core.Path.{_≡_};
 ghost use Rattle.model.specs.Settings.{thresholdOf};
-ghost use Rattle.model.specs.Messages.{noMessage};
 ghost use Rattle.coordinator_kinds.specs.Steps.{ThresholdAsks};
 use model::CoordinatorRecord;
 use model::Message;
@@ -20,18 +19,6 @@ pub struct Answered {
     pub coordinator: CoordinatorRecord,
     pub count: u32,
     pub out: Message,
-}
-
-// No message: zeros.
-pub fn no_message() -> Message
-    ensures { λ r. ⌜ r ≡ noMessage ⌝ }
-{
-    Message {
-        kind: 0,
-        site: 0,
-        a: 0,
-        b: 0,
-    }
 }
 
 // The threshold that a base gives. Internal: `coordinator_memory_refusal`, with which every call

@@ -11,9 +11,7 @@ ghost use Rattle.model.specs.Lent.{before, after};
 ghost use Rattle.model.specs.SiteMemory.{countersIn};
 ghost use Rattle.counters.specs.Count.{CountAsks, CountSays};
 ghost use Rattle.counters.specs.Stored.{storedAt, setCounter, counterOf, ordered};
-
-// A number of a site's memory: 4 bytes.
-pub type Word = u32;
+use model::Word;
 
 // A counter as memory holds it: document 01's slot, a code, a count, an overcount and a sent
 // number.

@@ -19,6 +19,7 @@ use Rattle.model.specs.Limits.{mostMessages}
 use Rattle.model.specs.Coordinator.{Coordinator, isAnnouncing}
 use Rattle.model.specs.Network.{Network, siteAt, handOver, askAnnouncement, afterArrival}
 use Rattle.model.specs.SoundNetwork.{SoundSite, SoundNumbers}
+use Rattle.model.specs.Messages.{messageWidth}
 use Rattle.model.specs.DeliveryClaims.{Delivery, delivery, joining, deliveryStep, deliverySteps}
 use Rattle.model.specs.SoundClaims.{handed, asked, InMidDelivery}
 use Rattle.model.proofs.SettingsLaws.{Settled, settled}
@@ -134,7 +135,7 @@ module _ {settings : Settings} {given : Given} {earlier : List Message} {network
       stored-of-sound (stage-length going-stage) (stage-sites going-stage)
       (stage-coordinator (going-fit accepting) going-stage .numbers)
 
-  log-within : length (d .log) ≤ mostMessages (settings .sites)
+  log-within : length (d .log) ≤ mostMessages settings
   log-within =
       let left = going-left .left in
       let ended = going-left .mid .finishes .ends left (omega arith) in
@@ -145,7 +146,7 @@ module _ {settings : Settings} {given : Given} {earlier : List Message} {network
         delivery-claims .few-messages settings network arrival (accepting .sound .idle),
       )
 
-  pub going-room : 4 * length (earlier ++ d .log) ≤ length (given .log)
+  pub going-room : messageWidth * length (earlier ++ d .log) ≤ length (given .log)
   going-room =
       omega (arith, length-append earlier (d .log), log-within, accepting .room)
 

@@ -12,6 +12,7 @@ use lib.ListN.{length}
 use Rattle.model.specs.declared.Settings.{Settings}
 use Rattle.model.specs.declared.Message.{Message}
 use Rattle.model.specs.Refusals.{accepted}
+use Rattle.model.specs.Messages.{messageWidth}
 use Rattle.model.specs.Network.{Network, handOver}
 use Rattle.model.specs.DeliveryClaims.{messageRefusal}
 use Rattle.model.proofs.MidDelivery.{hand-on}
@@ -44,7 +45,8 @@ module _ {settings : Settings} {held : State} (u : Delivering settings held)
   rest-waits queue is =
       is ∙ ap withoutHead (hand .holds .waiting) ∙ withoutHead-queueOf m (hand .rest) few-rest
 
-  pub room : 4 * length (u .earlier ++ (u .now .log ++ handOver settings now m .messages))
+  pub room : messageWidth
+      * length (u .earlier ++ (u .now .log ++ handOver settings now m .messages))
       ≤ length (u .given .log)
   room = going-room (going-handed (hand .going))
 

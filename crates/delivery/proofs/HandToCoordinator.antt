@@ -11,7 +11,7 @@ use native.Mathlib.Omega.{arith}
 use lib.ListN.{length}
 use Rattle.model.specs.declared.Settings.{Settings}
 use Rattle.model.specs.declared.Message.{Message}
-use Rattle.model.specs.Messages.{toCoordinator}
+use Rattle.model.specs.Messages.{messageWidth, toCoordinator}
 use Rattle.model.specs.Coordinator.{Coordinator, CoordinatorStep, coordinatorReceives}
 use Rattle.model.specs.CoordinatorMemory.{coordinatorIn}
 use Rattle.model.specs.Network.{Network, withCoordinator}
@@ -97,7 +97,7 @@ module _ {settings : Settings} {held : State} (u : Delivering settings held)
           ∙ coordinator-again (hand .holds) (after .coordinator)
           (going-stored (hand .going) .coordinator-stored) (then .coordinator-stored))
 
-      abbrev room-then : 4 * length (u .earlier ++ (u .now .log ++ after .messages))
+      abbrev room-then : messageWidth * length (u .earlier ++ (u .now .log ++ after .messages))
           ≤ length (u .given .log)
       room-then = rw way at (room u hand)
 

@@ -17,7 +17,7 @@ use borrow.Author.Tests.{eq-eqb, ne-eqb}
 use Rattle.model.specs.declared.Settings.{Settings}
 use Rattle.model.specs.declared.Message.{Message}
 use Rattle.model.specs.declared.SiteRecord.{SiteRecord}
-use Rattle.model.specs.Messages.{noMessage, toCoordinator}
+use Rattle.model.specs.Messages.{messageWidth, noMessage, toCoordinator}
 use Rattle.model.specs.Site.{Site, SiteStep, siteReceives}
 use Rattle.model.specs.Limits.{mostSites, mostSiteWords}
 use Rattle.model.specs.SiteMemory.{siteWords, siteIn, siteRecord}
@@ -140,7 +140,7 @@ module _ {settings : Settings} {held : State} (u : Delivering settings held)
             (counters-kept .by-message (siteAt now j) m)
             (values-kept .by-message (siteAt now j) m)))
 
-        abbrev room-then : 4 * length (u .earlier ++ (u .now .log ++ after .messages))
+        abbrev room-then : messageWidth * length (u .earlier ++ (u .now .log ++ after .messages))
             ≤ length (u .given .log)
         room-then = rw way at (room u hand)
 

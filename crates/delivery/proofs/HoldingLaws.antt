@@ -20,7 +20,7 @@ use Rattle.model.specs.declared.Message.{Message}
 use Rattle.model.specs.declared.SiteRecord.{SiteRecord}
 use Rattle.model.specs.declared.CoordinatorRecord.{CoordinatorRecord}
 use Rattle.model.specs.Limits.{valueCount}
-use Rattle.model.specs.Messages.{noMessage}
+use Rattle.model.specs.Messages.{messageWidth, noMessage}
 use Rattle.model.specs.Site.{Site}
 use Rattle.model.specs.SiteMemory.{siteWords, siteIn, siteRecord, siteMemory}
 use Rattle.model.specs.Coordinator.{Coordinator}
@@ -135,7 +135,7 @@ module _ {settings : Settings} {given : Given} {earlier : List Message} where
   -- Room for the messages so far and so many more, four numbers each.
   pub log-length : {d : Delivery} {held : State}
       → Holds settings given earlier d held
-      → 4 * length (earlier ++ d .log) ≤ length (given .log)
+      → messageWidth * length (earlier ++ d .log) ≤ length (given .log)
       → length (held .log) ≡ length (given .log)
   log-length {d} holds room =
       ap length (holds .log)
@@ -145,7 +145,7 @@ module _ {settings : Settings} {given : Given} {earlier : List Message} where
   pub send-asks : {d : Delivery} {held : State}
       → Fits settings given
       → Holds settings given earlier d held
-      → 4 * length (earlier ++ d .log) + 4 ≤ length (given .log)
+      → messageWidth * length (earlier ++ d .log) + messageWidth ≤ length (given .log)
       → SendAsks (trafficOf (held .underway)) (held .log)
   send-asks fits holds room = record {
     room = omega (arith, log-length holds (omega arith), holds .written);
@@ -155,7 +155,7 @@ module _ {settings : Settings} {given : Given} {earlier : List Message} where
   pub holds-sent : {network : Network} {waiting log : List Message} {held : State} (m : Message)
       → Holds settings given earlier (delivery network waiting log) held
       → length waiting ≤ 1
-      → 4 * length (earlier ++ log) + 4 ≤ length (given .log)
+      → messageWidth * length (earlier ++ log) + messageWidth ≤ length (given .log)
       → Holds settings given earlier
       (delivery network (waiting ++ (m ∷ [])) (log ++ (m ∷ [])))
       (state (withTraffic (held .underway) (sent (trafficOf (held .underway)) m))
@@ -186,7 +186,7 @@ module _ {settings : Settings} {given : Given} {earlier : List Message} where
       → count ≡ length out
       → m ≡ getD out 0 noMessage
       → length waiting ≤ 1
-      → 4 * length (earlier ++ (log ++ out)) ≤ length (given .log)
+      → messageWidth * length (earlier ++ (log ++ out)) ≤ length (given .log)
       → Holds settings given earlier (delivery network (waiting ++ out) (log ++ out))
       (answered count m held)
   holds-answer {network} {waiting} {log} {held} [] count m holds one count-is m-is few room =

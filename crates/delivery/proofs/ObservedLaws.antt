@@ -10,7 +10,7 @@ use lib.ListN.{length, getD, length-append}
 use Rattle.model.specs.declared.Settings.{Settings}
 use Rattle.model.specs.declared.Arrival.{Arrival}
 use Rattle.model.specs.declared.Message.{Message}
-use Rattle.model.specs.Messages.{noMessage}
+use Rattle.model.specs.Messages.{messageWidth, noMessage}
 use Rattle.model.specs.Site.{Site, observed, reportsItem, reportsCount}
 use Rattle.model.specs.Network.{Network}
 use Rattle.model.specs.DeliveryClaims.{delivery}
@@ -42,7 +42,7 @@ pub holds-two : {settings : Settings} {given : Given} {earlier : List Message} {
     → count ≡ length out
     → first ≡ getD out 0 noMessage
     → second ≡ getD out 1 noMessage
-    → 4 * length (earlier ++ out) ≤ length (given .log)
+    → messageWidth * length (earlier ++ out) ≤ length (given .log)
     → Holds settings given earlier (delivery network out out)
     (state (withTraffic (held .underway) (sentTwo count (trafficOf (held .underway)) first second))
     (held .siteMemory) (held .coordinatorMemory)

@@ -11,6 +11,7 @@ use native.Mathlib.Omega.{arith}
 use lib.ListN.{length, length-append}
 use Rattle.model.specs.declared.Settings.{Settings}
 use Rattle.model.specs.declared.Message.{Message}
+use Rattle.model.specs.Messages.{messageWidth}
 use Rattle.model.specs.Coordinator.{Coordinator, CoordinatorStep, announced, isAnnouncing}
 use Rattle.model.specs.CoordinatorMemory.{coordinatorIn, coordinatorMemory}
 use Rattle.model.specs.Network.{Network, withCoordinator, handOver, askAnnouncement}
@@ -118,14 +119,14 @@ module _ {settings : Settings} {given : Given} {earlier : List Message}
     (out : List Message)
     (count : ℕ)
     (count-is : count ≡ length out)
-    (room : 4 * length (earlier ++ (log ++ out)) ≤ length (given .log)) where
+    (room : messageWidth * length (earlier ++ (log ++ out)) ≤ length (given .log)) where
   pub answer-sends : Fits settings given
       → (count ≡ 0 → ⊥)
       → SendAsks (trafficOf (held .underway)) (held .log)
   answer-sends fits some = by-answer out count-is room
     where
       by-answer : (answer : List Message) → count ≡ length answer
-          → 4 * length (earlier ++ (log ++ answer)) ≤ length (given .log)
+          → messageWidth * length (earlier ++ (log ++ answer)) ≤ length (given .log)
           → SendAsks (trafficOf (held .underway)) (held .log)
       by-answer [] is fits-log = absurd (some is)
       by-answer (x ∷ xs) is fits-log =
@@ -188,7 +189,8 @@ module _ {settings : Settings} {held : State} (u : Delivering settings held)
         (ask .holds .coordinator-memory
         ∙ sym (rw (kept .estimates, kept .histogram)))
 
-    room : 4 * length (u .earlier ++ (u .now .log ++ after .messages)) ≤ length (u .given .log)
+    room : messageWidth * length (u .earlier ++ (u .now .log ++ after .messages))
+        ≤ length (u .given .log)
     room = going-room (going-asked (ask .going) (ask .announces))
 
     count-is : answer .count ≡ length (after .messages)

@@ -14,6 +14,7 @@ use lib.ListN.{length, length-append}
 use Rattle.model.specs.declared.Settings.{Settings}
 use Rattle.model.specs.declared.Arrival.{Arrival}
 use Rattle.model.specs.declared.Message.{Message}
+use Rattle.model.specs.Messages.{messageWidth}
 use Rattle.model.specs.Coordinator.{isAnnouncing}
 use Rattle.model.specs.Network.{Network, siteAt, afterArrival}
 use Rattle.model.specs.DeliveryClaims.{Delivery, deliveryOf}
@@ -43,7 +44,7 @@ module _ {settings : Settings} {given : Given} {earlier : List Message} {network
       (deliveryOf settings network arrival)
   going-begun = record { accepting = taken .accepting; reached = begun; few-waiting = few }
 
-  room : 4 * length (earlier ++ messages) ≤ length (given .log)
+  room : messageWidth * length (earlier ++ messages) ≤ length (given .log)
   room = going-room going-begun
 
   count-is : out .count ≡ length messages

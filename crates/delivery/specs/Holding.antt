@@ -107,7 +107,7 @@ pub record Accepting
     (network : Network)
     (arrival : Arrival) : Type 0 where
   pub fits : Fits settings given
-  pub room : length earlier + mostMessages (settings .sites) ≤ logRoom (given .log)
+  pub room : length earlier + mostMessages settings ≤ logRoom (given .log)
   pub sound : Sound settings network
   pub bounded : Bounded network
   pub taken : refusalIn settings network arrival ≡ accepted

@@ -6,13 +6,13 @@ ghost use mathlib.Core.Path.{_≡_};
 ghost use Rattle.delivery.specs.Holding.{goesOn};
 ghost use Rattle.delivery.specs.Handing.{siteOfHead, coordinatorChange, HandAsks, HandSays};
 use crate::Change;
-use crate::to_coordinator;
 use coordinator_kinds::Answered;
-use counters::Word;
+use messages::to_coordinator;
 use model::CoordinatorRecord;
 use model::Phase;
 use model::Settings;
 use model::SiteRecord;
+use model::Word;
 use sending::Queue;
 use sending::take_head;
 

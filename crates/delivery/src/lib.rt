@@ -8,7 +8,6 @@ ghost use mathlib.Core.Path.{_≡_};
 ghost use Prim.Native.Nat.{_<_};
 ghost use lib.ListN.{getD};
 ghost use Rattle.model.specs.Limits.{mostSites};
-ghost use Rattle.model.specs.Messages.{toCoordinator};
 ghost use Rattle.site_memory.specs.Records.{noRecord, withRecord};
 ghost use Rattle.delivery.specs.UnderwayParts.{resting, underwayOf};
 ghost use Rattle.delivery.specs.Holding.{state, Delivering, EndSays};
@@ -16,18 +15,14 @@ ghost use Rattle.delivery.specs.Arriving.{SiteAsks, SiteSays, MessagesAs
 use crate::handing::goes_on;
 use crate::handing::hand_over;
 use crate::handing::site_of_head;
-use counters::Word;
 use model::Arrival;
-use model::COUNT_REPORT;
 use model::CoordinatorRecord;
-use model::ITEM_REPORT;
 use model::Message;
-use model::POLL_ANSWER;
-use model::PROBE_ANSWER;
 use model::SITE_RECORDS;
 use model::Settings;
 use model::SiteRecord;
 use model::Sites;
+use model::Word;
 use sending::Queue;
 use sending::Traffic;
 use sending::empty_queue;
@@ -88,22 +83,6 @@ pub fn at_rest(sites: Sites, coordinator: CoordinatorRecord, written: u64) -> Un
         written: written,
         waiting: waiting,
     }
-}
-
-// Whether a message is for the coordinator: the kinds 1, 2, 4 and 6.
-pub fn to_coordinator(message: Message) -> bool
-    ensures { λ r. ⌜ r ≡ toCoordinator message ⌝ }
-{
-    if message.kind == ITEM_REPORT {
-        return true;
-    }
-    if message.kind == COUNT_REPORT {
-        return true;
-    }
-    if message.kind == POLL_ANSWER {
-        return true;
-    }
-    message.kind == PROBE_ANSWER
 }
 
 // A delivery to its end. The records of the sites are changed in their places here, and handed to

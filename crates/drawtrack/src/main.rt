@@ -6,6 +6,7 @@ ghost use Rattle.session_steps.specs.Outcome.{lent};
 ghost use Rattle.drawtrack.specs.Serving.{Lends, ServeSays};
 use libc::STDIN_FILENO;
 use libc::STDOUT_FILENO;
+use model::Word;
 use session::SESSION_COORDINATOR_NUMBERS;
 use session::SESSION_INPUT_BYTES;
 use session::SESSION_LIST_PLACES;
@@ -28,7 +29,7 @@ fn write_out(written: usize, out: &[u8]) {
 // ended, and their bytes, one after the other, are the transcript of the input.
 fn serve(
     input: &[u8],
-    site_memory: &mut [u32],
+    site_memory: &mut [Word],
     coordinator_memory: &mut [u64],
     log: &mut [u64],
     list: &mut [u32],
@@ -66,7 +67,7 @@ fn serve(
 // The memory for the program's limits, and one reading of the input.
 fn main() {
     let mut input = [0u8; SESSION_INPUT_BYTES];
-    let mut site_memory = [0u32; SESSION_SITE_NUMBERS];
+    let mut site_memory: [Word; SESSION_SITE_NUMBERS] = [0; SESSION_SITE_NUMBERS];
     let mut coordinator_memory = [0u64; SESSION_COORDINATOR_NUMBERS];
     let mut log = [0u64; SESSION_LOG_NUMBERS];
     let mut list = [0u32; SESSION_LIST_PLACES];

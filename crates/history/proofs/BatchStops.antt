@@ -95,7 +95,7 @@ module _ (settings : Settings) (room : ℕ) where
             no-trace = λ of.
                 let own : isZero (refusalIn settings (batch .network) arrival) ≡ false =
                 rules-refuse (refusalIn settings (batch .network) arrival)
-                (ltb free (mostMessages (settings .sites))) of in
+                (ltb free (mostMessages settings)) of in
                 let refused : isZero (refusalIn settings (run .network) arrival) ≡ false =
                 ap (λ (network : Network). isZero (refusalIn settings network arrival)) (sym same)
                 ∙ own in

@@ -203,6 +203,6 @@ module _ {settings : Settings} (passes : settingsRefusal settings ≡ accepted)
     few-of-standing (delivering mid) = in-mid passes (mid .underway) .few-steps
 
     -- Nor than 24 × k + 2.
-    pub firm-of-standing : Standing settings n state → n ≤ mostSteps (settings .sites)
+    pub firm-of-standing : Standing settings n state → n ≤ mostSteps settings
     firm-of-standing (resting none rest) = omega arith
     firm-of-standing (delivering mid) = in-mid passes (mid .underway) .firm-steps

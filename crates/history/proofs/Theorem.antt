@@ -134,17 +134,18 @@ module _ (settings : Settings) (state : State) (passes : settingsRefusal setting
       let over = begins .accepted-are in
       let digits-bound = subst (λ (arrivals : List Arrival).
       settings .epsilon * length (run .messages)
-      ≤ allowanceFactor * (settings .sites * (digits (counted arrivals) + 1)))
+      ≤ allowanceFactor settings * (settings .sites * (digits (counted arrivals) + 1)))
       over (few .within-digits) in
       let arrivals-bound = subst (λ (arrivals : List Arrival).
-      length (run .messages) ≤ messagesPerArrival * counted arrivals) over (few .per-arrival) in
+      length (run .messages) ≤ messagesPerArrival settings * counted arrivals) over
+      (few .per-arrival) in
       let allowance-bound = subst (λ (arrivals : List Arrival).
       length (run .messages) ≤ allowance settings (counted arrivals)) over
       (few .within-allowance) in
       let firm-bound = subst (λ (arrivals : List Arrival).
       settings .epsilon * length (run .messages)
-      ≤ firmMessages * settings .sites
-      + firmMessagesPerDigit * (settings .sites * (digits (counted arrivals) - 2)))
+      ≤ firmMessages settings * settings .sites
+      + firmMessagesPerDigit settings * (settings .sites * (digits (counted arrivals) - 2)))
       over
       (demands-over-runs .firm-messages settings (state .accepted) passes
       .within-later-digits) in

@@ -151,7 +151,7 @@ pub record DeliveryGoesOn (settings : Settings) (state : State) : Type 0 where
   -- nor than these, which are fewer still: 24 × k + 2
   pub firm-steps : (n : ℕ) (after : State)
       → Deliveries settings state n after
-      → n ≤ mostSteps (settings .sites)
+      → n ≤ mostSteps settings
 
 -- Demand 1: what is in order is accepted, and what is not is refused by its own number.
 pub record First (settings : Settings) (state : State) : Type 0 where

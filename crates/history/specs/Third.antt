@@ -18,21 +18,22 @@ pub record FewFollow (settings : Settings) (before after : Run) : Type 0 where
   -- all that went out before it comes first
   pub messages-stay : take (length (before .messages)) (after .messages) ≡ before .messages
   pub few-more : length (after .messages)
-      ≤ length (before .messages) + mostMessages (settings .sites)
+      ≤ length (before .messages) + mostMessages settings
 
 -- At rest and in mid-delivery.
 pub record Third (settings : Settings) (state : State) : Type 0 where
   -- "e × messages ≤ 150,000 × k × (digits + 1)"
   pub within-digits : settings .epsilon * length (state .messages)
-      ≤ allowanceFactor * (settings .sites * (digits (counted (state .accepted)) + 1))
+      ≤ allowanceFactor settings * (settings .sites * (digits (counted (state .accepted)) + 1))
   -- "messages ≤ 25 × n"
-  pub per-arrival : length (state .messages) ≤ messagesPerArrival * counted (state .accepted)
+  pub per-arrival : length (state .messages)
+      ≤ messagesPerArrival settings * counted (state .accepted)
   -- the allowance is what its call answers
   pub within-allowance : length (state .messages) ≤ allowance settings (counted (state .accepted))
   -- firmer than the first: only the digits after the second cost more
   pub within-later-digits : settings .epsilon * length (state .messages)
-      ≤ firmMessages * settings .sites
-      + firmMessagesPerDigit * (settings .sites * (digits (counted (state .accepted)) - 2))
+      ≤ firmMessages settings * settings .sites
+      + firmMessagesPerDigit settings * (settings .sites * (digits (counted (state .accepted)) - 2))
   -- the same after each of the accepted arrivals, inside a batch as well: of the messages of the
   -- first n arrivals (`messages-after-each`), which are accepted whole (`fronts-accepted`)
   pub few-messages-after-each : (n : ℕ)

@@ -17,7 +17,7 @@ use Rattle.model.specs.declared.Arrival.{Arrival}
 use Rattle.model.specs.declared.Message.{Message}
 use Rattle.model.specs.declared.Phase.the-variants.{Idle, Collecting}
 use Rattle.model.specs.Choice.{if_then_else_}
-use Rattle.model.specs.Limits.{mostSteps}
+use Rattle.model.specs.Limits.{closingSteps, mostSteps}
 use Rattle.model.specs.Messages.{itemReport, countReport, poll}
 use Rattle.model.specs.Site.{Site, reportsItem, reportsCount, reportedValue}
 use Rattle.model.specs.Coordinator.{Coordinator, withPhase}
@@ -69,7 +69,7 @@ module _ (settings : Settings) (sites : List Site) (c : Coordinator) (j amount :
 -- The delivery that an arrival sets off ends at this network, with these messages in all.
 abbrev pub DeliversAfter : Settings → Network → Arrival → Network → List Message → Type 0
 DeliversAfter settings network arrival final sent =
-    Delivers settings final (mostSteps (settings .sites)) sent
+    Delivers settings final (mostSteps settings) sent
     (networkOf (observedSites settings network arrival) (network .coordinator))
     (firstMessages settings network arrival)
 
@@ -107,14 +107,14 @@ module _ (settings : Settings) (network : Network) (arrival : Arrival)
 
   -- A delivery from the idle coordinator, as the network has it, in no more than the most steps.
   from-idle : (final : Network) (n : ℕ) (sent : List Message)
-      → n ≤ mostSteps (settings .sites)
+      → n ≤ mostSteps settings
       → Delivers settings final n sent
       (networkOf sites (withPhase (network .coordinator) Idle))
       (firstMessages settings network arrival)
       → DeliversAfter settings network arrival final sent
   from-idle final n sent fits there =
       subst
-      (λ (c : Coordinator). Delivers settings final (mostSteps (settings .sites)) sent
+      (λ (c : Coordinator). Delivers settings final (mostSteps settings) sent
       (networkOf sites c) (firstMessages settings network arrival))
       (sym (ap (withPhase (network .coordinator)) idle)) (more-steps fits there)
 
@@ -153,7 +153,7 @@ module _ (settings : Settings) (network : Network) (arrival : Arrival)
 
   -- The count report is the k-th signal; the close that follows it is known.
   delivers-close : (final : Network) (n : ℕ) (sent : List Message)
-      → n + 2 ≤ mostSteps (settings .sites)
+      → n + 2 ≤ mostSteps settings
       → reportsCount site ≡ true
       → network .coordinator .signals + 1 ≡ settings .sites
       → Delivers settings final n sent
@@ -178,7 +178,7 @@ module _ (settings : Settings) (network : Network) (arrival : Arrival)
       (network .coordinator .total + site .threshold) (network .coordinator .signals)
       (omega arith) one)
   delivers-after (closesMore due all more) =
-      delivers-close _ (24 * settings .sites) _ (omega arith) due all
+      delivers-close _ (closingSteps settings) _ (omega arith) due all
       (closeMore settings sites (afterCountReport settings network arrival (Collecting 0))
       (network .coordinator .total + site .threshold) (network .coordinator .signals)
       (omega arith) more)

@@ -26,6 +26,7 @@ use Rattle.model.specs.declared.Phase.{Phase}
 use Rattle.model.specs.declared.Phase.the-variants.{Idle}
 use Rattle.model.specs.Choice.{if_then_else_}
 use Rattle.model.specs.Refusals.{when}
+use Rattle.model.specs.Limits.{closingMessages}
 use Rattle.model.specs.Settings.{thresholdOf}
 use Rattle.model.specs.Site.{Site, oneMoreAt, observed, reportsItem, reportsCount, reportedValue}
 use Rattle.model.specs.Coordinator.{Coordinator, withBase, withQuantile, atRest}
@@ -179,7 +180,7 @@ module _ {settings : Settings} {network : Network} {arrival : Arrival} where
   closeCount (noCountReport none) = 0
   closeCount (countReported due few) = 0
   closeCount (closesOne due all one) = 3 * settings .sites
-  closeCount (closesMore due all more) = 23 * settings .sites
+  closeCount (closesMore due all more) = closingMessages settings
 
 -- One for each report that is due.
 pub length-firstMessages : (settings : Settings) (network : Network) (arrival : Arrival)

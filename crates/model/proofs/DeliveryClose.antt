@@ -18,7 +18,7 @@ use Rattle.laws.proofs.Updates.{changeFirst, changeFirst-keeps}
 use Rattle.model.specs.declared.Settings.{Settings}
 use Rattle.model.specs.declared.Message.{Message}
 use Rattle.model.specs.declared.Phase.the-variants.{Idle, Collecting, Announcing}
-use Rattle.model.specs.Limits.{topValue}
+use Rattle.model.specs.Limits.{topValue, closingMessages, closingSteps}
 use Rattle.model.specs.Settings.{thresholdOf}
 use Rattle.model.specs.Messages.{poll, pollAnswer}
 use Rattle.model.specs.Site.{Site, freshSite, upTo}
@@ -78,7 +78,7 @@ length-closeMessagesOne settings sites base =
 
 -- And twenty for the probes of each site.
 pub length-closeMessagesMore : (settings : Settings) (sites : List Site) (base : ℕ)
-    → length (closeMessagesMore settings sites base) ≡ 23 * settings .sites
+    → length (closeMessagesMore settings sites base) ≡ closingMessages settings
 length-closeMessagesMore settings sites base =
     rw (
       length-append,
@@ -182,7 +182,7 @@ module _ (settings : Settings) (sites : List Site) (c : Coordinator) (total l : 
       ++ announcements (thresholdOf settings base) base 0 (settings .sites))
 
   from-loops : 2 ≤ thresholdOf settings base
-      → Delivers settings closedMore (24 * settings .sites)
+      → Delivers settings closedMore (closingSteps settings)
       (messagesMore (changeFirst freshSite polled (suc l) sites))
       (networkOf sites (withTotal c total (Collecting 0))) (poll 0 ∷ [])
   unfolding messagesMore
@@ -204,12 +204,12 @@ module _ (settings : Settings) (sites : List Site) (c : Coordinator) (total l : 
       (networkOf (sitesClosed settings sites (thresholdOf settings base))
       (atRest (withQuantile (withBase c base (thresholdOf settings base) Idle)
       (quantileFound settings sites base) Idle)))
-      (24 * settings .sites) (closeMessagesMore settings sites base)
+      (closingSteps settings) (closeMessagesMore settings sites base)
       (networkOf sites (withTotal c total (Collecting 0))) (poll 0 ∷ [])
   unfolding messagesMore
   closeMore more =
       subst
-      (λ (polledSites : List Site). Delivers settings closedMore (24 * settings .sites)
+      (λ (polledSites : List Site). Delivers settings closedMore (closingSteps settings)
       (messagesMore polledSites)
       (networkOf sites (withTotal c total (Collecting 0))) (poll 0 ∷ []))
       (ap (λ (k : ℕ). changeFirst freshSite polled k sites) last) (from-loops more)

@@ -8,7 +8,7 @@ use lib.ListN.{length}
 use Rattle.model.specs.declared.Settings.{Settings}
 use Rattle.model.specs.declared.Arrival.{Arrival}
 use Rattle.model.specs.declared.Phase.the-variants.{Idle}
-use Rattle.model.specs.Limits.{mostMessages}
+use Rattle.model.specs.Limits.{closingMessages, mostMessages}
 use Rattle.model.specs.Site.{reportsItem, reportsCount}
 use Rattle.model.specs.Network.{Network, siteAt, deliveryFuel, afterArrival}
 use Rattle.model.specs.DeliveryClaims.{delivery, deliverySteps, outcome, deliveryOf, deliveredWith, Resting, DeliveryClaims}
@@ -33,7 +33,7 @@ first-at-most-two settings network arrival =
 -- A close has at most 23 * k messages.
 close-at-most : (settings : Settings) (network : Network) (arrival : Arrival)
     (which : ArrivalCase settings network arrival)
-    → closeCount which ≤ 23 * settings .sites
+    → closeCount which ≤ closingMessages settings
 close-at-most settings network arrival (noCountReport none) = omega arith
 close-at-most settings network arrival (countReported due few) = omega arith
 close-at-most settings network arrival (closesOne due all one) = omega arith
@@ -41,7 +41,7 @@ close-at-most settings network arrival (closesMore due all more) = omega arith
 
 few-messages : (settings : Settings) (network : Network) (arrival : Arrival)
     → network .coordinator .phase ≡ Idle
-    → length (afterArrival settings network arrival .messages) ≤ mostMessages (settings .sites)
+    → length (afterArrival settings network arrival .messages) ≤ mostMessages settings
 few-messages settings network arrival idle =
     let which : ArrivalCase settings network arrival = arrival-case settings network arrival in
     rw (after-arrival settings network arrival idle which)

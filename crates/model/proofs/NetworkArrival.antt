@@ -148,7 +148,7 @@ module _ {settings : Settings} {network : Network}
 
   -- The account after the arrival's own messages.
   pub account-then : (countDue : Bool) → reportsCount site ≡ countDue
-      → Account (settings .sites) (settings .epsilon) probingMessages
+      → Account (settings .sites) (settings .epsilon) (probingMessages settings)
       (figuresWith (network .coordinator .signals + when countDue 1))
   account-then countDue is-due =
       account-arrival {items = when itemDue 1} {counts = when countDue 1} (ok .account) (record {

@@ -16,7 +16,7 @@ use Rattle.model.specs.declared.Settings.{Settings}
 use Rattle.model.specs.declared.Arrival.{Arrival}
 use Rattle.model.specs.declared.Message.{Message}
 use Rattle.model.specs.declared.Phase.the-variants.{Idle}
-use Rattle.model.specs.Limits.{topValue, probingMessages}
+use Rattle.model.specs.Limits.{topValue, closingMessages, probingMessages}
 use Rattle.model.specs.Settings.{thresholdOf}
 use Rattle.model.specs.Counters.{unreported}
 use Rattle.model.specs.Site.{Site, reportsCount}
@@ -66,7 +66,7 @@ module _ {settings : Settings} {network : Network}
       (arrivedWith fit ok arrival known) (reportedWith fit ok arrival known) accepted′
   then-ok = sites-then fit ok arrival known
 
-  account-signalled : Account k (settings .epsilon) probingMessages
+  account-signalled : Account k (settings .epsilon) (probingMessages settings)
       (figuresWith fit ok arrival known (network .coordinator .signals + 1))
   account-signalled = account-then fit ok arrival known true due
 
@@ -124,7 +124,7 @@ module _ {settings : Settings} {network : Network}
       none n = omega (arith, sumBelow-const 0 n)
 
   account-one : threshold′ ≡ 1
-      → Account k (settings .epsilon) probingMessages
+      → Account k (settings .epsilon) (probingMessages settings)
       (figuresClosed (closeMessagesOne settings sites base))
   account-one one =
       account-close-quiet (fit .sites .at-least) (fit .epsilon .at-most) account-signalled
@@ -132,11 +132,12 @@ module _ {settings : Settings} {network : Network}
       (rw base-is-counted at (base-of-threshold-one settings (fit .sites .at-least) base one))
 
   account-more : 2 ≤ threshold′
-      → Account k (settings .epsilon) probingMessages
+      → Account k (settings .epsilon) (probingMessages settings)
       (figuresClosed (closeMessagesMore settings sites base))
   account-more two =
       account-close-probing (fit .sites .at-least) (fit .epsilon .at-most) account-signalled
-      (close-in _ (23 * k) (length-closeMessagesMore settings sites base)) (omega arith) two
+      (close-in _ (closingMessages settings) (length-closeMessagesMore settings sites base))
+      (omega arith) two
       (omega (arith, by-base, threshold-low settings (fit .sites .at-least) base two))
       (omega (arith, by-base, threshold-high settings (fit .sites .at-least) base two))
     where
@@ -166,7 +167,7 @@ module _ {settings : Settings} {network : Network}
   kept-close : (quantile : ℕ) (closing : List Message)
       → (threshold′ ≡ 1 → network .coordinator .threshold ≡ 1)
       → (2 ≤ threshold′ → LateQuantile (settings .rank) quantile base accepted′)
-      → Account k (settings .epsilon) probingMessages (figuresClosed closing)
+      → Account k (settings .epsilon) (probingMessages settings) (figuresClosed closing)
       → NetworkOk settings
       (networkOf (sitesClosed settings sites threshold′)
       (atRest (withQuantile

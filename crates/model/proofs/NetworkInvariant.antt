@@ -79,7 +79,7 @@ pub record NetworkOk (settings : Settings) (network : Network)
       → LateQuantile (settings .rank) (network .coordinator .quantile)
       (network .coordinator .base) accepted
   -- M1 to M5
-  pub account : Account (settings .sites) (settings .epsilon) probingMessages
+  pub account : Account (settings .sites) (settings .epsilon) (probingMessages settings)
       (figuresOf settings network accepted messages)
 
 -- ---- A fresh network
@@ -132,7 +132,7 @@ module _ (settings : Settings) (fit : Settled settings) where
     late-quantile = λ two. absurd (omega arith);
     account =
         rw figures-fresh
-        (account-fresh (settings .sites) (settings .epsilon) probingMessages);
+        (account-fresh (settings .sites) (settings .epsilon) (probingMessages settings));
   }
 
 -- ---- Arrivals that are accepted

@@ -12,7 +12,7 @@ use Rattle.model.specs.declared.Settings.{Settings}
 use Rattle.model.specs.declared.Message.{Message}
 use Rattle.model.specs.declared.Phase.{Phase}
 use Rattle.model.specs.declared.Phase.the-variants.{Collecting, Probing, Announcing}
-use Rattle.model.specs.Limits.{topValue}
+use Rattle.model.specs.Limits.{topValue, closingSteps}
 use Rattle.model.specs.Settings.{thresholdOf}
 use Rattle.model.specs.Messages.{poll, pollAnswer, probe}
 use Rattle.model.specs.Coordinator.{Coordinator, withTotal, withBase, middle, coordinatorReceives}
@@ -74,7 +74,7 @@ module _ {settings : Settings} {network : Network} {waiting : List Message} {lef
     on-way : Together settings network (settings .sites) (p .amount)
     on-way = rw answered at (p .together)
 
-    steps : 24 * settings .sites ≤ left + (2 * p .j + 1)
+    steps : closingSteps settings ≤ left + (2 * p .j + 1)
     steps = rw answered at (p .steps-left)
 
     -- The base is at least the one before, so the threshold does not fall.

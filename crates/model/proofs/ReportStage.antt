@@ -15,6 +15,7 @@ use Rattle.model.specs.declared.Message.{Message}
 use Rattle.model.specs.declared.Phase.{Phase}
 use Rattle.model.specs.declared.Phase.the-variants.{Idle, Collecting}
 use Rattle.model.specs.Choice.{if_then_else_}
+use Rattle.model.specs.Limits.{closingSteps}
 use Rattle.model.specs.Messages.{itemReport, countReport, poll}
 use Rattle.model.specs.Coordinator.{Coordinator, step, coordinatorReceives}
 use Rattle.model.specs.Network.{Network, withCoordinator}
@@ -81,7 +82,7 @@ module _ {settings : Settings} {network : Network} {waiting : List Message} {lef
       (omega arith) (r .together .informed-same) (omega arith)
 
   -- The steps that a count report has left.
-  count-steps : r .countDue ≡ true → 24 * settings .sites + 1 ≤ left
+  count-steps : r .countDue ≡ true → closingSteps settings + 1 ≤ left
   count-steps due = let steps = rw due at (r .steps-left) in omega arith
 
   module _ (due : r .countDue ≡ true) where

@@ -60,7 +60,7 @@ module _ {settings : Settings} {run : Run} (fit : Settled settings) (ok : RunOk 
   signals-le = omega (arith, ok .few-signals)
 
   times-epsilon : settings .epsilon * length (run .messages)
-      ≤ allowanceFactor * (settings .sites * (digits (counted (run .accepted)) + 1))
+      ≤ allowanceFactor settings * (settings .sites * (digits (counted (run .accepted)) + 1))
   times-epsilon =
       omega (
         arith,

@@ -15,7 +15,7 @@ use Rattle.model.specs.declared.Settings.{Settings}
 use Rattle.model.specs.declared.Arrival.{Arrival}
 use Rattle.model.specs.declared.Phase.the-variants.{Idle, Announcing}
 use Rattle.model.specs.Choice.{if_then_else_}
-use Rattle.model.specs.Limits.{topValue, mostSteps}
+use Rattle.model.specs.Limits.{topValue, closingSteps, mostSteps}
 use Rattle.model.specs.Site.{Site, observed, reportsItem, reportsCount, reportedValue}
 use Rattle.model.specs.Coordinator.{isAnnouncing}
 use Rattle.model.specs.Network.{Network, siteAt, withSite}
@@ -127,8 +127,8 @@ module _ {settings : Settings} {network : Network} {arrival : Arrival}
       (λ i i< _. sound .same-threshold i i<) (λ _. same) (omega (arith, same)) (omega arith)
 
   steps-enough : (itemDue countDue : Bool)
-      → (if itemDue then 1 else 0) + (if countDue then 24 * settings .sites + 1 else 0)
-      ≤ mostSteps (settings .sites)
+      → (if itemDue then 1 else 0) + (if countDue then closingSteps settings + 1 else 0)
+      ≤ mostSteps settings
   steps-enough true true = omega arith
   steps-enough true false = omega arith
   steps-enough false true = omega arith
@@ -137,7 +137,7 @@ module _ {settings : Settings} {network : Network} {arrival : Arrival}
   -- The arrival is observed, and its own messages wait.
   pub start-stage : Stage settings
       (withSite network (arrival .site) (observed settings site arrival .site))
-      (firstMessages settings network arrival) (mostSteps (settings .sites))
+      (firstMessages settings network arrival) (mostSteps settings)
   start-stage = reporting (record {
     itemDue = reportsItem settings site arrival;
     countDue = reportsCount site;

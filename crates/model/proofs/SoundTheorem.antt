@@ -116,7 +116,7 @@ module _ (settings : Settings) (network : Network) (arrival : Arrival)
   start = deliveryOf settings network arrival
 
   -- The delivery that an arrival sets off ends where the model's does.
-  start-finishes : Finishes settings final all (mostSteps (settings .sites)) start
+  start-finishes : Finishes settings final all (mostSteps settings) start
   start-finishes =
       let which : ArrivalCase settings network arrival = arrival-case settings network arrival in
       record {
@@ -126,14 +126,14 @@ module _ (settings : Settings) (network : Network) (arrival : Arrival)
             (sym (after-arrival settings network arrival (sound .idle) which));
       }
 
-  mid-start : MidDelivery settings final all (mostSteps (settings .sites)) start
+  mid-start : MidDelivery settings final all (mostSteps settings) start
   mid-start = record { stage = start-stage fit sound taken; finishes = start-finishes }
 
   -- The network that the model's delivery comes to is sound.
   sound-after : Sound settings final
   sound-after =
       let there = somewhere-steps settings final all fit (deliveryFuel settings) start
-      (record { left = mostSteps (settings .sites); mid = mid-start }) in
+      (record { left = mostSteps settings; mid = mid-start }) in
       let ended : deliverySteps (deliveryFuel settings) settings start ≡ delivery final [] all =
       start-finishes .ends (deliveryFuel settings) (omega arith) in
       let stage : Stage settings final [] (there .left) = rw ended at (there .mid .stage) in
@@ -144,12 +144,12 @@ module _ (settings : Settings) (network : Network) (arrival : Arrival)
   -- A delivery that was reached, with the steps that are left.
   pub record StillLeft (n : ℕ) (d : Delivery) : Type 0 where
     pub left : ℕ
-    pub in-all : n + left ≡ mostSteps (settings .sites)
+    pub in-all : n + left ≡ mostSteps settings
     pub mid : MidDelivery settings final all left d
 
   pub reached-left : (n : ℕ) (d : Delivery) → Reached settings start n d → StillLeft n d
   reached-left n d begun =
-      record { left = mostSteps (settings .sites); in-all = omega arith; mid = mid-start }
+      record { left = mostSteps settings; in-all = omega arith; mid = mid-start }
   reached-left n d (handed before now m waiting log earlier) =
       let there = reached-left before (delivery now (m ∷ waiting) log) earlier in
       let some : 1 ≤ there .left = hand-on fit (there .mid .stage) .some-left in

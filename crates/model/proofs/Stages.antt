@@ -23,7 +23,7 @@ use Rattle.model.specs.declared.Message.{Message}
 use Rattle.model.specs.declared.Phase.{Phase}
 use Rattle.model.specs.declared.Phase.the-variants.{Idle, Collecting, Probing, Announcing}
 use Rattle.model.specs.Choice.{if_then_else_}
-use Rattle.model.specs.Limits.{topValue, siteLimit}
+use Rattle.model.specs.Limits.{topValue, siteLimit, closingSteps}
 use Rattle.model.specs.Messages.{itemReport, countReport, poll, pollAnswer, probe, probeAnswer}
 use Rattle.model.specs.Coordinator.{CoordinatorStep, middle}
 use Rattle.model.specs.Refusals.{accepted}
@@ -62,7 +62,7 @@ pub record Reports (settings : Settings) (network : Network) (waiting : List Mes
   pub value-none : (network .coordinator .threshold ≡ 1 → ⊥) → value ≡ 0
   pub together : Together settings network (settings .sites)
       (if countDue then network .coordinator .threshold else 0)
-  pub steps-left : (if itemDue then 1 else 0) + (if countDue then 24 * settings .sites + 1 else 0)
+  pub steps-left : (if itemDue then 1 else 0) + (if countDue then closingSteps settings + 1 else 0)
       ≤ left
 
 -- ---- Polls and probes
@@ -78,7 +78,7 @@ pub record Polls (settings : Settings) (network : Network) (waiting : List Messa
   pub closing : ClosingAt settings (network .coordinator .signals) j
   pub amount-below : amount < network .coordinator .threshold
   pub together : Together settings network (settings .sites) (if answered then amount else 0)
-  pub steps-left : 24 * settings .sites ≤ left + (2 * j + (if answered then 1 else 0))
+  pub steps-left : closingSteps settings ≤ left + (2 * j + (if answered then 1 else 0))
 
 -- A probe of site j, or its answer; no site has the new threshold yet.
 pub record Probes (settings : Settings) (network : Network) (waiting : List Message) (left : ℕ)

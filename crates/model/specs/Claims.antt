@@ -167,9 +167,10 @@ pub record ListSize (settings : Settings) (run : Run) : Type 0 where
 pub record FewMessages (settings : Settings) (run : Run) : Type 0 where
   -- "e × messages ≤ 150,000 × k × (digits + 1)"
   pub within-digits : settings .epsilon * length (run .messages)
-      ≤ allowanceFactor * (settings .sites * (digits (counted (run .accepted)) + 1))
+      ≤ allowanceFactor settings * (settings .sites * (digits (counted (run .accepted)) + 1))
   -- "messages ≤ 25 × n"
-  pub per-arrival : length (run .messages) ≤ messagesPerArrival * counted (run .accepted)
+  pub per-arrival : length (run .messages)
+      ≤ messagesPerArrival settings * counted (run .accepted)
   -- the allowance is that bound, divided by e
   pub within-allowance : length (run .messages) ≤ allowance settings (counted (run .accepted))
 
@@ -177,8 +178,8 @@ pub record FewMessages (settings : Settings) (run : Run) : Type 0 where
 -- With two digits or fewer (at most three arrivals) the difference is 0 and the first part enough.
 pub record FirmMessages (settings : Settings) (run : Run) : Type 0 where
   pub within-later-digits : settings .epsilon * length (run .messages)
-      ≤ firmMessages * settings .sites
-      + firmMessagesPerDigit * (settings .sites * (digits (counted (run .accepted)) - 2))
+      ≤ firmMessages settings * settings .sites
+      + firmMessagesPerDigit settings * (settings .sites * (digits (counted (run .accepted)) - 2))
 
 -- ---- Estimates
 

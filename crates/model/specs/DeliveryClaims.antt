@@ -95,7 +95,7 @@ pub record DeliveryClaims : Type 0 where
   -- "At most 23 × k + 2 messages follow one draw."
   pub few-messages : (settings : Settings) (network : Network) (arrival : Arrival)
       → network .coordinator .phase ≡ Idle
-      → length (afterArrival settings network arrival .messages) ≤ mostMessages (settings .sites)
+      → length (afterArrival settings network arrival .messages) ≤ mostMessages settings
   -- The model's delivery takes so many of these steps; `Resting` says what it leaves waiting.
   pub is-steps : (fuel : ℕ) (settings : Settings) (network : Network) (waiting log : List Message)
       → delivered fuel settings network waiting log

@@ -1,6 +1,7 @@
 -- Document 01's limits and constants, each named once. A change request that moves one moves it
--- here.
+-- here. The figures on messages are functions of the settings.
 use Prim.Native.Nat.{ℕ, _+_, _*_, _^_}
+use Rattle.model.specs.declared.Settings.{Settings}
 
 -- "Decks k 1 to 32": the records that a `Sites` value holds.
 abbrev pub mostSites : ℕ
@@ -47,30 +48,36 @@ messageLimit = 100000000000000
 abbrev pub numberLimit : ℕ
 numberLimit = 10 ^ 7
 
--- "At most 23 × k + 2 messages follow one draw."
-abbrev pub mostMessages : ℕ → ℕ
-mostMessages sites = 23 * sites + 2
+-- "At most 23 × k + 2 messages follow one draw": those of a close, and the draw's own.
+abbrev pub closingMessages : Settings → ℕ
+closingMessages settings = 23 * settings .sites
+
+abbrev pub mostMessages : Settings → ℕ
+mostMessages settings = closingMessages settings + 2
 
 -- "Full delivery": no delivery takes more steps, be they messages handed over or kinds 7 asked for:
--- 23 × k + 2 messages, and the k kinds 7 are asked for besides.
-abbrev pub mostSteps : ℕ → ℕ
-mostSteps sites = 24 * sites + 2
+-- 23 × k + 2 messages, and the k kinds 7 of a close are asked for besides.
+abbrev pub closingSteps : Settings → ℕ
+closingSteps settings = 24 * settings .sites
+
+abbrev pub mostSteps : Settings → ℕ
+mostSteps settings = closingSteps settings + 2
 
 -- Demand 3: "messages ≤ 25 × n", and the factor of "e × messages ≤ 150,000 × k × (digits + 1)".
-abbrev pub messagesPerArrival : ℕ
-messagesPerArrival = 25
+abbrev pub messagesPerArrival : Settings → ℕ
+messagesPerArrival settings = 25
 
-abbrev pub allowanceFactor : ℕ
-allowanceFactor = 150000
+abbrev pub allowanceFactor : Settings → ℕ
+allowanceFactor settings = 150000
 
 -- Firmer than demand 3's second bound, and proved beside it:
 -- e × messages ≤ 39,000 × k + (33,000 + 5500 × ρ) × k × (digits - 2), where ρ is what probing costs
 -- a site: "ten times", each with a kind 5 and its answer.
-abbrev pub probingMessages : ℕ
-probingMessages = 20
+abbrev pub probingMessages : Settings → ℕ
+probingMessages settings = 20
 
-abbrev pub firmMessages : ℕ
-firmMessages = 39000
+abbrev pub firmMessages : Settings → ℕ
+firmMessages settings = 39000
 
-abbrev pub firmMessagesPerDigit : ℕ
-firmMessagesPerDigit = 33000 + 5500 * probingMessages
+abbrev pub firmMessagesPerDigit : Settings → ℕ
+firmMessagesPerDigit settings = 33000 + 5500 * probingMessages settings

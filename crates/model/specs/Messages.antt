@@ -13,6 +13,32 @@ use Prim.Native.Nat.{ℕ}
 use lib.Dec.{eqb}
 use Rattle.model.specs.declared.Message.{Message}
 
+-- The kinds, in the table's order. 0 is no kind.
+abbrev pub itemReportKind : ℕ
+itemReportKind = 1
+
+abbrev pub countReportKind : ℕ
+countReportKind = 2
+
+abbrev pub pollKind : ℕ
+pollKind = 3
+
+abbrev pub pollAnswerKind : ℕ
+pollAnswerKind = 4
+
+abbrev pub probeKind : ℕ
+probeKind = 5
+
+abbrev pub probeAnswerKind : ℕ
+probeAnswerKind = 6
+
+abbrev pub announcementKind : ℕ
+announcementKind = 7
+
+-- "A message is four numbers": so many of the log it takes.
+abbrev pub messageWidth : ℕ
+messageWidth = 4
+
 abbrev pub message : ℕ → ℕ → ℕ → ℕ → Message
 message kind site a b = record { kind = kind; site = site; a = a; b = b }
 
@@ -21,47 +47,47 @@ abbrev pub noMessage : Message
 noMessage = message 0 0 0 0
 
 abbrev pub itemReport : ℕ → ℕ → ℕ → Message
-itemReport site item amount = message 1 site item amount
+itemReport site item amount = message itemReportKind site item amount
 
 abbrev pub countReport : ℕ → ℕ → ℕ → Message
-countReport site amount value = message 2 site amount value
+countReport site amount value = message countReportKind site amount value
 
 abbrev pub poll : ℕ → Message
-poll site = message 3 site 0 0
+poll site = message pollKind site 0 0
 
 abbrev pub pollAnswer : ℕ → ℕ → Message
-pollAnswer site pending = message 4 site pending 0
+pollAnswer site pending = message pollAnswerKind site pending 0
 
 abbrev pub probe : ℕ → ℕ → Message
-probe site value = message 5 site value 0
+probe site value = message probeKind site value 0
 
 abbrev pub probeAnswer : ℕ → ℕ → ℕ → Message
-probeAnswer site value count = message 6 site value count
+probeAnswer site value count = message probeAnswerKind site value count
 
 abbrev pub announcement : ℕ → ℕ → ℕ → Message
-announcement site threshold base = message 7 site threshold base
+announcement site threshold base = message announcementKind site threshold base
 
 -- The kind of a message, by its row.
 abbrev pub isItemReport : Message → Bool
-isItemReport m = eqb (m .kind) 1
+isItemReport m = eqb (m .kind) itemReportKind
 
 abbrev pub isCountReport : Message → Bool
-isCountReport m = eqb (m .kind) 2
+isCountReport m = eqb (m .kind) countReportKind
 
 abbrev pub isPoll : Message → Bool
-isPoll m = eqb (m .kind) 3
+isPoll m = eqb (m .kind) pollKind
 
 abbrev pub isPollAnswer : Message → Bool
-isPollAnswer m = eqb (m .kind) 4
+isPollAnswer m = eqb (m .kind) pollAnswerKind
 
 abbrev pub isProbe : Message → Bool
-isProbe m = eqb (m .kind) 5
+isProbe m = eqb (m .kind) probeKind
 
 abbrev pub isProbeAnswer : Message → Bool
-isProbeAnswer m = eqb (m .kind) 6
+isProbeAnswer m = eqb (m .kind) probeAnswerKind
 
 abbrev pub isAnnouncement : Message → Bool
-isAnnouncement m = eqb (m .kind) 7
+isAnnouncement m = eqb (m .kind) announcementKind
 
 -- "way: to desk", the kinds 1, 2, 4 and 6.
 abbrev pub toCoordinator : Message → Bool

@@ -67,7 +67,7 @@ pub record Batch : Type 0 where
 abbrev pub batchRefusal : Settings → Network → ℕ → Arrival → ℕ
 batchRefusal settings network free arrival =
     refusalIn settings network arrival
-    orElse when (ltb free (mostMessages (settings .sites))) logTooShort
+    orElse when (ltb free (mostMessages settings)) logTooShort
     orElse accepted
 
 abbrev pub batchFrom : Settings → ℕ → Batch → List Arrival → Batch

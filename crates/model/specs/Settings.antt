@@ -59,4 +59,4 @@ digits n = digitsWithin n n
 -- "The allowance is 150,000 × k × (binary digits of n, plus 1) / e rounded down."
 abbrev pub allowance : Settings → ℕ → ℕ
 allowance settings n =
-    allowanceFactor * (settings .sites * (digits n + 1)) / settings .epsilon
+    allowanceFactor settings * (settings .sites * (digits n + 1)) / settings .epsilon

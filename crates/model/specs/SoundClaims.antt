@@ -62,7 +62,7 @@ pub record InMidDelivery (settings : Settings) (network : Network) (arrival : Ar
   -- every delivery comes to its end: no order of steps has more than these
   pub few-steps : n ≤ deliveryFuel settings
   -- nor than these, which are fewer still
-  pub firm-steps : n ≤ mostSteps (settings .sites)
+  pub firm-steps : n ≤ mostSteps settings
   -- finished in the model's order, it comes to the model's network and messages
   pub finishes : outcome (deliverySteps (deliveryFuel settings) settings d)
       ≡ afterArrival settings network arrival

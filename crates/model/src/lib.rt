@@ -101,6 +101,9 @@ pub const LINE_FEED: u8 = 10;
 // "1 to 7 digits each": after a number's first digit, six more at most.
 pub const MORE_DIGITS: u32 = 6;
 
+// "A message is four numbers": so many of the log it takes.
+pub const MESSAGE_WIDTH: usize = 4;
+
 // The kinds of message: document 01's table. 0 is no kind: where no message goes out, the place of
 // one holds four zeros.
 pub const ITEM_REPORT: u32 = 1;
@@ -116,6 +119,9 @@ pub const PROBE: u32 = 5;
 pub const PROBE_ANSWER: u32 = 6;
 
 pub const ANNOUNCEMENT: u32 = 7;
+
+// A number of a site's lent memory: 4 bytes. Of the coordinator's lent memory it is 8.
+pub type Word = u32;
 
 // The settings of a network: document 01's k, e, p, q, c and u. `epsilon` (leeway), `phi` (list
 // share) and `rank` are in thousandths; `rank` is a relative rank, not a position.

@@ -6,7 +6,6 @@ ghost use Rattle.model.specs.NetworkMemory.{sitesConsistent, networkConsistent,
 ghost use Rattle.network_tests.specs.Contracts.{SitesFit, NetworkFits, RecordsFit, CountsFit, SameSays, CountedSays, RestSays, ShortSays};
 ghost use Rattle.model.specs.Settings.{settingsRefusal};
 ghost use Rattle.model.specs.Refusals.{accepted};
-use counters::Word;
 use model::ACCEPTED;
 use model::CoordinatorRecord;
 use model::MEMORY_INCONSISTENT;
@@ -16,6 +15,7 @@ use model::Phase;
 use model::Settings;
 use model::Sites;
 use model::VALUE_COUNT;
+use model::Word;
 
 // Whether each site is consistent by itself.
 fn sites_consistent(settings: Settings, sites: Sites, memory: &[Word]) -> bool

@@ -131,7 +131,7 @@ module _ {settings : Settings} (passes : settingsRefusal settings ≡ accepted)
   -- A delivery has fewer calls than are allowed, so none is due for another reason.
   quiet-end : ended .refusal ≡ accepted → Quiet (came .after)
   quiet-end not-refused =
-      let few : came .taken ≤ mostSteps (settings .sites) = in-mid passes there .firm-steps in
+      let few : came .taken ≤ mostSteps settings = in-mid passes there .firm-steps in
       let some-left : ended .left ≡ 0 → ⊥ =
       λ none. omega (arith, few, came .counted not-refused, allowed, none) in
       let may : mayGoOn ended ≡ true =

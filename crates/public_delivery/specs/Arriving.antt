@@ -29,7 +29,7 @@ restFrom settings memory which =
 
 -- No delivery has more steps than the model's claim says, so one call more is never needed.
 abbrev pub mostCalls : Settings → ℕ
-mostCalls settings = mostSteps (settings .sites) + 1
+mostCalls settings = mostSteps settings + 1
 
 -- The call on the site is accepted, and the progress stands for the state after it.
 pub record Begun

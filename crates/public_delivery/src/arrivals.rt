@@ -5,25 +5,21 @@ ghost use Rattle.public_delivery.specs.Progress.{QueueSays};
 ghost use Rattle.public_delivery.specs.Arriving.{mostCalls, BeginAsks, BeginSays};
 use crate::Progress;
 use crate::calls::record_at;
-use counters::Word;
 use model::Arrival;
 use model::CoordinatorRecord;
 use model::Message;
 use model::Settings;
 use model::Sites;
+use model::Word;
 use sending::Queue;
 
-// No delivery has more than 24 calls for each site and 2 beside; here is one more. The loop ends by
-// itself before them: it counts down from here only so that it plainly ends.
-const CALLS_EACH_SITE: u64 = 24;
-
-const CALLS_BESIDE: u64 = 3;
-
-// How many calls a delivery may take.
+// How many calls a delivery may take: no delivery has more than its messages, each handed over, and
+// a kind 7 asked for of each site; here is one more. The loop ends by itself before them: it counts
+// down from here only so that it plainly ends.
 fn most_calls(settings: Settings) -> u64
     ensures { λ r. ⌜ r ≡ mostCalls settings ⌝ }
 {
-    CALLS_EACH_SITE * (settings.sites as u64) + CALLS_BESIDE
+    settings::most_messages(settings) + (settings.sites as u64) + 1
 }
 
 // The messages that an arrival's answer hands out, as those that wait.

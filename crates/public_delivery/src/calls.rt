@@ -10,13 +10,13 @@ ghost use Rattle.network_tests.specs.Contracts.{SitesFit};
 ghost use Rattle.public_delivery.specs.Progress.{carriedLimit, sent, refusedWith, recordIn};
 ghost use Rattle.public_delivery.specs.Steps.{AskAsks, HandAsks, DueAsks, StepSays};
 use crate::Progress;
-use counters::Word;
 use model::ACCEPTED;
 use model::Message;
 use model::Settings;
 use model::SiteRecord;
 use model::Sites;
 use model::UNKNOWN_SITE;
+use model::Word;
 
 // The message that a call handed out, if it handed out one: it waits last, and is counted.
 fn send(progress: Progress, count: u32, message: Message) -> Progress
@@ -138,7 +138,7 @@ pub fn take_step(
         return ask(settings, progress, coordinator_memory);
     }
     let message = waiting.first;
-    if delivery::to_coordinator(message) {
+    if messages::to_coordinator(message) {
         return hand_to_coordinator(settings, progress, coordinator_memory);
     }
     hand_to_site(settings, progress, site_memory)

@@ -13,7 +13,6 @@ ghost use Rattle.public_delivery.specs.Steps.{DeliverAsks, DeliverSays};
 ghost use Rattle.public_delivery.specs.Delivery.{refusedBy, DeliverySays};
 use crate::arrivals::begin;
 use crate::calls::take_step;
-use counters::Word;
 use model::ACCEPTED;
 use model::Arrival;
 use model::CoordinatorRecord;
@@ -21,6 +20,7 @@ use model::Phase;
 use model::Settings;
 use model::Sites;
 use model::UNKNOWN_SITE;
+use model::Word;
 use network_tests::network_refusal;
 use sending::Queue;
 

@@ -1,6 +1,6 @@
 -- The log: a record written after those that stand there, and messages that wait in order.
 --
---   length-messageNumbers       four numbers a message
+--   length-messageNumbers       a message's width for each
 --   putRecord-append            the next record written: one message more stands in the log
 --   joined-queueOf, withoutHead-queueOf   the messages that wait, as code carries them
 use mathlib.Core.Path.{_≡_, refl, ap, _∙_, subst⁻¹}
@@ -10,6 +10,7 @@ use native.Mathlib.Omega.{arith}
 use lib.ListN.{length}
 use Rattle.laws.proofs.FlatMemory.{four, four-suc}
 use Rattle.model.specs.declared.Message.{Message}
+use Rattle.model.specs.Messages.{messageWidth}
 use Rattle.model.specs.SiteMemory.{overwrite}
 use Rattle.sending.specs.Log.{messageNumbers, putRecord}
 use Rattle.sending.specs.Sending.{queueOf, joined, withoutHead}
@@ -17,7 +18,7 @@ use Rattle.sending.specs.Sending.{queueOf, joined, withoutHead}
 -- ---- Records
 
 pub length-messageNumbers : (messages : List Message)
-    → length (messageNumbers messages) ≡ 4 * length messages
+    → length (messageNumbers messages) ≡ messageWidth * length messages
 length-messageNumbers [] = refl
 length-messageNumbers (m ∷ messages) = omega (arith, length-messageNumbers messages)
 
@@ -28,18 +29,19 @@ in-front m log = m .kind ∷ (m .site ∷ (m .a ∷ (m .b ∷ log)))
 putRecord-suc : (first m : Message) (log : List ℕ) (i : ℕ)
     → putRecord (in-front first log) (suc i) m ≡ in-front first (putRecord log i m)
 putRecord-suc first m log i =
-    let e : 4 * suc i ≡ suc (suc (suc (suc (4 * i)))) = omega arith in
+    let e : messageWidth * suc i ≡ suc (suc (suc (suc (messageWidth * i)))) = omega arith in
     rw (four-suc i 1, four-suc i 2, four-suc i 3, e)
 
 pub putRecord-append : (messages : List Message) (m : Message) (log : List ℕ)
-    → 4 * length messages + 4 ≤ length log
+    → messageWidth * length messages + messageWidth ≤ length log
     → putRecord (overwrite (messageNumbers messages) log) (length messages) m
     ≡ overwrite (messageNumbers (messages ++ (m ∷ []))) log
 putRecord-append [] m log room = let parts = four log (omega arith) in rw (parts .whole)
 putRecord-append (first ∷ messages) m log room =
     let parts = four log (omega arith) in
     let rest = parts .rest in
-    let shorter : 4 * length messages + 4 ≤ length rest = omega (arith, ap length (parts .whole)) in
+    let shorter : messageWidth * length messages + messageWidth ≤ length rest =
+    omega (arith, ap length (parts .whole)) in
     subst⁻¹ (λ (l : List ℕ).
     putRecord (overwrite (messageNumbers (first ∷ messages)) l) (suc (length messages)) m
     ≡ overwrite (messageNumbers (first ∷ (messages ++ (m ∷ [])))) l)

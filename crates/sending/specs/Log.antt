@@ -1,7 +1,7 @@
 -- The log of the batch call: "A message is four numbers: kind, deck, a, b", one record after
 -- another.
 --
---   logRoom log                   the records that a log has place for: four numbers each
+--   logRoom log                   the records that a log has place for
 --   messageNumbers messages       the numbers of messages, as the log holds them
 --   messagesIn count log          the first messages that stand in a log
 --   putRecord log place m         a log with one record written
@@ -9,10 +9,10 @@ use mathlib.Core.List.{List, [], _∷_}
 use Prim.Native.Nat.{ℕ, zero, suc, _+_, _*_, _/_}
 use lib.ListN.{length, getD, set, drop}
 use Rattle.model.specs.declared.Message.{Message}
-use Rattle.model.specs.Messages.{message}
+use Rattle.model.specs.Messages.{messageWidth, message}
 
 abbrev pub logRoom : List ℕ → ℕ
-logRoom log = length log / 4
+logRoom log = length log / messageWidth
 
 abbrev pub messageNumbers : List Message → List ℕ
 messageNumbers [] = []
@@ -22,11 +22,9 @@ abbrev pub messagesIn : ℕ → List ℕ → List Message
 messagesIn zero log = []
 messagesIn (suc more) log =
     message (getD log 0 0) (getD log 1 0) (getD log 2 0) (getD log 3 0)
-    ∷ messagesIn more (drop 4 log)
+    ∷ messagesIn more (drop messageWidth log)
 
 abbrev pub putRecord : List ℕ → ℕ → Message → List ℕ
 putRecord log place m =
-    set
-    (set (set (set log (4 * place) (m .kind)) (4 * place + 1) (m .site)) (4 * place + 2) (m .a))
-    (4 * place + 3)
-    (m .b)
+    let at = messageWidth * place in
+    set (set (set (set log at (m .kind)) (at + 1) (m .site)) (at + 2) (m .a)) (at + 3) (m .b)

@@ -14,7 +14,7 @@ use lib.ListN.{length, getD}
 use Rattle.model.specs.declared.Message.{Message}
 use Rattle.model.specs.Choice.{if_then_else_, isZero}
 use Rattle.model.specs.Limits.{messageLimit}
-use Rattle.model.specs.Messages.{noMessage}
+use Rattle.model.specs.Messages.{messageWidth, noMessage}
 use Rattle.sending.specs.declared.Queue.{Queue}
 use Rattle.sending.specs.declared.Traffic.{Traffic}
 use Rattle.sending.specs.Log.{putRecord}
@@ -70,11 +70,11 @@ loggedTwo count log place first second =
     else loggedIf count log place first
 
 pub record SendAsks (traffic : Traffic) (log : List ℕ) : Type 0 where
-  pub room : 4 * traffic .written + 4 ≤ length log
+  pub room : messageWidth * traffic .written + messageWidth ≤ length log
   pub count-within : traffic .messages ≤ messageLimit + traffic .written
 
 pub record SendTwoAsks (count : ℕ) (traffic : Traffic) (log : List ℕ) : Type 0 where
-  pub room : 4 * traffic .written + 4 * count ≤ length log
+  pub room : messageWidth * traffic .written + messageWidth * count ≤ length log
   pub count-within : traffic .messages ≤ messageLimit + traffic .written
 
 -- ---- What sending promises

@@ -4,9 +4,11 @@
 ghost use mathlib.Core.Path.{_≡_};
 ghost use Prim.Native.Nat.{_+_, _*_, _≤_};
 ghost use lib.ListN.{length};
+ghost use Rattle.model.specs.Messages.{messageWidth};
 ghost use Rattle.sending.specs.Log.{putRecord};
 ghost use Rattle.sending.specs.Sending.{nothingWaits, joined, withoutHead, SendAsks, SendSays, AnswerSays, SendTwoAsks, TwoSay};
-use coordinator_kinds::no_message;
+use messages::no_message;
+use model::MESSAGE_WIDTH;
 use model::Message;
 
 // The messages that wait to be handed over, or are to go out: two at most, since an arrival sends
@@ -73,10 +75,10 @@ pub fn take_head(queue: Queue) -> Queue
 
 // A record of the log.
 fn write_record(log: &mut [u64], place: u64, message: Message)
-    requires { ⌜ 4 * place + 4 ≤ length (now log) ⌝ }
+    requires { ⌜ messageWidth * place + messageWidth ≤ length (now log) ⌝ }
     ensures { λ r. ⌜ now (log .exit) ≡ putRecord (now (log .entry)) place message ⌝ }
 {
-    let at = 4 * (place as usize);
+    let at = MESSAGE_WIDTH * (place as usize);
     log[at] = message.kind as u64;
     log[at + 1] = message.site as u64;
     log[at + 2] = message.a;

@@ -27,7 +27,7 @@ use Rattle.session_steps.specs.Steps.{drawRefusal}
 -- ---- A batch of one
 
 module _ (settings : Settings) (room : ℕ) (network : Network) (arrival : Arrival)
-    (enough : mostMessages (settings .sites) ≤ room) where
+    (enough : mostMessages settings ≤ room) where
   abbrev refusal : ℕ
   refusal = refusalIn settings network arrival
 
@@ -37,7 +37,7 @@ module _ (settings : Settings) (room : ℕ) (network : Network) (arrival : Arriv
   -- The log has room, so 14 is never met.
   test-is : batchRefusal settings network (room - 0) arrival ≡ refusal
   test-is =
-      rw (le-ltb (room - 0) (mostMessages (settings .sites)) (omega arith)) (or-accepted refusal)
+      rw (le-ltb (room - 0) (mostMessages settings) (omega arith)) (or-accepted refusal)
 
   pub one-refusal : one .refusal ≡ refusal
   one-refusal = by-test (isZero refusal) refl

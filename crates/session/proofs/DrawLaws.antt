@@ -70,7 +70,7 @@ module _ {session : Session} {given : Lent} {arrivals : List Arrival}
   passes = stands .settings-accepted
 
   -- 23 * 4 + 2 = 94 records of four numbers each
-  room-enough : mostMessages (settings .sites) ≤ logRoom (given .log)
+  room-enough : mostMessages settings ≤ logRoom (given .log)
   room-enough = omega (arith, stands .few-sites, room .log-long)
 
   by-rules : drawRefusal call ≡ refusalIn settings held-network arrival

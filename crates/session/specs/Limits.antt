@@ -3,11 +3,15 @@
 -- bytes").
 --
 --   programSites, programCapacity, programUniverse, programBytes     4, 100, 1000, 8192
+--   programSettings                the largest settings that it serves
 --   siteRoom, coordinatorRoom      5696 and 2024 numbers of memory
 --   logRoom, listRoom, outRoom     376 numbers, 1000 places, 8192 bytes
 --   inputRoom                      8241 bytes, the most that matter of an input
 use Prim.Native.Nat.{ℕ, _+_, _*_}
+use Rattle.model.specs.declared.Settings.{Settings}
 use Rattle.model.specs.Limits.{topValue, mostMessages}
+use Rattle.model.specs.Settings.{settingsWith}
+use Rattle.model.specs.Messages.{messageWidth}
 
 abbrev pub programSites : ℕ
 programSites = 4
@@ -21,6 +25,10 @@ programUniverse = 1000
 abbrev pub programBytes : ℕ
 programBytes = 8192
 
+-- The settings with these numbers; leeway, list share and rank may be any.
+abbrev pub programSettings : Settings
+programSettings = settingsWith programSites 1000 1000 1000 programCapacity programUniverse
+
 -- For each site four numbers a counter, and its class counts; for the coordinator a number for each
 -- item, and its class counts.
 abbrev pub siteRoom : ℕ
@@ -29,9 +37,9 @@ siteRoom = programSites * (4 * programCapacity + (topValue + 1))
 abbrev pub coordinatorRoom : ℕ
 coordinatorRoom = programUniverse + (topValue + 1)
 
--- Four numbers for each message that may follow one draw, and a place for each item.
+-- The numbers of each message that may follow one draw, and a place for each item.
 abbrev pub logRoom : ℕ
-logRoom = 4 * mostMessages programSites
+logRoom = messageWidth * mostMessages programSettings
 
 abbrev pub listRoom : ℕ
 listRoom = programUniverse

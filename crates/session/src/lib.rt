@@ -10,13 +10,17 @@ ghost use Rattle.session_steps.specs.Outcome.{lent};
 ghost use Rattle.session.specs.Begin.{shorterThanLimits, startRefusalOf, freshSession, BeginSays};
 ghost use Rattle.session.specs.Advance.{AdvanceSays};
 use model::ACCEPTED;
+use model::ARRIVAL_MESSAGES;
+use model::CLOSING_MESSAGES;
 use model::CoordinatorRecord;
 use model::MEMORY_TOO_SHORT;
+use model::MESSAGE_WIDTH;
 use model::Phase;
 use model::SITE_RECORDS;
 use model::Settings;
 use model::SiteRecord;
 use model::Sites;
+use model::Word;
 use reader::SettingsRead;
 use session_steps::Session;
 use session_steps::Turn;
@@ -38,7 +42,10 @@ pub const SESSION_COORDINATOR_NUMBERS: usize = 2024;
 
 // Room for what a call writes: 4 × (23 × 4 + 2) numbers of a log, 1000 places of a list, and the
 // bytes of the lines of either.
-pub const SESSION_LOG_NUMBERS: usize = 376;
+const SESSION_CLOSING: usize = (CLOSING_MESSAGES as usize) * (SESSION_SITES as usize);
+
+pub const SESSION_LOG_NUMBERS: usize = MESSAGE_WIDTH
+    * (SESSION_CLOSING + (ARRIVAL_MESSAGES as usize));
 
 pub const SESSION_LIST_PLACES: usize = 1000;
 
@@ -135,7 +142,7 @@ fn fresh_session(settings: Settings, at: usize) -> Session
 // the memory; the records that they answer are the fresh session's.
 pub fn begin(
     input: &[u8],
-    site_memory: &mut [u32],
+    site_memory: &mut [Word],
     coordinator_memory: &mut [u64],
     out: &mut [u8],
 ) -> Turn
@@ -170,7 +177,7 @@ pub fn begin(
 pub fn advance(
     session: Session,
     input: &[u8],
-    site_memory: &mut [u32],
+    site_memory: &mut [Word],
     coordinator_memory: &mut [u64],
     log: &mut [u64],
     list: &mut [u32],

@@ -10,7 +10,7 @@ use native.Mathlib.Omega.{arith}
 use lib.ListN.{length, getD, drop, length-append}
 use lib.Seq.{getD-drop, drop-drop}
 use Rattle.model.specs.declared.Message.{Message}
-use Rattle.model.specs.Messages.{message}
+use Rattle.model.specs.Messages.{messageWidth, message}
 use Rattle.model.specs.Transcript.{messageLine, messageLines}
 use Rattle.lines.specs.Contracts.{RecordWritten}
 use Rattle.tracker.specs.Batch.{messagesIn}
@@ -19,20 +19,25 @@ use Rattle.session_steps.proofs.OutputLaws.{line-written}
 
 -- The messages of the log that are left.
 abbrev left : List ℕ → ℕ → ℕ → List Message
-left log count done = messagesIn (count - done) (drop (4 * done) log)
+left log count done = messagesIn (count - done) (drop (messageWidth * done) log)
+
+-- The message whose numbers begin at a place of the log.
+abbrev messageAt : List ℕ → ℕ → Message
+messageAt log i =
+    message (getD log i 0) (getD log (i + 1) 0) (getD log (i + 2) 0) (getD log (i + 3) 0)
 
 -- So many messages of the log are written; with the others the output is that of them all.
 pub record Writing (log : List ℕ) (count : ℕ) (first out : List ℕ) (place done : ℕ) : Type 0 where
   pub length-same : length out ≡ length first
   pub within : done ≤ count
-  pub log-long : 4 * count ≤ length log
+  pub log-long : messageWidth * count ≤ length log
   pub comes-to : linesAfter (writtenTo place out) (linesOf (left log count done))
       ≡ linesAfter (atStart first) (linesOf (messagesIn count log))
   pub few-bytes : length (messageLines (messagesIn count log))
       ≤ 84 * done + length (messageLines (left log count done))
 
 pub writing-begins : (log : List ℕ) (count : ℕ) (out : List ℕ)
-    → 4 * count ≤ length log
+    → messageWidth * count ≤ length log
     → Writing log count out out 0 0
 writing-begins log count out long = record {
   length-same = refl;
@@ -45,18 +50,17 @@ writing-begins log count out long = record {
     all : (n : ℕ) → n - 0 ≡ n
     all n = omega arith
 
--- The next message of a log stands in its next four numbers.
+-- The next message of a log stands in its next numbers.
 next-message : (log : List ℕ) (i more : ℕ)
     → messagesIn (suc more) (drop i log)
-    ≡ message (getD log i 0) (getD log (i + 1) 0) (getD log (i + 2) 0) (getD log (i + 3) 0)
-    ∷ messagesIn more (drop (i + 4) log)
+    ≡ messageAt log i ∷ messagesIn more (drop (i + messageWidth) log)
 next-message log i more =
     rw (
       getD-drop i log 0 0,
       getD-drop i log 1 0,
       getD-drop i log 2 0,
       getD-drop i log 3 0,
-      drop-drop 4 i log,
+      drop-drop messageWidth i log,
       add-zero i,
     )
 
@@ -65,20 +69,18 @@ module _ (log : List ℕ) (count : ℕ) (first before after : List ℕ) (place d
   pub writing-on : done < count
       → length after ≡ length before
       → RecordWritten
-      (message (getD log (4 * done) 0) (getD log (4 * done + 1) 0) (getD log (4 * done + 2) 0)
-      (getD log (4 * done + 3) 0))
+      (messageAt log (messageWidth * done))
       place before after next
       → Writing log count first after next (done + 1)
   writing-on more-to-do same written =
       let more = count - (done + 1) in
-      let m = message (getD log (4 * done) 0) (getD log (4 * done + 1) 0)
-      (getD log (4 * done + 2) 0) (getD log (4 * done + 3) 0) in
+      let m = messageAt log (messageWidth * done) in
       let now = line-written (messageLine m) place before after next (written .written) in
       let one-more : count - done ≡ suc more = omega arith in
-      let after-it : 4 * done + 4 ≡ 4 * (done + 1) = omega arith in
+      let after-it : messageWidth * done + messageWidth ≡ messageWidth * (done + 1) = omega arith in
       let split : left log count done ≡ m ∷ left log count (done + 1) =
-      ap (λ (n : ℕ). messagesIn n (drop (4 * done) log)) one-more
-      ∙ next-message log (4 * done) more
+      ap (λ (n : ℕ). messagesIn n (drop (messageWidth * done) log)) one-more
+      ∙ next-message log (messageWidth * done) more
       ∙ ap (λ (n : ℕ). m ∷ messagesIn more (drop n log)) after-it in
       record {
         length-same = same ∙ far .length-same;
@@ -106,7 +108,7 @@ pub writing-ends : (log : List ℕ) (count : ℕ) (first out : List ℕ) (place 
 writing-ends log count first out place done far all =
     let none : count - done ≡ 0 = omega arith in
     let nothing : left log count done ≡ [] =
-    ap (λ (n : ℕ). messagesIn n (drop (4 * done) log)) none in
+    ap (λ (n : ℕ). messagesIn n (drop (messageWidth * done) log)) none in
     record {
       is =
           ap (λ (ms : List Message). linesAfter (writtenTo place out) (linesOf ms)) (sym nothing)

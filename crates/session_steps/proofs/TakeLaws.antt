@@ -14,6 +14,7 @@ use Rattle.model.specs.declared.Arrival.{Arrival}
 use Rattle.model.specs.declared.Message.{Message}
 use Rattle.model.specs.Choice.{isZero}
 use Rattle.model.specs.Refusals.{accepted}
+use Rattle.model.specs.Messages.{messageWidth}
 use Rattle.model.specs.SiteMemory.{overwrite}
 use Rattle.model.specs.CoordinatorMemory.{coordinatorMemory}
 use Rattle.model.specs.NetworkMemory.{networkIn}
@@ -21,6 +22,7 @@ use Rattle.model.specs.Network.{Network}
 use Rattle.model.specs.Runs.{Batch, batchRefusal, batchFrom, batchOf}
 use Rattle.model.specs.Transcript.{messageLines}
 use Rattle.reader.specs.declared.Step.{Step}
+use Rattle.sending.proofs.LogLaws.{length-messageNumbers}
 use Rattle.tracker_steps.specs.declared.BatchAnswer.{BatchAnswer}
 use Rattle.tracker.specs.Batch.{BatchCall, BatchLent, BatchSays, startRefusal, batchIn, unlessRefused, logRoom, messageNumbers, messagesIn}
 use Rattle.history.specs.State.{State}
@@ -32,11 +34,6 @@ use Rattle.session_steps.specs.declared.Turn.{Turn}
 use Rattle.session_steps.specs.Output.{atStart, linesAfter, linesOf, MessagesWritten}
 use Rattle.session_steps.specs.Outcome.{Lent, lent, outcome, Refuses, refusedOf}
 use Rattle.session_steps.specs.Steps.{drawCall, drawRefusal, DrawSays}
-
-pub length-numbers : (messages : List Message)
-    → length (messageNumbers messages) ≡ 4 * length messages
-length-numbers [] = refl
-length-numbers (m ∷ messages) = omega (arith, length-numbers messages)
 
 -- A batch of one arrival that refuses it accepts nothing.
 none-accepted : (settings : Settings) (room : ℕ) (network : Network) (arrival : Arrival)
@@ -146,14 +143,14 @@ module _ (session : Session) (step : Step) (given : Lent) (lentAfter : BatchLent
     log-is : lentAfter .log ≡ overwrite (messageNumbers (batch .messages)) (given .log)
     log-is = done (lentAfter .log) _ _ (says .log)
 
-    pub log-holds : 4 * answer .written ≤ length (lentAfter .log)
+    pub log-holds : messageWidth * answer .written ≤ length (lentAfter .log)
     log-holds =
         let numbers = messageNumbers (batch .messages) in
         omega (
           arith,
           written-is,
           ap length log-is,
-          length-numbers (batch .messages),
+          length-messageNumbers (batch .messages),
           length-append numbers (drop (length numbers) (given .log)),
         )
 

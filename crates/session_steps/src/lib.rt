@@ -6,13 +6,16 @@ ghost use mathlib.Core.Path.{_≡_};
 ghost use mathlib.Core.List.{[]};
 ghost use Prim.Native.Nat.{_*_, _≤_};
 ghost use lib.ListN.{length};
+ghost use Rattle.model.specs.Messages.{messageWidth};
 ghost use Rattle.session_steps.specs.Output.{MessagesWritten};
 ghost use Rattle.session_steps.specs.Outcome.{lent, ended, Refuses};
 ghost use Rattle.session_steps.specs.Steps.{DrawSays, Finishes};
 use model::ACCEPTED;
 use model::CoordinatorRecord;
+use model::MESSAGE_WIDTH;
 use model::Settings;
 use model::Sites;
+use model::Word;
 use reader::Step;
 
 // Where a session stands: whether it goes on, the settings, the records of the network, the place
@@ -34,14 +37,14 @@ pub struct Turn {
 
 // Writes the lines of a log's first messages, each where it fits.
 fn put_messages(log: &[u64], count: usize, out: &mut [u8]) -> usize
-    requires { ⌜ 4 * count ≤ length (now log) ⌝ }
+    requires { ⌜ messageWidth * count ≤ length (now log) ⌝ }
     ensures { λ r. ⌜ MessagesWritten (now (log .entry)) count (now (out .entry)) (now (out .exit))
         r ⌝ }
 {
     let mut place: usize = 0;
     let mut done: usize = 0;
     while done < count {
-        let i = 4 * done;
+        let i = MESSAGE_WIDTH * done;
         place = lines::write_record(log[i], log[i + 1], log[i + 2], log[i + 3], out, place);
         done += 1;
     }
@@ -72,7 +75,7 @@ pub fn refuse(session: Session, refusal: u32, out: &mut [u8]) -> Turn
 pub fn take_draw(
     session: Session,
     step: Step,
-    site_memory: &mut [u32],
+    site_memory: &mut [Word],
     coordinator_memory: &mut [u64],
     log: &mut [u64],
     out: &mut [u8],

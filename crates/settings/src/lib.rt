@@ -82,7 +82,7 @@ pub fn test_settings(settings: Settings) -> u32
 
 // How many messages follow one arrival at most: "23 × k + 2".
 pub fn most_messages(settings: Settings) -> u64
-    ensures { λ r. ⌜ r ≡ mostMessages (settings .sites) ⌝ }
+    ensures { λ r. ⌜ r ≡ mostMessages settings ⌝ }
 {
     CLOSING_MESSAGES * (settings.sites as u64) + ARRIVAL_MESSAGES
 }

@@ -9,7 +9,7 @@ ghost use Rattle.model.specs.Lent.{before, after};
 ghost use Rattle.model.specs.SiteMemory.{overwrite};
 ghost use Rattle.model.specs.NetworkMemory.{freshSites};
 ghost use Rattle.site.specs.Calls.{observeRefusal, receiveRefusal, StartSays, ObserveSays, ReceiveSays};
-use counters::Word;
+use messages::no_message;
 use model::ACCEPTED;
 use model::Arrival;
 use model::MEMORY_TOO_SHORT;
@@ -19,6 +19,7 @@ use model::Settings;
 use model::SiteRecord;
 use model::Sites;
 use model::UNKNOWN_SITE;
+use model::Word;
 use site_steps::Answered;
 use site_steps::Observed;
 
@@ -50,7 +51,7 @@ pub fn observe(
 {
     let refusal = observe_refusal(settings, site, arrival, memory);
     if refusal != ACCEPTED {
-        let none = site_steps::make_message(0, 0, 0, 0);
+        let none = no_message();
         return Observed {
             refusal: refusal,
             site: site,
@@ -94,11 +95,12 @@ pub fn receive(
 {
     let refusal = receive_refusal(settings, site, which, message, memory);
     if refusal != ACCEPTED {
+        let none = no_message();
         return Answered {
             refusal: refusal,
             site: site,
             count: 0,
-            reply: site_steps::make_message(0, 0, 0, 0),
+            reply: none,
         };
     }
     site_steps::receive_step(settings, site, message, memory)

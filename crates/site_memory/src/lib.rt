@@ -11,7 +11,6 @@ ghost use Rattle.model.specs.Settings.{settingsRefusal};
 ghost use Rattle.model.specs.Site.{upTo};
 ghost use Rattle.model.specs.SiteMemory.{siteWords, sum, siteConsistent, siteMemoryRefusal};
 ghost use Rattle.site_memory.specs.Contracts.{counterPasses, countersPass, MemoryFits, CountsFit, ValuesFit};
-use counters::Word;
 use model::ACCEPTED;
 use model::MEMORY_INCONSISTENT;
 use model::MEMORY_TOO_SHORT;
@@ -19,6 +18,7 @@ use model::SITE_LIMIT;
 use model::Settings;
 use model::SiteRecord;
 use model::VALUE_COUNT;
+use model::Word;
 
 // The numbers of one site's memory: four for each counter, and the histogram. Internal:
 // `settings::test_settings` decides what it requires.

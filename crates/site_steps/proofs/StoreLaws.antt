@@ -16,7 +16,7 @@ use Rattle.model.specs.declared.SiteRecord.{SiteRecord}
 use Rattle.model.specs.declared.Arrival.{Arrival}
 use Rattle.model.specs.declared.Message.{Message}
 use Rattle.model.specs.Choice.{if_then_else_}
-use Rattle.model.specs.Messages.{message}
+use Rattle.model.specs.Messages.{itemReport, countReport}
 use Rattle.model.specs.Limits.{valueCount, siteLimit}
 use Rattle.model.specs.Counters.{Counter, counterAt}
 use Rattle.model.specs.Site.{Site, observed, oneMoreAt, placeFor, countersWith}
@@ -176,19 +176,19 @@ module _
   }
 
   messages-observed : (itemMessage countMessage : Message)
-      → itemMessage ≡ message 1 (arrival .site) (arrival .item) (numbers .threshold)
-      → countMessage ≡ message 2 (arrival .site) (numbers .threshold) value
+      → itemMessage ≡ itemReport (arrival .site) (arrival .item) (numbers .threshold)
+      → countMessage ≡ countReport (arrival .site) (numbers .threshold) value
       → messagesDue (stored .due) itemMessage
       (leb (numbers .threshold) (numbers .pending + 1)) countMessage
       ≡ observed settings (siteIn settings numbers before) arrival .messages
   messages-observed itemMessage countMessage item-is count-is =
       let due-then = leb (numbers .threshold) (numbers .pending + 1) in
-      let count-then = count-is ∙ ap (message 2 (arrival .site) (numbers .threshold)) value-is in
+      let count-then = count-is ∙ ap (countReport (arrival .site) (numbers .threshold)) value-is in
       λ i. messagesDue (says .due-is i) (item-is i) due-then (count-then i)
 
   pub observed-step : (itemMessage countMessage : Message) (answer : Observed)
-      → itemMessage ≡ message 1 (arrival .site) (arrival .item) (numbers .threshold)
-      → countMessage ≡ message 2 (arrival .site) (numbers .threshold) value
+      → itemMessage ≡ itemReport (arrival .site) (arrival .item) (numbers .threshold)
+      → countMessage ≡ countReport (arrival .site) (numbers .threshold) value
       → GatherSays
       (record {
         arrivals = numbers .arrivals + 1;

@@ -7,24 +7,24 @@ ghost use lib.Dec.{leb, eqb};
 ghost use lib.ListN.{length, getD};
 ghost use Rattle.model.specs.Choice.{if_then_else_};
 ghost use Rattle.model.specs.Lent.{before, after};
-ghost use Rattle.model.specs.Messages.{message};
 ghost use Rattle.model.specs.Site.{oneMoreAt};
 ghost use Rattle.counters.specs.Count.{greatestWord};
 ghost use Rattle.counters.specs.Stored.{counterOf};
 ghost use Rattle.site_steps.specs.Steps.{ReportAsks, StoredReportSays, DueSays, ObserveAsks, StoreSays, ObserveStepSays, ReceiveAsks, ReceiveStepSays};
 use counters::StoredCounter;
-use counters::Word;
+use messages::count_report_of;
+use messages::item_report_of;
+use messages::no_message;
+use messages::poll_answer_of;
+use messages::probe_answer_of;
 use model::ACCEPTED;
 use model::Arrival;
-use model::COUNT_REPORT;
-use model::ITEM_REPORT;
 use model::Message;
 use model::POLL;
-use model::POLL_ANSWER;
 use model::PROBE;
-use model::PROBE_ANSWER;
 use model::Settings;
 use model::SiteRecord;
+use model::Word;
 
 // What an arrival leads to: the site's record then, and the messages that go out, of which there
 // are `count`; an absent one is all zeros.
@@ -42,18 +42,6 @@ pub struct Answered {
     pub site: SiteRecord,
     pub count: u32,
     pub reply: Message,
-}
-
-// A message of four numbers; every message of a site is made here.
-pub fn make_message(kind: u32, site: u32, a: u64, b: u64) -> Message
-    ensures { λ r. ⌜ r ≡ message kind site a b ⌝ }
-{
-    Message {
-        kind: kind,
-        site: site,
-        a: a,
-        b: b,
-    }
 }
 
 // A counter reported if its unreported arrivals reach the threshold, and whether they do.
@@ -109,7 +97,7 @@ fn gather(
 ) -> Observed
     ensures { λ r. ⌜ DueSays site «item_due» «item_report» «count_due» «count_report» r ⌝ }
 {
-    let none = make_message(0, 0, 0, 0);
+    let none = no_message();
     if item_due {
         if count_due {
             return Observed {
@@ -198,9 +186,8 @@ pub fn observe_step(
         threshold: site.threshold,
         used: stored.used as u64,
     };
-    let item = arrival.item as u64;
-    let item_report = make_message(ITEM_REPORT, arrival.site, item, site.threshold);
-    let count_report = make_message(COUNT_REPORT, arrival.site, site.threshold, value);
+    let item_report = item_report_of(arrival.site, arrival.item, site.threshold);
+    let count_report = count_report_of(arrival.site, site.threshold, value);
     gather(after, stored.due, item_report, count_due, count_report)
 }
 
@@ -228,7 +215,7 @@ pub fn receive_step(
             refusal: ACCEPTED,
             site: after,
             count: 1,
-            reply: make_message(POLL_ANSWER, message.site, site.pending, 0),
+            reply: poll_answer_of(message.site, site.pending),
         };
     }
     if message.kind == PROBE {
@@ -239,7 +226,7 @@ pub fn receive_step(
             refusal: ACCEPTED,
             site: site,
             count: 1,
-            reply: make_message(PROBE_ANSWER, message.site, message.a, count),
+            reply: probe_answer_of(message.site, message.a, count),
         };
     }
     let after = SiteRecord {
@@ -252,6 +239,6 @@ pub fn receive_step(
         refusal: ACCEPTED,
         site: after,
         count: 0,
-        reply: make_message(0, 0, 0, 0),
+        reply: no_message(),
     }
 }

@@ -5,7 +5,7 @@ ghost use Prim.Native.Nat.{_≤_};
 ghost use Rattle.testing_numbers.specs.Openings.{lent};
 ghost use Rattle.testing.specs.Calls.{HandsReceived, StartCoordinatorExported, ReceiptExported, AnnouncementExported, ListExported, MarginExports, MarginRefusalExported, MarginExported, QuantileExported};
 use coordinator::Received;
-use model::Message;
+use messages::message_of;
 use reading::Margin;
 use testing_numbers::coordinator_numbers::COORDINATOR_NUMBERS;
 use testing_numbers::coordinator_numbers::write_coordinator;
@@ -61,12 +61,7 @@ pub extern "C" fn testing_receive_at_coordinator(
 {
     let opened = open_coordinator(settings, numbers, out.len(), ONE_MESSAGE);
     if opened.fits {
-        let message = Message {
-            kind: kind,
-            site: named,
-            a: a,
-            b: b,
-        };
+        let message = message_of(kind, named, a, b);
         let received = coordinator::receive(opened.settings, opened.coordinator, message, memory);
         write_received(numbers, out, received);
         return received.refusal;

@@ -2,8 +2,8 @@
 ghost use Rattle.model.specs.Instances.{arrivalWith};
 ghost use Rattle.model.specs.Messages.{message};
 ghost use Rattle.testing.specs.Calls.{StartSitesExported, ObserveExported, ReplyExported};
+use messages::message_of;
 use model::Arrival;
-use model::Message;
 use testing_numbers::numbers::ONE_MESSAGE;
 use testing_numbers::numbers::SITES_NUMBERS;
 use testing_numbers::numbers::TWO_MESSAGES;
@@ -79,12 +79,7 @@ pub extern "C" fn testing_receive_at_site(
 {
     let opened = open_site(settings, site, out.len(), ONE_MESSAGE);
     if opened.fits {
-        let message = Message {
-            kind: kind,
-            site: named,
-            a: a,
-            b: b,
-        };
+        let message = message_of(kind, named, a, b);
         let answered = site::receive(opened.settings, opened.site, which, message, memory);
         write_site(site, answered.site);
         write_message(out, answered.count, answered.reply);

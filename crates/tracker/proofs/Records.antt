@@ -2,9 +2,10 @@
 -- a struct. One of them is read, and another stored in its place.
 --
 --   VR, VK, VN       the machine's values of a site's record, an answer and a turn
+--   recordSize, recordsPlace   a record's bytes, and where the records begin within an answer
 --   values           those of the records of a list
 --   values-at, values-set   of the record at a place, and with another there
---   many-records     an answer has 32 records
+--   many-records     how many records an answer has
 --   record-good, refusal-fits, written-fits   the record at a place and the numbers of an answer
 --                    are values of their types
 --   turn-refusal-fits, turn-record-good       so are a turn's refusal and record
@@ -13,8 +14,11 @@ use mathlib.Core.Path.{_≡_, refl, sym, _∙_, ap, subst}
 use Prim.Native.Nat.{ℕ, zero, suc, _+_, _<_, _^_}
 use native.Mathlib.Nat.{not-suc-le-zero, le-of-suc-le-suc}
 use mathlib.Core.List.{List, [], _∷_, map}
+use mathlib.Core.Option.{Option, none, some}
 use lib.ListN.{length, getD, set, length-set, length-map}
+use mir.Syntax.{Ty}
 use mir.Val.{Val}
+use prog.Memory.{size, fieldOf}
 use denote.RattleType.{RattleType}
 use denote.Laws.{Is, valss}
 use denote.Array.{each, arrayVal, Array, array-tells}
@@ -23,6 +27,7 @@ use denote.Struct.Declared.{Declared, fields}
 use denote.Struct.Struct.{AreAll}
 use denote.Struct.Laws as LL
 use Rattle.model.specs.declared.SiteRecord.{SiteRecord}
+use Rattle.model.specs.Limits.{mostSites}
 use Rattle.site_memory.specs.Records.{noRecord}
 use Rattle.tracker_steps.specs.declared.BatchAnswer.{BatchAnswer}
 use Rattle.tracker_steps.specs.declared.Turn.{Turn}
@@ -46,6 +51,18 @@ VK = LL.val K.the-type K′.the-laws
 
 abbrev pub VN : Turn → Val
 VN = LL.val N.the-type N′.the-laws
+
+-- Where a field begins within its struct.
+abbrev startOf : Option (Ty × ℕ) → ℕ
+startOf none = 0
+startOf (some field) = field .1
+
+-- An answer's field 3 are the sites, whose field 0 are the records.
+abbrev pub recordsPlace : ℕ
+recordsPlace = startOf (fieldOf K′.mir 3) + startOf (fieldOf P′.mir 0)
+
+abbrev pub recordSize : ℕ
+recordSize = size R′.mir
 
 abbrev pub values : List SiteRecord → List Val
 values rs = map (LL.tuple-val R.the-type R′.the-laws) (map (R.the-type .to) rs)
@@ -122,10 +139,10 @@ module _ (answer : BatchAnswer) (good : Is K.the-row answer (VK answer ∷ [])) 
       LL.owed P.the-type P′.the-laws (answer .sites)
       (LL.vals P.the-type P′.the-laws (answer .sites)) (fields-good .1 .1 .1 .0)
 
-  pub many-records : length records ≡ 32
+  pub many-records : length records ≡ mostSites
   many-records = sym (length-map records (R.the-type .to)) ∙ sites-good .0 .1 .0 .1
 
-  pub record-good : (k : ℕ) → k < 32
+  pub record-good : (k : ℕ) → k < mostSites
       → Is R.the-row (getD records k noRecord) (VR (getD records k noRecord) ∷ [])
   record-good k within =
       element-good records (sites-good .0 .0) k (sites-good .0 .1 .1)
@@ -139,11 +156,12 @@ module _ (answer : BatchAnswer) (good : Is K.the-row answer (VK answer ∷ [])) 
 
   -- The array with another record at a place.
   array-set : (k : ℕ) (r : SiteRecord) → Is R.the-row r (VR r ∷ [])
-      → Is (Array Element 32) (map (R.the-type .to) (set records k r))
+      → Is (Array Element mostSites) (map (R.the-type .to) (set records k r))
       (arrayVal (values (set records k r)) ∷ [])
   array-set k r r-good =
       let us = set (sites-good .0 .0) k (VR r) in
-      let is : Is (Array Element 32) (map (R.the-type .to) (set records k r)) (arrayVal us ∷ []) = (
+      let is : Is (Array Element mostSites) (map (R.the-type .to) (set records k r))
+      (arrayVal us ∷ []) = (
         us,
         (
           (
@@ -154,9 +172,9 @@ module _ (answer : BatchAnswer) (good : Is K.the-row answer (VK answer ∷ [])) 
           set-good records (sites-good .0 .0) k r (sites-good .0 .1 .1) r-good,
         ),
       ) in
-      subst (Is (Array Element 32) (map (R.the-type .to) (set records k r)))
+      subst (Is (Array Element mostSites) (map (R.the-type .to) (set records k r)))
       (array-tells Element (LL.tuple-vals R.the-type R′.the-laws)
-      (LL.tuple-tells R.the-type R′.the-laws) 32 (map (R.the-type .to) (set records k r))
+      (LL.tuple-tells R.the-type R′.the-laws) mostSites (map (R.the-type .to) (set records k r))
       (arrayVal us ∷ []) is) is
 
   pub counted-good : (k : ℕ) (turn : Turn) → turn .refusal < 2 ^ 32

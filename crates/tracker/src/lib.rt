@@ -5,12 +5,12 @@
 ghost use mathlib.Core.List.{[], _∷_};
 ghost use Rattle.tracker_steps.specs.Steps.{lentOf};
 ghost use Rattle.tracker.specs.Batch.{BatchSays};
-use counters::Word;
 use model::ACCEPTED;
 use model::Arrival;
 use model::CoordinatorRecord;
 use model::Settings;
 use model::Sites;
+use model::Word;
 use tracker_steps::BatchAnswer;
 use tracker_steps::deliver_turn;
 use tracker_steps::open_batch;

@@ -144,9 +144,9 @@ module _ {settings : Settings} {answer : BatchAnswer} {lent : BatchLent}
     one-accepting =
         let chain = both-accepted (refusalIn settings network arrival) _ none in
         let places = passed
-        (ltb (room - length (u .batch .messages)) (mostMessages (settings .sites)))
+        (ltb (room - length (u .batch .messages)) (mostMessages settings))
         logTooShort _ (omega arith) (chain .later-accepted) in
-        let enough : mostMessages (settings .sites) ≤ room - length (u .batch .messages) =
+        let enough : mostMessages settings ≤ room - length (u .batch .messages) =
         ltb-false _ _ (places .test-failed) in
         record {
           fits = u .ready .fits;

@@ -45,7 +45,7 @@ same-refusal settings own site arrival same =
 pub placesRefusal-is : (settings : Settings) (own : SiteRecord) (arrival : Arrival)
     (numbers written : ℕ) (network : Network) (free : ℕ)
     → (arrival .site < settings .sites → own .arrivals ≡ siteAt network (arrival .site) .arrivals)
-    → numbers / 4 - written ≡ free
+    → numbers / messageWidth - written ≡ free
     → placesRefusal settings own arrival numbers written
     ≡ batchRefusal settings network free arrival
 placesRefusal-is settings own arrival numbers written network free same free-is =

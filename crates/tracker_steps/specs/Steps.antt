@@ -21,6 +21,7 @@ use Rattle.model.specs.declared.CoordinatorRecord.{CoordinatorRecord}
 use Rattle.model.specs.Choice.{if_then_else_, isZero}
 use Rattle.model.specs.Refusals.{when, _orElse_, accepted, logTooShort}
 use Rattle.model.specs.Limits.{mostSites, mostMessages}
+use Rattle.model.specs.Messages.{messageWidth}
 use Rattle.model.specs.Site.{arrivalRefusal}
 use Rattle.model.specs.Network.{afterArrival}
 use Rattle.model.specs.NetworkMemory.{allArrivals, networkRefusal}
@@ -73,13 +74,13 @@ pub record OpenSays
 abbrev pub placesRefusal : Settings → SiteRecord → Arrival → ℕ → ℕ → ℕ
 placesRefusal settings own arrival numbers written =
     arrivalRefusal settings (bareSite own) arrival
-    orElse when (ltb (numbers / 4 - written) (mostMessages (settings .sites))) logTooShort
+    orElse when (ltb (numbers / messageWidth - written) (mostMessages settings)) logTooShort
     orElse accepted
 
 -- The records written fit the log, and the network has no more sites than records.
 pub record PlacesAsk (settings : Settings) (written numbers : ℕ) : Type 0 where
   pub few-sites : settings .sites ≤ mostSites
-  pub written-within : written ≤ numbers / 4
+  pub written-within : written ≤ numbers / messageWidth
 
 -- The batch with one arrival more, taken with full delivery.
 abbrev pub withOne : Settings → Batch → Arrival → Batch

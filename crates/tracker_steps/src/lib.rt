@@ -5,15 +5,16 @@
 ghost use mathlib.Core.Path.{_≡_};
 ghost use Rattle.tracker_steps.specs.Steps.{OpenSays, OneAsks, OneSays, placesRefusal, PlacesAsk, lentOf};
 ghost use Rattle.tracker_steps.specs.Turns.{placeOf, refusedTurn, counted, TurnAsks, TurnSays, CountAsks, DeliverAsks, DeliverSays};
-use counters::Word;
 use model::ACCEPTED;
 use model::Arrival;
 use model::CoordinatorRecord;
 use model::LOG_TOO_SHORT;
+use model::MESSAGE_WIDTH;
 use model::MOST_SITES;
 use model::Settings;
 use model::SiteRecord;
 use model::Sites;
+use model::Word;
 use sending::Queue;
 
 // What the batch call answers: the refusal that stopped it or 0, the arrivals accepted, the
@@ -91,7 +92,7 @@ fn one_refusal(
     if of_site != ACCEPTED {
         return of_site;
     }
-    let free = ((numbers / 4) as u64) - written;
+    let free = ((numbers / MESSAGE_WIDTH) as u64) - written;
     if free < settings::most_messages(settings) {
         return LOG_TOO_SHORT;
     }

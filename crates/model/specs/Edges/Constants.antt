@@ -50,13 +50,13 @@ pub record ConstantEdges : Type 0 where
   pub estimate-limit : estimateLimit ≡ 96132000000000
   pub value-count-limit : valueCountLimit ≡ 132000000000
   -- "messages ≤ 25 × n", "150,000 × k × (binary digits of n, plus 1) / e rounded down"
-  pub messages-per-arrival : messagesPerArrival ≡ 25
-  pub allowance-factor : allowanceFactor ≡ 150000
+  pub messages-per-arrival : (settings : Settings) → messagesPerArrival settings ≡ 25
+  pub allowance-factor : (settings : Settings) → allowanceFactor settings ≡ 150000
   pub allowance-two-sites : allowance settingsP6 3 ≡ 9000
   pub allowance-rounded : allowance (settingsWith 1 7 1000 500 858 10) 0 ≡ 21428
   -- 39,000 × k + (33,000 + 5500 × 20) × k × (digits - 2)
-  pub firm-messages : firmMessages ≡ 39000
-  pub firm-messages-digit : firmMessagesPerDigit ≡ 143000
+  pub firm-messages : (settings : Settings) → firmMessages settings ≡ 39000
+  pub firm-messages-digit : (settings : Settings) → firmMessagesPerDigit settings ≡ 143000
   -- "as many as the halvings, each rounded down, that bring n to 0; 0 has no digits"
   pub digits-0 : digits 0 ≡ 0
   pub digits-1 : digits 1 ≡ 1
@@ -71,13 +71,13 @@ pub record ConstantEdges : Type 0 where
   pub list-too-short : listTooShort ≡ 12
   pub no-message : noMessage ≡ record { kind = 0; site = 0; a = 0; b = 0 }
   -- "At most 23 × k + 2 messages follow one draw": reached with one site and with two
-  pub most-messages-1 : mostMessages 1 ≡ 25
-  pub most-messages-2 : mostMessages 2 ≡ 48
+  pub most-messages-1 : mostMessages settingsA ≡ 25
+  pub most-messages-2 : mostMessages settingsTwo ≡ 48
   pub reached-1 : messagesOf settingsA (draws 5) draw ≡ messagesSixth
   pub reached-2 : length (messagesOf settingsTwo (take 11 twelve) (drawAt 1)) ≡ 48
   -- 24 × k + 2 steps: of P3's sixth draw the last of 26 hands over the kind 7, and it rests
-  pub most-steps-1 : mostSteps 1 ≡ 26
-  pub most-steps-2 : mostSteps 2 ≡ 50
+  pub most-steps-1 : mostSteps settingsA ≡ 26
+  pub most-steps-2 : mostSteps settingsTwo ≡ 50
   pub fuel-1 : deliveryFuel settingsA ≡ 60
   pub steps-25 : stepsOf settingsA (draws 5) draw 25 .waiting ≡ announcement 0 2 6 ∷ []
   pub steps-26 : stepsOf settingsA (draws 5) draw 26 .waiting ≡ []

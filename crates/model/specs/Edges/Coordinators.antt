@@ -8,7 +8,7 @@ use Rattle.model.specs.declared.Message.{Message}
 use Rattle.model.specs.declared.Phase.{Phase}
 use Rattle.model.specs.declared.Phase.the-variants.{Idle, Collecting, Probing, Announcing}
 use Rattle.model.specs.Settings.{settingsWith}
-use Rattle.model.specs.Messages.{message, itemReport, countReport, poll, pollAnswer, probe, probeAnswer, announcement}
+use Rattle.model.specs.Messages.{pollAnswerKind, message, itemReport, countReport, poll, pollAnswer, probe, probeAnswer, announcement}
 use Rattle.model.specs.Coordinator.{coordinatorRefusal, announcementRefusal}
 use Rattle.model.specs.CoordinatorMemory.{coordinatorMemoryRefusal}
 use Rattle.model.specs.Instances.{settingsP6}
@@ -144,7 +144,7 @@ pub record CoordinatorMessageEdges : Type 0 where
   pub count-class-1024 : refusalAt 2 Idle (countReport 1 2 1024) ≡ 10
   -- "4 not below it", and its b
   pub poll-threshold : refusalAt 2 (Collecting 1) (pollAnswer 1 2) ≡ 10
-  pub poll-b : refusalAt 2 (Collecting 1) (message 4 1 1 1) ≡ 10
+  pub poll-b : refusalAt 2 (Collecting 1) (message pollAnswerKind 1 1 1) ≡ 10
   -- "6 for another class or above 1,000,000,000"
   pub probed-less : refusalAt 2 probingOne (probeAnswer 1 510 5) ≡ 10
   pub probed-more : refusalAt 2 probingOne (probeAnswer 1 512 5) ≡ 10

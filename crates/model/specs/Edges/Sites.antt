@@ -6,7 +6,7 @@ use Prim.Native.Nat.{ℕ}
 use lib.ListN.{replicate}
 use Rattle.model.specs.declared.SiteRecord.{SiteRecord}
 use Rattle.model.specs.Settings.{settingsWith}
-use Rattle.model.specs.Messages.{message, itemReport, countReport, poll, pollAnswer, probe, probeAnswer, announcement}
+use Rattle.model.specs.Messages.{pollKind, probeKind, message, itemReport, countReport, poll, pollAnswer, probe, probeAnswer, announcement}
 use Rattle.model.specs.Counters.{Counter, unreported, find, leastPlace, placementFor, own, unused, replaced, countersAfter, afterReport}
 use Rattle.model.specs.Site.{Site, freshSite, arrivalRefusal, siteMessageRefusal, siteReceives}
 use Rattle.model.specs.SiteMemory.{siteMemoryRefusal}
@@ -111,9 +111,9 @@ pub record SiteMessageEdges : Type 0 where
   pub kind-8 : siteMessageRefusal settingsP6 freshSite 1 (message 8 1 0 0) ≡ 9
   pub value-1024 : siteMessageRefusal settingsP6 freshSite 1 (probe 1 1024) ≡ 7
   -- "an a or b that must be 0"
-  pub poll-a : siteMessageRefusal settingsP6 freshSite 1 (message 3 1 1 0) ≡ 10
-  pub poll-b : siteMessageRefusal settingsP6 freshSite 1 (message 3 1 0 1) ≡ 10
-  pub probe-b : siteMessageRefusal settingsP6 freshSite 1 (message 5 1 3 1) ≡ 10
+  pub poll-a : siteMessageRefusal settingsP6 freshSite 1 (message pollKind 1 1 0) ≡ 10
+  pub poll-b : siteMessageRefusal settingsP6 freshSite 1 (message pollKind 1 0 1) ≡ 10
+  pub probe-b : siteMessageRefusal settingsP6 freshSite 1 (message probeKind 1 3 1) ≡ 10
   -- "7 below the present threshold or above 1,000,000,000"
   pub same-threshold : siteMessageRefusal settingsP6 (siteAtThreshold 5) 1 (announcement 1 5 9) ≡ 0
   pub lower-threshold :
@@ -125,7 +125,7 @@ pub record SiteMessageEdges : Type 0 where
   -- "for a message 5, 9, .. 7, 10"
   pub five-before-nine : siteMessageRefusal settingsP6 freshSite 1 (itemReport 2 0 1) ≡ 5
   pub nine-before-seven : siteMessageRefusal settingsP6 freshSite 1 (probe 0 1024) ≡ 9
-  pub seven-before-ten : siteMessageRefusal settingsP6 freshSite 1 (message 5 1 1024 1) ≡ 7
+  pub seven-before-ten : siteMessageRefusal settingsP6 freshSite 1 (message probeKind 1 1024 1) ≡ 7
   -- "pending, then set to 0"; "draws at or below it"; kind 7 sets the threshold
   pub poll-answered : siteReceives (siteAfterFour 2) (poll 1) .messages ≡ pollAnswer 1 2 ∷ []
   pub poll-clears : siteReceives (siteAfterFour 2) (poll 1) .site ≡ siteAfterFour 0

@@ -6,7 +6,7 @@ use native.Mathlib.Nat.{mul-le-mul}
 use native.Mathlib.Omega.{arith}
 use borrow.Author.Needs.{needs}
 use borrow.Author.Tests.{eq-eqb, ne-eqb}
-use Rattle.model.specs.Limits.{mostSites}
+use Rattle.model.specs.Limits.{mostSites, allowanceFactor}
 use Rattle.model.specs.Settings.{settingsRefusal}
 use Rattle.model.proofs.SettingsLaws.{settled}
 use Rattle.model.proofs.Digits.{digits-bound}
@@ -70,7 +70,7 @@ returns-2 c =
       refusal = sym none;
       messages =
           rw (eq-eqb (settingsRefusal s) 0 none)
-          (ap (λ (n : ℕ). 150000 * (s .sites * (n + 1)) / s .epsilon)
+          (ap (λ (n : ℕ). allowanceFactor s * (s .sites * (n + 1)) / s .epsilon)
           (c .before .before .count-digits .ensures));
     }
 

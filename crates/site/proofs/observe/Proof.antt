@@ -13,8 +13,8 @@ returns c =
     let a = start .args in
     let tested = at-observe-refusal .observe-refusal in
     observe-refused (a .settings) (a .site) (a .arrival) (a .memory .now)
-    (tested .result) (c .make-message .result) (tested .ensures) (at-if1 .if1 .taken)
-    (c .make-message .ensures)
+    (tested .result) (c .no-message .result) (tested .ensures) (at-if1 .if1 .taken)
+    (c .no-message .ensures)
 
 observe-step-requires : tie.Need-observe-step-requires
 observe-step-requires c κs =

@@ -8,8 +8,8 @@ use Rattle.site.proofs.receive.Tie as tie
 receive-refusal-requires : tie.Need-receive-refusal-requires
 receive-refusal-requires c κs = search needs
 
-make-message-requires : tie.Need-make-message-requires
-make-message-requires c κs = search needs
+no-message-requires : tie.Need-no-message-requires
+no-message-requires c κs = search needs
 
 returns : tie.Need-returns
 returns c =
@@ -19,8 +19,8 @@ returns c =
     let a = start .args in
     let tested = at-receive-refusal .receive-refusal in
     receive-refused (a .settings) (a .site) (a .which) (a .message) (a .memory .now)
-    (tested .result) (c .make-message .result) (tested .ensures) (at-if1 .if1 .taken)
-    (c .make-message .ensures)
+    (tested .result) (c .no-message .result) (tested .ensures) (at-if1 .if1 .taken)
+    (c .no-message .ensures)
 
 receive-step-requires : tie.Need-receive-step-requires
 receive-step-requires c κs =
@@ -44,7 +44,7 @@ receive-spec =
     tie.close
     (tie.spec
     receive-refusal-requires
-    make-message-requires
+    no-message-requires
     returns
     receive-step-requires
     returns-2)

@@ -4,8 +4,8 @@ use borrow.Author.Needs.{needs}
 use Rattle.site_steps.proofs.gather.Statement.{statement}
 use Rattle.site_steps.proofs.gather.Tie as tie
 
-make-message-requires : tie.Need-make-message-requires
-make-message-requires c κs = search needs
+no-message-requires : tie.Need-no-message-requires
+no-message-requires c κs = search needs
 
 returns : tie.Need-returns
 returns c =
@@ -24,7 +24,7 @@ returns-2 c =
       site = refl;
       count = rw (c .before .if1 .taken, c .if2 .left);
       first = rw (c .before .if1 .taken);
-      second = rw (c .before .if1 .taken, c .if2 .left) (c .before .before .make-message .ensures);
+      second = rw (c .before .if1 .taken, c .if2 .left) (c .before .before .no-message .ensures);
     }
 
 returns-3 : tie.Need-returns-3
@@ -34,7 +34,7 @@ returns-3 c =
       site = refl;
       count = rw (c .before .if1 .left, c .if3 .taken);
       first = rw (c .before .if1 .left, c .if3 .taken);
-      second = rw (c .before .if1 .left, c .if3 .taken) (c .before .before .make-message .ensures);
+      second = rw (c .before .if1 .left, c .if3 .taken) (c .before .before .no-message .ensures);
     }
 
 returns-4 : tie.Need-returns-4
@@ -43,9 +43,9 @@ returns-4 c =
       refusal = refl;
       site = refl;
       count = rw (c .before .if1 .left, c .if3 .left);
-      first = rw (c .before .if1 .left, c .if3 .left) (c .before .before .make-message .ensures);
-      second = rw (c .before .if1 .left, c .if3 .left) (c .before .before .make-message .ensures);
+      first = rw (c .before .if1 .left, c .if3 .left) (c .before .before .no-message .ensures);
+      second = rw (c .before .if1 .left, c .if3 .left) (c .before .before .no-message .ensures);
     }
 
 pub gather-spec : {M : Type 1} → statement M
-gather-spec = tie.close (tie.spec make-message-requires returns returns-2 returns-3 returns-4)
+gather-spec = tie.close (tie.spec no-message-requires returns returns-2 returns-3 returns-4)

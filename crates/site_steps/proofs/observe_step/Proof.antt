@@ -6,15 +6,15 @@ use Rattle.site_steps.proofs.observe_step.Tie as tie
 
 same-length : tie.Need-same-length
 same-length c =
-    let earlier = c .before .before .before .before .before .before .before in
+    let earlier = c .before .before .before .before .before .before in
     let at-store-arrival = earlier .before .before .before .before in
     at-store-arrival .store-arrival .kept .1 .1 .1 .0
 
 returns : tie.Need-returns
 returns c =
-    let at-make-message2 = c .before in
-    let at-make-message = at-make-message2 .before in
-    let at-pending-after = at-make-message .before .before in
+    let at-count-report-of = c .before in
+    let at-item-report-of = at-count-report-of .before in
+    let at-pending-after = at-item-report-of .before in
     let at-value-reported = at-pending-after .before .before in
     let at-store-arrival = at-value-reported .before .before .before .before .before in
     let start = at-store-arrival .before .before .before in
@@ -24,9 +24,9 @@ returns c =
     (stored .result) (stored .ensures)
     (at-pending-after .pending-after .result) (at-value-reported .value-reported .result)
     (at-pending-after .pending-after .ensures) (at-value-reported .value-reported .ensures)
-    (at-make-message .make-message .result) (at-make-message2 .make-message2 .result)
+    (at-item-report-of .item-report-of .result) (at-count-report-of .count-report-of .result)
     (c .gather .result)
-    (at-make-message .make-message .ensures) (at-make-message2 .make-message2 .ensures)
+    (at-item-report-of .item-report-of .ensures) (at-count-report-of .count-report-of .ensures)
     (c .gather .ensures)
 
 pub observe-step-spec : {M : Type 1} → statement M
@@ -34,7 +34,6 @@ observe-step-spec =
     tie.close
     (tie.spec
     (λ c κs. search needs) (λ c. search needs) (λ c κs. search needs) (λ c. search needs)
-    (λ c κs. search needs) (λ c. search needs) (λ c κs. search needs)
-    (λ c κs. search needs) (λ c κs. search needs)
+    (λ c κs. search needs) (λ c κs. search needs) (λ c κs. search needs) (λ c κs. search needs)
     same-length
     returns)

@@ -3,7 +3,7 @@ use mathlib.Core.Path.{refl, ap, _∙_}
 use native.Mathlib.Omega.{arith}
 use borrow.Author.Tests.{eq-eqb, ne-eqb}
 use borrow.Author.Needs.{needs}
-use Rattle.model.specs.Messages.{message}
+use Rattle.model.specs.Messages.{pollKind, probeKind, probeAnswer}
 use Rattle.model.proofs.SettingsLaws.{settled}
 use Rattle.model.proofs.ReportLaws.{value-counted}
 use Rattle.site_steps.proofs.ReceiveLaws.{record-with}
@@ -15,12 +15,12 @@ returns c =
     let at-if1 = c .before in
     let start = at-if1 .before .before .before in
     let a = start .args in
-    let poll = eq-eqb (a .message .kind) 3 (at-if1 .if1 .taken) in
+    let poll = eq-eqb (a .message .kind) pollKind (at-if1 .if1 .taken) in
     record {
       refusal = refl;
       site = rw poll (record-with (a .site) (a .memory .now) 0 (a .site .threshold));
       count = rw poll;
-      reply = rw poll (c .make-message .ensures);
+      reply = rw poll (c .poll-answer-of .ensures);
     }
 
 mul-from : tie.Need-mul-from
@@ -38,7 +38,7 @@ count-up-to-requires c κs =
     let start = at-if2 .before .before .before .before .before in
     let a = start .args in
     let asks = start .pre in
-    let probe = eq-eqb (a .message .kind) 5 (at-if2 .if2 .taken) in
+    let probe = eq-eqb (a .message .kind) probeKind (at-if2 .if2 .taken) in
     record {
       long-enough = asks .ready .long-enough;
       value-within = value-counted (a .message .a) (asks .value-known probe);
@@ -51,16 +51,16 @@ returns-2 c =
     let at-if1 = at-if2 .before .before in
     let start = at-if1 .before .before .before in
     let a = start .args in
-    let not-poll = ne-eqb (a .message .kind) 3 (at-if1 .if1 .left) in
-    let probe = eq-eqb (a .message .kind) 5 (at-if2 .if2 .taken) in
+    let not-poll = ne-eqb (a .message .kind) pollKind (at-if1 .if1 .left) in
+    let probe = eq-eqb (a .message .kind) probeKind (at-if2 .if2 .taken) in
     record {
       refusal = refl;
       site = rw (not-poll, probe)
           (record-with (a .site) (a .memory .now) (a .site .pending) (a .site .threshold));
       count = rw (not-poll, probe);
       reply = rw (not-poll, probe)
-          (c .make-message2 .ensures
-          ∙ ap (message 6 (a .message .site) (a .message .a))
+          (c .probe-answer-of .ensures
+          ∙ ap (probeAnswer (a .message .site) (a .message .a))
           (at-count-up-to .count-up-to .ensures));
     }
 
@@ -70,14 +70,14 @@ returns-3 c =
     let at-if1 = at-if2 .before .before in
     let start = at-if1 .before .before .before in
     let a = start .args in
-    let not-poll = ne-eqb (a .message .kind) 3 (at-if1 .if1 .left) in
-    let not-probe = ne-eqb (a .message .kind) 5 (at-if2 .if2 .left) in
+    let not-poll = ne-eqb (a .message .kind) pollKind (at-if1 .if1 .left) in
+    let not-probe = ne-eqb (a .message .kind) probeKind (at-if2 .if2 .left) in
     record {
       refusal = refl;
       site = rw (not-poll, not-probe)
           (record-with (a .site) (a .memory .now) (a .site .pending) (a .message .a));
       count = rw (not-poll, not-probe);
-      reply = rw (not-poll, not-probe) (c .make-message3 .ensures);
+      reply = rw (not-poll, not-probe) (c .no-message .ensures);
     }
 
 pub receive-step-spec : {M : Type 1} → statement M

@@ -10,10 +10,12 @@ returns : tie.Need-returns
 returns c =
     let at-write = c .before .before .before .before in
     let at-call = at-write .before .before .before .before .before in
-    let at-if1 = at-call .before .before in
+    let at-message = at-call .before .before in
+    let at-if1 = at-message .before in
     let opens = at-if1 .before .open-coordinator .ensures .opens in
     let fit = at-if1 .if1 .taken in
-    let says = rw (opens .made fit) at (at-call .receive .ensures) in
+    let says =
+    rw (opens .made fit, at-message .message-of .ensures) at (at-call .receive .ensures) in
     hands opens fit _ (says .refusal) says (at-write .write-received .ensures)
 
 returns-2 : tie.Need-returns-2
@@ -23,8 +25,8 @@ pub testing-receive-at-coordinator-spec : {M : Type 1} → statement M
 testing-receive-at-coordinator-spec =
     tie.close
     (tie.spec
-    (λ c κs. search needs) (λ c κs. search needs) (λ c κs. (search room, search room))
-    (λ c. search needs) (λ c. search needs) (λ c. search needs)
+    (λ c κs. search needs) (λ c κs. search needs) (λ c κs. search needs)
+    (λ c κs. (search room, search room)) (λ c. search needs) (λ c. search needs) (λ c. search needs)
     returns
     (λ c. search needs)
     returns-2)

@@ -34,13 +34,12 @@ use Rattle.tracker_steps.proofs.BatchAnswer.Laws as K′
 use Rattle.tracker_steps.proofs.Turn as N
 use Rattle.tracker.proofs.Frame.{Places}
 use Rattle.tracker.proofs.InArray.{elem}
-use Rattle.tracker.proofs.Records.{VR, VK, VN, values, length-values, values-set, many-records, turn-refusal-fits, turn-record-good, counted-good}
+use Rattle.tracker.proofs.Records.{VR, VK, VN, recordSize, recordsPlace, values, length-values, values-set, many-records, turn-refusal-fits, turn-record-good, counted-good}
 use Rattle.tracker.proofs.run_batch.Proof.Parameters.{VD, Called, Point, answered, Logic}
 use Rattle.tracker.proofs.run_batch.Proof.Locals.{cell, locals, Told, Counted, Left}
 use Rattle.tracker.proofs.run_batch.Proof.Sending.{taken, sending}
 
--- A site's record is 32 bytes.
-pub record-fits : (k : ℕ) → k < mostSites → k * 32 < 2 ^ 64
+pub record-fits : (k : ℕ) → k < mostSites → k * recordSize < 2 ^ 64
 record-fits k within = omega (arith, within)
 
 -- The answer's value, with other values of its records.
@@ -67,7 +66,7 @@ module _ {M : Type 1} (logic : Logic M) (f : Called) (l : Places) (i : ℕ) (tur
   counts s a within asks k =
       let next = counted (s .answer) (placeOf a) turn in
       let records = s .answer .sites .records in
-      let many : length (values records) ≡ 32 =
+      let many : length (values records) ≡ mostSites =
       length-values records ∙ many-records (s .answer) (s .good) in
       let inside : placeOf a < length (values records) =
       subst (λ (n : ℕ). placeOf a < n) (sym many) within in
@@ -82,7 +81,7 @@ module _ {M : Type 1} (logic : Logic M) (f : Called) (l : Places) (i : ℕ) (tur
       (load ! (from ! (stop !)) (look ! (cell 20) refl)) tt) (from ! (stop !))
       (init ! (cell 32) refl (tt, tt)) $
       rewrite ! (cell 32) (λ (z : ℕ). ‵ (fat fullShare tyPtr (l 32) 0 (vptr (l 8) z)))
-      (sym (place-is 32 24 (placeOf a))) refl $
+      (sym (place-is recordSize recordsPlace (placeOf a))) refl $
       -- the record is stored in its place
       assigns ! (of-opd ! (load ! (from ! (fld ! refl (stop !)))
       (look-in ! (cell 13) (sub ! 2 refl (whole !))))) (from ! (hop ! (look ! (cell 32) refl)

@@ -17,6 +17,7 @@ use mir.Syntax.{named, w64, tyPtr, tyBool, tyInt}
 use mir.Val.{Val, vint, vptr, vbool, WT, hasTy}
 use base.Logic.{SProp, ent, id⊢}
 use base.Fml.{ftrue, fat}
+use prog.Memory.{size}
 use prog.Wp.{Wp, afterTurn}
 use types.Kit.{‵, raw, ⋆, anyQ, Sq, runs, _$_, _∵_, !, qed, drop, use0, rewrite}
 use types.Part.{whole, sub, look-in}
@@ -31,6 +32,7 @@ use denote.Struct.Laws as LL
 use denote.Triple.Call.{calls-at}
 use denote.Triple.Clauses.{lasts}
 use Rattle.model.specs.declared.Arrival.{Arrival}
+use Rattle.model.specs.Limits.{mostSites}
 use Rattle.site_memory.specs.Records.{noRecord}
 use Rattle.tracker_steps.specs.Steps.{OneAsks, OneSays}
 use Rattle.tracker_steps.specs.Turns.{placeOf, ownOf, TurnAsks, TurnSays}
@@ -44,7 +46,7 @@ use Rattle.tracker.proofs.Frame.{Places}
 use Rattle.tracker.proofs.Elem.{elem-opens, elem-shuts}
 use Rattle.tracker.proofs.InArray.{elem}
 use Rattle.tracker.proofs.Promised.{promised}
-use Rattle.tracker.proofs.Records.{VR, values, length-values, values-at, many-records, refusal-fits, record-good}
+use Rattle.tracker.proofs.Records.{VR, recordSize, recordsPlace, values, length-values, values-at, many-records, refusal-fits, record-good}
 use Rattle.tracker_steps.proofs.place_of as finding
 use Rattle.tracker.proofs.run_batch.Code.Mir as m
 use Rattle.tracker.proofs.run_batch.Proof.Parameters.{VT, Called, Typed, none, Point, answered, Finds, Logic}
@@ -54,8 +56,11 @@ use Rattle.tracker.proofs.run_batch.Proof.Sending.{work, seen, sends}
 use Rattle.tracker.proofs.run_batch.Proof.Counting.{record-fits, counts}
 use Rattle.tracker.proofs.run_batch.Proof.Taking.{moved, takes-turn}
 
--- An arrival is 12 bytes.
-offset-fits : (i n : ℕ) → i < n → n * 12 < 2 ^ 63 → i * 12 < 2 ^ 64
+-- An arrival's bytes.
+abbrev arrivalSize : ℕ
+arrivalSize = size T′.mir
+
+offset-fits : (i n : ℕ) → i < n → n * arrivalSize < 2 ^ 63 → i * arrivalSize < 2 ^ 64
 offset-fits i n within room = omega (arith, within, room)
 
 module _ {M : Type 1} (logic : Logic M) (f : Called) (ok : Typed f) (l : Places) (i : ℕ)
@@ -75,7 +80,7 @@ module _ {M : Type 1} (logic : Logic M) (f : Called) (ok : Typed f) (l : Places)
   reads goes-on k =
       let n = length (f .arrivals .list) in
       let records = s .answer .sites .records in
-      let many : length (values records) ≡ 32 =
+      let many : length (values records) ≡ mostSites =
       length-values records ∙ many-records (s .answer) (s .good) in
       let inside : placeOf arrival < length (values records) =
       subst (λ (n : ℕ). placeOf arrival < n) (sym many) (place-within arrival) in
@@ -115,7 +120,7 @@ module _ {M : Type 1} (logic : Logic M) (f : Called) (ok : Typed f) (l : Places)
       (from ! (stop !)) (init ! (cell 23) refl (tt, tt)) $
       rewrite ! (cell 23)
       (λ (z : ℕ). ‵ (fat fullShare tyPtr (l 23) 0 (vptr (f .arrivals .block) z)))
-      (sym (place-is 12 (f .arrivals .offset) i)) refl $
+      (sym (place-is arrivalSize (f .arrivals .offset) i)) refl $
       elem-opens T.the-row (LL.vals T.the-type T′.the-laws) none (f .arrivals) i ! tt (named 0)
       (LL.tells T.the-type T′.the-laws) (LL.copy T.the-type T′.the-copy 𝓤 H A W) within (λ q′ is.
       assigns ! (of-opd ! (load ! (from ! (hop ! (look ! (cell 23) refl) (stop !)))
@@ -149,7 +154,7 @@ module _ {M : Type 1} (logic : Logic M) (f : Called) (ok : Typed f) (l : Places)
       (load ! (from ! (stop !)) (look ! (cell 20) refl)) tt) (from ! (stop !))
       (init ! (cell 26) refl (tt, tt)) $
       rewrite ! (cell 26) (λ (z : ℕ). ‵ (fat fullShare tyPtr (l 26) 0 (vptr (l 8) z)))
-      (sym (place-is 32 24 (placeOf arrival))) refl $
+      (sym (place-is recordSize recordsPlace (placeOf arrival))) refl $
       assigns ! (of-opd ! (load ! (from ! (hop ! (look ! (cell 26) refl) (stop !)))
       (look-in ! (cell 8) (elem ! (values records) (placeOf arrival) (VR noRecord) inside many
       (sub ! 0 refl (sub ! 3 refl (whole !))))))) (from ! (stop !))

@@ -6,7 +6,6 @@
 --   counters-read       counters written in front are read back
 --   counterAt-countersIn   one counter of these
 --   setCounter-set      a counter stored at a place in use
---   setCounter-append   a counter stored at the next unused place
 --   set-reported        the last number of a counter set
 --   overwrite-set, overwrite-append   the same, over the memory that the counters were read from
 use Prim.Native.Nat.{ℕ, zero, suc, _+_, _*_, _<_, _≤_}
@@ -16,6 +15,7 @@ use native.Mathlib.Omega.{arith}
 use lib.ListN.{length, set, drop, length-set}
 use lib.Seq.{getD-drop}
 use Rattle.laws.proofs.FlatMemory.{four, four-suc}
+use Rattle.laws.proofs.Fronts.{overwritten-sets, four-stores}
 use Rattle.model.specs.Counters.{Counter, counterAt}
 use Rattle.model.specs.SiteMemory.{countersIn, counterNumbers, overwrite}
 use Rattle.counters.specs.Stored.{storedAt, setCounter}
@@ -97,14 +97,6 @@ setCounter-set (counter ∷ counters) rest (suc i) x within =
     setCounter-suc counter x (counterNumbers counters ++ rest) i
     ∙ ap (in-front counter) (setCounter-set counters rest i x (omega arith))
 
-pub setCounter-append : (counters : List Counter) (old x : Counter) (rest : List ℕ)
-    → setCounter (counterNumbers counters ++ in-front old rest) (length counters) x
-    ≡ counterNumbers (counters ++ (x ∷ [])) ++ rest
-setCounter-append [] old x rest = refl
-setCounter-append (counter ∷ counters) old x rest =
-    setCounter-suc counter x (counterNumbers counters ++ in-front old rest) (length counters)
-    ∙ ap (in-front counter) (setCounter-append counters old x rest)
-
 -- A counter with another reported number.
 abbrev pub withReported : Counter → ℕ → Counter
 withReported counter reported = record {
@@ -142,22 +134,22 @@ module _ (n : ℕ) (memory : List ℕ) (fits : 4 * n ≤ length memory) where
       ∙ sym (setCounter-set counters rest i x inside)
       ∙ ap (λ (l : List ℕ). setCounter l i x) (counters-kept n memory fits)
 
+-- One counter more.
+counterNumbers-snoc : (counters : List Counter) (x : Counter)
+    → counterNumbers counters ++ counterNumbers (x ∷ []) ≡ counterNumbers (counters ++ (x ∷ []))
+counterNumbers-snoc [] x = refl
+counterNumbers-snoc (counter ∷ counters) x = ap (in-front counter) (counterNumbers-snoc counters x)
+
 pub overwrite-append : (n : ℕ) (memory : List ℕ) (x : Counter)
     → 4 * n + 4 ≤ length memory
     → overwrite (counterNumbers (countersIn n memory ++ (x ∷ []))) memory ≡ setCounter memory n x
-overwrite-append zero memory x fits = let parts = four memory (omega arith) in rw (parts .whole)
-overwrite-append (suc n) memory x fits =
-    let parts = four memory (omega arith) in
-    let first : Counter = record {
-      item = parts .first;
-      count = parts .second;
-      overestimate = parts .third;
-      reported = parts .fourth;
-    } in
-    let shorter : 4 * n + 4 ≤ length (parts .rest) = omega (arith, ap length (parts .whole)) in
-    subst⁻¹
-    (λ (m : List ℕ).
-    overwrite (counterNumbers (countersIn (suc n) m ++ (x ∷ []))) m ≡ setCounter m (suc n) x)
-    (parts .whole)
-    (ap (in-front first) (overwrite-append n (parts .rest) x shorter)
-    ∙ sym (setCounter-suc first x (parts .rest) n))
+overwrite-append n memory x fits =
+    let counters = countersIn n memory in
+    let width : length (counterNumbers counters) ≡ 4 * n =
+    length-counterNumbers counters ∙ ap (λ (l : ℕ). 4 * l) (length-countersIn n memory) in
+    ap (λ (l : List ℕ). overwrite l memory) (sym (counterNumbers-snoc counters x))
+    ∙ sym (overwritten-sets (counterNumbers counters) (counterNumbers (x ∷ [])) memory (4 * n)
+    width fits)
+    ∙ sym (four-stores (overwrite (counterNumbers counters) memory) (4 * n)
+    (x .item) (x .count) (x .overestimate) (x .reported))
+    ∙ ap (λ (l : List ℕ). setCounter l n x) (counters-kept n memory (omega arith))

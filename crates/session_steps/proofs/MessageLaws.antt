@@ -12,10 +12,9 @@ use lib.Seq.{getD-drop, drop-drop}
 use Rattle.model.specs.declared.Message.{Message}
 use Rattle.model.specs.Messages.{message}
 use Rattle.model.specs.Transcript.{messageLine, messageLines}
-use Rattle.lines.specs.Contracts.{RecordWritten}
+use Rattle.lines.specs.Contracts.{Written, writtenTo, atStart, linesAfter, RecordWritten}
 use Rattle.tracker.specs.Batch.{messagesIn}
-use Rattle.session_steps.specs.Output.{Written, writtenTo, atStart, linesAfter, linesOf, MessagesWritten}
-use Rattle.session_steps.proofs.OutputLaws.{line-written}
+use Rattle.session_steps.specs.Output.{linesOf, MessagesWritten}
 
 -- The messages of the log that are left.
 abbrev left : List ℕ → ℕ → ℕ → List Message
@@ -73,7 +72,6 @@ module _ (log : List ℕ) (count : ℕ) (first before after : List ℕ) (place d
       let more = count - (done + 1) in
       let m = message (getD log (4 * done) 0) (getD log (4 * done + 1) 0)
       (getD log (4 * done + 2) 0) (getD log (4 * done + 3) 0) in
-      let now = line-written (messageLine m) place before after next (written .written) in
       let one-more : count - done ≡ suc more = omega arith in
       let after-it : 4 * done + 4 ≡ 4 * (done + 1) = omega arith in
       let split : left log count done ≡ m ∷ left log count (done + 1) =
@@ -85,7 +83,8 @@ module _ (log : List ℕ) (count : ℕ) (first before after : List ℕ) (place d
         within = omega arith;
         log-long = far .log-long;
         comes-to =
-            ap (λ (w : Written). linesAfter w (linesOf (left log count (done + 1)))) now
+            ap (λ (w : Written). linesAfter w (linesOf (left log count (done + 1))))
+            (written .written .is)
             ∙ ap (λ (ms : List Message). linesAfter (writtenTo place before) (linesOf ms))
             (sym split)
             ∙ far .comes-to;

@@ -1,15 +1,13 @@
 -- The entry points: their chains of refusals, and what they hand back by these.
 --
---   Cleared, cleared-on                                the walk that clears the memory
 --   fresh-memory                                       the fresh coordinator is zeros alone
 --   start-long, step-asks, announce-asks               what an accepted call may hand to a step
 --   hands-refused, hands-accepted                      the record `Hands`
 use mathlib.Core.Path.{_≡_, ap, sym, _∙_}
 use mathlib.Core.List.{List}
-use Prim.Native.Nat.{ℕ, _+_, _≤_, _<_}
+use Prim.Native.Nat.{ℕ, _≤_}
 use native.Mathlib.Omega.{arith}
-use lib.ListN.{length, set, replicate, length-set, replicate-append-replicate}
-use Rattle.laws.proofs.FlatMemory.{filled-on}
+use lib.ListN.{replicate, replicate-append-replicate}
 use Rattle.model.specs.declared.Settings.{Settings}
 use Rattle.model.specs.declared.Message.{Message}
 use Rattle.model.specs.declared.CoordinatorRecord.{CoordinatorRecord}
@@ -31,32 +29,13 @@ use Rattle.coordinator_tests.proofs.ReadyLaws.{ready-of-consistent}
 
 -- ---- The fresh coordinator in memory
 
--- While the memory is cleared: zeros up to place i, and from there the numbers as they were.
-pub record Cleared (before now : List ℕ) (count i : ℕ) : Type 0 where
-  pub place : i ≤ count
-  pub same-length : length now ≡ length before
-  pub cleared : now ≡ overwrite (replicate i 0) before
-
-module _ (before : List ℕ) where
-  pub cleared-on : (now : List ℕ) (count i : ℕ)
-      → Cleared before now count i
-      → i < count
-      → count ≤ length before
-      → Cleared before (set now i 0) count (i + 1)
-  cleared-on now count i so-far more fits = record {
-    place = omega arith;
-    same-length = length-set now i 0 ∙ so-far .same-length;
-    cleared = ap (λ (l : List ℕ). set l i 0) (so-far .cleared)
-        ∙ filled-on before i 0 (omega arith);
-  }
-
-  -- The fresh coordinator is zeros alone.
-  pub fresh-memory : (settings : Settings)
-      → overwrite (replicate (coordinatorWords settings) 0) before
-      ≡ coordinatorMemory (freshCoordinator settings) before
-  fresh-memory settings =
-      ap (λ (l : List ℕ). overwrite l before)
-      (sym (replicate-append-replicate (settings .universe) valueCount 0))
+-- The fresh coordinator is zeros alone.
+pub fresh-memory : (before : List ℕ) (settings : Settings)
+    → overwrite (replicate (coordinatorWords settings) 0) before
+    ≡ coordinatorMemory (freshCoordinator settings) before
+fresh-memory before settings =
+    ap (λ (l : List ℕ). overwrite l before)
+    (sym (replicate-append-replicate (settings .universe) valueCount 0))
 
 -- ---- What an accepted call may hand to a step
 

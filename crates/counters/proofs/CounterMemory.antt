@@ -15,6 +15,7 @@ use native.Mathlib.Omega.{arith}
 use lib.ListN.{length, set, drop, length-set}
 use lib.Seq.{getD-drop}
 use Rattle.laws.proofs.FlatMemory.{four, four-suc}
+use Rattle.laws.proofs.Fronts.{overwritten-sets, four-stores}
 use Rattle.model.specs.Counters.{Counter, counterAt}
 use Rattle.model.specs.SiteMemory.{countersIn, counterNumbers, overwrite}
 use Rattle.model.proofs.ConsistentSites.{length-countersIn}
@@ -130,22 +131,22 @@ module _ (n : ℕ) (memory : List ℕ) (fits : 4 * n ≤ length memory) where
       ∙ sym (setCounter-set counters rest i x inside)
       ∙ ap (λ (l : List ℕ). setCounter l i x) (counters-kept n memory fits)
 
+-- One counter more.
+counterNumbers-snoc : (counters : List Counter) (x : Counter)
+    → counterNumbers counters ++ counterNumbers (x ∷ []) ≡ counterNumbers (counters ++ (x ∷ []))
+counterNumbers-snoc [] x = refl
+counterNumbers-snoc (counter ∷ counters) x = ap (in-front counter) (counterNumbers-snoc counters x)
+
 pub overwrite-append : (n : ℕ) (memory : List ℕ) (x : Counter)
     → 4 * n + 4 ≤ length memory
     → overwrite (counterNumbers (countersIn n memory ++ (x ∷ []))) memory ≡ setCounter memory n x
-overwrite-append zero memory x fits = let parts = four memory (omega arith) in rw (parts .whole)
-overwrite-append (suc n) memory x fits =
-    let parts = four memory (omega arith) in
-    let first : Counter = record {
-      item = parts .first;
-      count = parts .second;
-      overestimate = parts .third;
-      reported = parts .fourth;
-    } in
-    let shorter : 4 * n + 4 ≤ length (parts .rest) = omega (arith, ap length (parts .whole)) in
-    subst⁻¹
-    (λ (m : List ℕ).
-    overwrite (counterNumbers (countersIn (suc n) m ++ (x ∷ []))) m ≡ setCounter m (suc n) x)
-    (parts .whole)
-    (ap (in-front first) (overwrite-append n (parts .rest) x shorter)
-    ∙ sym (setCounter-suc first x (parts .rest) n))
+overwrite-append n memory x fits =
+    let counters = countersIn n memory in
+    let width : length (counterNumbers counters) ≡ 4 * n =
+    length-counterNumbers counters ∙ ap (λ (l : ℕ). 4 * l) (length-countersIn n memory) in
+    ap (λ (l : List ℕ). overwrite l memory) (sym (counterNumbers-snoc counters x))
+    ∙ sym (overwritten-sets (counterNumbers counters) (counterNumbers (x ∷ [])) memory (4 * n)
+    width fits)
+    ∙ sym (four-stores (overwrite (counterNumbers counters) memory) (4 * n)
+    (x .item) (x .count) (x .overestimate) (x .reported))
+    ∙ ap (λ (l : List ℕ). setCounter l n x) (counters-kept n memory (omega arith))

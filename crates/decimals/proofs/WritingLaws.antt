@@ -1,59 +1,19 @@
--- Laws of bytes written over others from a place on.
+-- Laws of a number's digits written from a place on.
 --
---   length-written   the bytes keep their number
---   written-one      one byte written
---   written-snoc     one byte more, right after those written
---   digit-more       the last digit of a number, right after those of its tenth
+--   same-length, last-inside   the digits of a tenth are written: room for the last digit
+--   digit-more                 the last digit of a number, right after those of its tenth
+--   not-written, all-written   the answer where the digits don't fit, and where they do
 use mathlib.Core.Path.{_≡_, sym, ap, _∙_}
-use mathlib.Core.List.{List, [], _∷_, _++_, append-assoc}
-use Prim.Native.Nat.{ℕ, suc, _+_, _-_, _/_, _%_, _≤_, _<_}
-use native.Mathlib.Numerals.{add-one}
+use mathlib.Core.List.{List, [], _∷_, _++_}
+use Prim.Native.Nat.{ℕ, _+_, _/_, _%_, _≤_, _<_}
 use native.Mathlib.Omega.{arith}
-use lib.ListN.{length, getD, take, drop, set, length-append, length-drop}
+use lib.ListN.{length, set}
 use borrow.Author.Tests.{le-leb, lt-leb}
-use lib.Seq.{set-split, set-at, drop-cons, append-snoc, length-take-le}
+use Rattle.laws.specs.Writing.{writtenAt, Put}
+use Rattle.laws.proofs.Writing.{written-snoc, put-length}
 use Rattle.model.specs.Decimal.{decimal, digitByte}
 use Rattle.model.proofs.DecimalLaws.{decimal-large, length-decimal-large}
-use Rattle.decimals.specs.Contracts.{writtenAt, DigitsPut, DecimalSays}
-
-pub length-written : (place : ℕ) (written bytes : List ℕ)
-    → place + length written ≤ length bytes
-    → length (writtenAt place written bytes) ≡ length bytes
-length-written place written bytes fits =
-    simp (length-append, length-drop) (omega (arith, length-take-le place bytes (omega arith)))
-
--- Where the bytes before a place and those written there end.
-length-front : (place : ℕ) (written bytes : List ℕ)
-    → place + length written ≤ length bytes
-    → length (take place bytes ++ written) ≡ place + length written
-length-front place written bytes fits =
-    simp length-append (omega (arith, length-take-le place bytes (omega arith)))
-
-pub written-one : (place byte : ℕ) (bytes : List ℕ)
-    → place < length bytes
-    → set bytes place byte ≡ writtenAt place (byte ∷ []) bytes
-written-one place byte bytes inside =
-    set-split bytes place byte inside
-    ∙ sym (append-snoc (take place bytes) byte (drop (suc place) bytes))
-    ∙ ap (λ (n : ℕ). take place bytes ++ (byte ∷ []) ++ drop n bytes) (sym (add-one place))
-
--- The byte lands right after the front, and the front with it is the longer front.
-pub written-snoc : (place byte : ℕ) (written bytes : List ℕ)
-    → place + length written < length bytes
-    → set (writtenAt place written bytes) (place + length written) byte
-    ≡ writtenAt place (written ++ (byte ∷ [])) bytes
-written-snoc place byte written bytes inside =
-    let next = place + length written in
-    let front = take place bytes ++ written in
-    let rest = drop (suc next) bytes in
-    let longer : suc next ≡ place + length (written ++ (byte ∷ []))
-    = omega (arith, length-append written (byte ∷ [])) in
-    ap (λ (end : List ℕ). set (front ++ end) next byte) (drop-cons bytes next 0 inside)
-    ∙ set-at front (getD bytes next 0) rest byte next
-    (length-front place written bytes (omega arith))
-    ∙ sym (append-snoc front byte rest)
-    ∙ ap (λ (end : List ℕ). end ++ rest) (append-assoc (take place bytes) written (byte ∷ []))
-    ∙ ap (λ (n : ℕ). take place bytes ++ (written ++ (byte ∷ [])) ++ drop n bytes) longer
+use Rattle.decimals.specs.Contracts.{DecimalSays}
 
 -- ---- One digit more
 
@@ -61,15 +21,12 @@ written-snoc place byte written bytes inside =
 module _ (n place : ℕ) (before middle : List ℕ) (used : ℕ)
     (large : 10 ≤ n)
     (fits : place + length (decimal n) ≤ length before)
-    (tenth : DigitsPut (n / 10) place before middle used) where
+    (tenth : Put (decimal (n / 10)) place before middle (place + used)) where
   used-is : used + 1 ≡ length (decimal n)
-  used-is = omega (arith, tenth .count, length-decimal-large n large)
+  used-is = omega (arith, tenth .place-after, length-decimal-large n large)
 
   pub same-length : length middle ≡ length before
-  same-length =
-      ap length (tenth .bytes)
-      ∙ length-written place (decimal (n / 10)) before
-      (omega (arith, length-decimal-large n large))
+  same-length = put-length (omega (arith, length-decimal-large n large)) tenth
 
   pub last-inside : place + used < length middle
   last-inside = omega (arith, same-length, used-is)
@@ -77,14 +34,13 @@ module _ (n place : ℕ) (before middle : List ℕ) (used : ℕ)
   -- The last digit stands right after the others: `decimal n` by its tenth.
   pub digit-more : (byte : ℕ)
       → byte ≡ digitByte (n % 10)
-      → DigitsPut n place before (set middle (place + used) byte) (used + 1)
+      → Put (decimal n) place before (set middle (place + used) byte) (place + (used + 1))
   digit-more byte is = record {
-    count = used-is;
-    bytes =
-        ap (λ (bytes : List ℕ). set bytes (place + used) byte) (tenth .bytes)
-        ∙ ap (λ (k : ℕ). set (writtenAt place (decimal (n / 10)) before) (place + k) byte)
-        (tenth .count)
-        ∙ written-snoc place byte (decimal (n / 10)) before (omega (arith, used-is, tenth .count))
+    place-after = ap (λ (k : ℕ). place + k) used-is;
+    out =
+        (λ i. set (tenth .out i) (tenth .place-after i) byte)
+        ∙ written-snoc place byte (decimal (n / 10)) before
+        (omega (arith, used-is, tenth .place-after))
         ∙ ap (λ (digits : List ℕ). writtenAt place digits before)
         (ap (λ (b : ℕ). decimal (n / 10) ++ (b ∷ [])) is ∙ sym (decimal-large n large));
   }
@@ -101,8 +57,8 @@ not-written n place bytes short =
 
 pub all-written : (n place : ℕ) (before after : List ℕ) (count : ℕ)
     → place + length (decimal n) ≤ length before
-    → DigitsPut n place before after count
+    → Put (decimal n) place before after (place + count)
     → DecimalSays n place before after count
 all-written n place before after count fits put =
     let room = le-leb (place + length (decimal n)) (length before) fits in
-    record { count = rw room (put .count); bytes = rw room (put .bytes) }
+    record { count = rw room (omega (arith, put .place-after)); bytes = rw room (put .out) }

@@ -3,8 +3,9 @@
 ghost use mathlib.Core.Path.{_≡_};
 ghost use Prim.Native.Nat.{_+_, _≤_, _<_};
 ghost use lib.ListN.{length};
+ghost use Rattle.laws.specs.Writing.{Put};
 ghost use Rattle.model.specs.Decimal.{digitByte, decimal};
-ghost use Rattle.decimals.specs.Contracts.{DigitsPut, DecimalSays};
+ghost use Rattle.decimals.specs.Contracts.{DecimalSays};
 use model::ZERO;
 
 // How many digits a number has. Internal: for the crates that write lines of such numbers.
@@ -28,10 +29,11 @@ fn digit_byte(digit: u64) -> u8
     (digit as u8) + ZERO
 }
 
-// Writes the digits of a number from a place on, where they fit; internal to `write_decimal`.
+// Writes the digits of a number from a place on, where they fit, and answers how many they are;
+// internal to `write_decimal`.
 fn put_digits(n: u64, bytes: &mut [u8], at: usize) -> usize
     requires { ⌜ at + length (decimal n) ≤ length (now bytes) ⌝ }
-    ensures { λ r. ⌜ DigitsPut n at (now (bytes .entry)) (now (bytes .exit)) r ⌝ }
+    ensures { λ r. ⌜ Put (decimal n) at (now (bytes .entry)) (now (bytes .exit)) (at + r) ⌝ }
 {
     if n < 10 {
         bytes[at] = digit_byte(n);

@@ -3,7 +3,6 @@
 --
 --   overwritten xs memory     the memory with its front overwritten by xs
 --   length-overwritten, getD-overwritten, overwritten-front, overwritten-set
---   filled-on                 the front filled with one number, and one place more
 --   two-parts                 the front overwritten and one place of the second part set
 --   set-append-add            a place past the first list of two
 --   four                      a memory of at least four numbers, taken apart
@@ -11,10 +10,9 @@
 use Prim.Native.Nat.{ℕ, suc, _+_, _-_, _*_, _<_, _≤_}
 use mathlib.Core.Path.{_≡_, refl, ap, sym, _∙_}
 use mathlib.Core.List.{List, [], _∷_, _++_, append-assoc}
-use native.Mathlib.Numerals.{add-one}
 use native.Mathlib.Omega.{arith}
-use lib.ListN.{length, getD, set, take, drop, replicate, length-append, length-drop, length-set, take-append-drop, length-replicate, replicate-append-replicate}
-use lib.Seq.{set-append-left, drop-append-le, getD-append-add, getD-drop, length-take-le, drop-cons, set-at, append-snoc}
+use lib.ListN.{length, getD, set, take, drop, length-append, length-drop, length-set, take-append-drop}
+use lib.Seq.{set-append-left, drop-append-le, getD-append-add, getD-drop, length-take-le}
 
 module _ {A : Type 0} where
   -- ---- Two lists, one after the other
@@ -77,19 +75,6 @@ module _ {A : Type 0} where
       → n ≤ length memory
       → overwritten (take n memory) memory ≡ memory
   overwritten-take n memory fits = rw (length-take-le n memory fits) (take-append-drop n memory)
-
-  -- The front filled with one number, and one place more.
-  pub filled-on : (memory : List A) (i : ℕ) (a : A)
-      → i < length memory
-      → set (overwritten (replicate i a) memory) i a ≡ overwritten (replicate (i + 1) a) memory
-  filled-on memory i a within =
-      let width = length-replicate i a in
-      let wider = length-replicate (i + 1) a in
-      rw (width, wider, drop-cons memory i a within)
-      (set-at (replicate i a) (getD memory i a) (drop (suc i) memory) a i width
-      ∙ sym (append-snoc (replicate i a) a (drop (suc i) memory))
-      ∙ ap (λ (l : List A). l ++ drop (suc i) memory) (replicate-append-replicate i 1 a)
-      ∙ ap (λ (n : ℕ). replicate (i + 1) a ++ drop n memory) (sym (add-one i)))
 
   -- Numbers over the front of the first n, and one of the k after these n set: the same as all
   -- numbers over the front, and then that place set.

@@ -6,3 +6,5 @@ pub mod Sums
 pub mod Updates
 pub mod FlatMemory
 pub mod Overwrite
+pub mod Writing
+pub mod Fronts

@@ -4,13 +4,14 @@
 --   all-set, all-snoc, all-cons                 a property of all places, after a change
 --   at-set                                      a property of one place, after a change
 --   getD-replicate-default                      a list of the default, read at any place
-use mathlib.Core.Path.{_≡_, refl}
+--   readAt, read-take                           elements read one by one, as one part of the list
+use mathlib.Core.Path.{_≡_, refl, sym, ap, _∙_}
 use mathlib.Core.List.{List, [], _∷_, _++_}
-use Prim.Native.Nat.{ℕ, zero, suc, _+_, _<_}
+use Prim.Native.Nat.{ℕ, zero, suc, _+_, _≤_, _<_}
 use native.Mathlib.Omega.{arith}
 use native.Mathlib.Decide.{ℕ-discrete, decLt}
-use lib.ListN.{length, getD, set, replicate, length-append, length-set, List·getD-append}
-use lib.Seq.{getD-set-same, getD-set-other, getD-append-seam}
+use lib.ListN.{length, getD, set, take, drop, replicate, length-append, length-set, List·getD-append}
+use lib.Seq.{getD-set-same, getD-set-other, getD-append-seam, drop-cons}
 
 module _ {A : Type 0} where
   -- ---- One element added at the end
@@ -85,3 +86,18 @@ module _ {A : Type 0} where
       → P (getD (x ∷ xs) j default)
   all-cons P default x xs new old zero below = new
   all-cons P default x xs new old (suc j) below = old j (omega arith)
+
+  -- ---- Elements read one by one
+
+  -- So many elements from a place on, each read by its place.
+  abbrev pub readAt : A → ℕ → ℕ → List A → List A
+  readAt default zero i xs = []
+  readAt default (suc n) i xs = getD xs i default ∷ readAt default n (suc i) xs
+
+  pub read-take : (default : A) (n i : ℕ) (xs : List A)
+      → i + n ≤ length xs
+      → readAt default n i xs ≡ take n (drop i xs)
+  read-take default zero i xs fits = refl
+  read-take default (suc n) i xs fits =
+      ap (λ (l : List A). getD xs i default ∷ l) (read-take default n (suc i) xs (omega arith))
+      ∙ ap (take (suc n)) (sym (drop-cons xs i default (omega arith)))

@@ -3,3 +3,4 @@ pub mod PutLaws
 pub mod RoomLaws
 pub mod LinesLaws
 pub mod SpacedLaws
+pub mod OutputLaws

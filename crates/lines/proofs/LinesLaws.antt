@@ -13,7 +13,7 @@ use Rattle.model.specs.Decimal.{decimal}
 use Rattle.model.specs.Lines.{lineFeed}
 use Rattle.model.specs.Transcript.{space, spaced, messageLine, listedWord}
 use Rattle.lines.specs.Contracts.{countedLine, listedLine}
-use Rattle.lines.proofs.PutLaws.{joined}
+use Rattle.laws.proofs.Writing.{joined}
 
 -- A number with a space before it.
 abbrev pub spacedNumber : ℕ → List ℕ

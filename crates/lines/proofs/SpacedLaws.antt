@@ -1,64 +1,29 @@
 -- Laws of numbers with a space before each, number after number.
 --
---   length-spaced-next, -take           one number more; the first numbers
+--   spacedNumber, spaced-joined         the pieces of numbers with a space before each
 --   take-lesser                         as many of the first numbers as there are
---   fitting-begins, -on, -short, -ends  whether they fit, number after number
---   putting-begins, -room, -on, -ends   numbers written one after the other
-use mathlib.Core.Path.{_≡_, refl, sym, ap, _∙_, subst}
+--   Fitting, fitting-begins, -on, -short, -ends   whether they fit, number after number
+use mathlib.Core.Path.{_≡_, refl, sym, ap, _∙_}
 use mathlib.Core.Bool.{true, false}
-use mathlib.Core.List.{List, [], _∷_, _++_, append-assoc, append-nil}
+use mathlib.Core.List.{List, [], _∷_, _++_, map}
 use Prim.Native.Nat.{ℕ, _+_, _-_, _≤_, _<_, min}
 use native.Mathlib.Omega.{arith}
 use native.Mathlib.Decide.{decLe}
 use native.Mathlib.Numerals.{add-one}
 use lib.Dec.{leb}
-use lib.ListN.{length, getD, take, drop, length-append, take-append-drop}
-use lib.Seq.{take-all, take-suc}
+use lib.ListN.{length, getD, take, drop, length-append, drop-of-length-le}
+use lib.Seq.{take-all, drop-cons}
 use borrow.Author.Tests.{le-leb, lt-leb}
+use Rattle.laws.proofs.Writing.{joined}
 use Rattle.model.specs.Transcript.{spaced}
-use Rattle.lines.specs.Contracts.{Put}
 use Rattle.lines.proofs.LinesLaws.{spacedNumber}
-use Rattle.lines.proofs.PutLaws.{put-length, put-room, put-then, put-nothing}
+use Rattle.lines.proofs.RoomLaws.{room-from}
 
--- ---- The bytes of numbers
-
-spaced-append : (xs ys : List ℕ) → spaced (xs ++ ys) ≡ spaced xs ++ spaced ys
-spaced-append [] ys = refl
-spaced-append (x ∷ xs) ys =
-    ap (λ (rest : List ℕ). spacedNumber x ++ rest) (spaced-append xs ys)
-    ∙ sym (append-assoc (spacedNumber x) (spaced xs) (spaced ys))
-
-spaced-one : (x : ℕ) → spaced (x ∷ []) ≡ spacedNumber x
-spaced-one x = append-nil (spacedNumber x)
-
-module _ (items : List ℕ) (done : ℕ) (more : done < length items) where
-  abbrev here : ℕ
-  here = getD items done 0
-
-  -- One number more.
-  spaced-next : spaced (take (done + 1) items) ≡ spaced (take done items) ++ spacedNumber here
-  spaced-next =
-      ap (λ (n : ℕ). spaced (take n items)) (add-one done)
-      ∙ ap spaced (take-suc items done 0 more)
-      ∙ spaced-append (take done items) (here ∷ [])
-      ∙ ap (λ (bytes : List ℕ). spaced (take done items) ++ bytes) (spaced-one here)
-
-  pub length-spaced-next : length (spaced (take (done + 1) items))
-      ≡ length (spaced (take done items)) + length (spacedNumber here)
-  length-spaced-next =
-      ap length spaced-next ∙ length-append (spaced (take done items)) (spacedNumber here)
-
--- The first numbers take no more bytes than all.
-pub length-spaced-take : (items : List ℕ) (n : ℕ)
-    → length (spaced (take n items)) ≤ length (spaced items)
-length-spaced-take items n =
-    let whole = ap spaced (sym (take-append-drop n items))
-    ∙ spaced-append (take n items) (drop n items) in
-    omega (
-      arith,
-      ap length whole,
-      length-append (spaced (take n items)) (spaced (drop n items)),
-    )
+-- The pieces that a loop writes.
+pub spaced-joined : (items : List ℕ) → joined (map spacedNumber items) ≡ spaced items
+spaced-joined [] = refl
+spaced-joined (item ∷ items) =
+    ap (λ (later : List ℕ). spacedNumber item ++ later) (spaced-joined items)
 
 -- As many of the first numbers as there are.
 pub take-lesser : (items : List ℕ) (count lesser : ℕ)
@@ -75,92 +40,40 @@ take-lesser items count lesser is = by-order (decLe count (length items))
 
 -- ---- Whether they fit
 
--- So much of the room is left after so many numbers.
+-- After so many numbers the others must fit into what is left of the room.
 pub record Fitting (items : List ℕ) (room left done : ℕ) : Type 0 where
   pub within : done ≤ length items
-  pub is : left + length (spaced (take done items)) ≡ room
+  pub is : leb (length (spaced (drop done items))) left ≡ leb (length (spaced items)) room
 
 pub fitting-begins : (items : List ℕ) (room : ℕ) → Fitting items room room 0
-fitting-begins items room = record { within = omega arith; is = omega arith }
+fitting-begins items room = record { within = omega arith; is = refl }
 
 module _ {items : List ℕ} {room left : ℕ} (done : ℕ) (fitting : Fitting items room left done) where
-  pub fitting-on : (need : ℕ)
-      → done < length items
-      → need ≡ length (spacedNumber (getD items done 0))
-      → need ≤ left
-      → Fitting items room (left - need) (done + 1)
-  fitting-on need more is enough = record {
-    within = omega arith;
-    is = omega (arith, fitting .is, is, length-spaced-next items done more);
-  }
+  module _ (need : ℕ) (more : done < length items)
+      (need-is : need ≡ length (spacedNumber (getD items done 0))) where
+    -- The next number takes what it needs, and the others come after it.
+    next-needs : length (spaced (drop done items))
+        ≡ need + length (spaced (drop (done + 1) items))
+    next-needs =
+        ap (λ (l : List ℕ). length (spaced l)) (drop-cons items done 0 more)
+        ∙ length-append (spacedNumber (getD items done 0)) _
+        ∙ (λ i. sym need-is i + length (spaced (drop (sym (add-one done) i) items)))
 
-  pub fitting-short : (need : ℕ)
-      → done < length items
-      → need ≡ length (spacedNumber (getD items done 0))
-      → left < need
-      → false ≡ leb (length (spaced items)) room
-  fitting-short need more is short =
-      sym
-      (lt-leb (length (spaced items)) room
-      (omega (
-        arith,
-        fitting .is,
-        is,
-        length-spaced-next items done more,
-        length-spaced-take items (done + 1),
-      )))
+    pub fitting-on : need ≤ left → Fitting items room (left - need) (done + 1)
+    fitting-on enough = record {
+      within = omega arith;
+      is =
+          room-from need (length (spaced (drop (done + 1) items))) left enough
+          ∙ ap (λ (n : ℕ). leb n left) (sym next-needs)
+          ∙ fitting .is;
+    }
+
+    pub fitting-short : left < need → false ≡ leb (length (spaced items)) room
+    fitting-short short =
+        sym (lt-leb (length (spaced (drop done items))) left (omega (arith, next-needs)))
+        ∙ fitting .is
 
   pub fitting-ends : length items ≤ done → true ≡ leb (length (spaced items)) room
   fitting-ends past =
-      let all = ap (λ (xs : List ℕ). length (spaced xs)) (take-all done items past) in
-      sym (le-leb (length (spaced items)) room (omega (arith, fitting .is, all)))
-
--- ---- Written one after the other
-
-pub record Putting (items : List ℕ) (at : ℕ) (before out : List ℕ) (place done : ℕ) : Type 0 where
-  pub within : done ≤ length items
-  pub same-length : length out ≡ length before
-  pub put : Put (spaced (take done items)) at before out place
-
-pub putting-begins : (items : List ℕ) (at : ℕ) (before : List ℕ)
-    → Putting items at before before at 0
-putting-begins items at before = record {
-  within = omega arith;
-  same-length = refl;
-  put = put-nothing at before;
-}
-
-module _ {items : List ℕ} {at : ℕ} {before out : List ℕ} {place : ℕ} (done : ℕ)
-    (fits : at + length (spaced items) ≤ length before)
-    (putting : Putting items at before out place done) where
-  module _ (more : done < length items) where
-    next-fits : at + length (spaced (take done items)) + length (spacedNumber (getD items done 0))
-        ≤ length before
-    next-fits =
-        omega (arith, length-spaced-next items done more, length-spaced-take items (done + 1))
-
-    pub putting-room : place + length (spacedNumber (getD items done 0)) ≤ length out
-    putting-room =
-        put-room (spaced (take done items)) (spacedNumber (getD items done 0)) at before out place
-        next-fits (putting .put)
-
-    pub putting-on : (after : List ℕ) (end : ℕ)
-        → Put (spacedNumber (getD items done 0)) place out after end
-        → Putting items at before after end (done + 1)
-    putting-on after end put-number = record {
-      within = omega arith;
-      same-length =
-          put-length (spacedNumber (getD items done 0)) place out after end putting-room put-number
-          ∙ putting .same-length;
-      put =
-          subst (λ (bytes : List ℕ). Put bytes at before after end)
-          (sym (spaced-next items done more))
-          (put-then (spaced (take done items)) (spacedNumber (getD items done 0)) at before out
-          place
-          after end next-fits (putting .put) put-number);
-    }
-
-  pub putting-ends : length items ≤ done → Put (spaced items) at before out place
-  putting-ends past =
-      subst (λ (xs : List ℕ). Put (spaced xs) at before out place) (take-all done items past)
-      (putting .put)
+      let none = ap (λ (l : List ℕ). length (spaced l)) (drop-of-length-le items past) in
+      sym (le-leb (length (spaced (drop done items))) left (omega (arith, none))) ∙ fitting .is

@@ -8,10 +8,11 @@ ghost use mathlib.Core.List.{_∷_};
 ghost use Prim.Native.Nat.{_+_, _≤_};
 ghost use lib.Dec.{leb};
 ghost use lib.ListN.{length};
+ghost use Rattle.laws.specs.Writing.{Put};
 ghost use Rattle.model.specs.Decimal.{decimal};
 ghost use Rattle.model.specs.Messages.{message};
 ghost use Rattle.model.specs.Transcript.{space, spaced, messageLine};
-ghost use Rattle.lines.specs.Contracts.{countedLine, listedLine, Put, LineWritten, RecordWritten, SpacedLength};
+ghost use Rattle.lines.specs.Contracts.{countedLine, listedLine, LineWritten, RecordWritten, SpacedLength};
 use decimals::count_decimal;
 use decimals::write_decimal;
 

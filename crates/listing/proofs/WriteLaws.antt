@@ -4,12 +4,11 @@
 --   writing-start, writing-yes, writing-no, writing-end
 use mathlib.Core.Path.{_≡_, refl, ap, sym, _∙_}
 use mathlib.Core.Bool.{true, false}
-use mathlib.Core.List.{List, _++_}
-use Prim.Native.Nat.{ℕ, suc, _+_, _≤_, _<_}
-use native.Mathlib.Numerals.{add-one}
+use mathlib.Core.List.{List, [], _∷_}
+use Prim.Native.Nat.{ℕ, _+_, _≤_, _<_}
 use native.Mathlib.Omega.{arith}
-use lib.ListN.{length, set, drop, length-set}
-use lib.Seq.{drop-cons, set-at, append-snoc}
+use lib.ListN.{length, set, length-set}
+use Rattle.laws.proofs.Fronts.{overwritten-sets}
 use Rattle.model.specs.declared.Settings.{Settings}
 use Rattle.model.specs.SiteMemory.{overwrite}
 use Rattle.model.specs.Coordinator.{Coordinator}
@@ -20,7 +19,7 @@ module _ (settings : Settings) (c : Coordinator) where
   pub record Writing (before now : List ℕ) (count item : ℕ) : Type 0 where
     pub counting : Counting settings c count item
     pub same-length : length now ≡ length before
-    pub written : now ≡ listedBelow settings c item ++ drop count before
+    pub written : now ≡ overwrite (listedBelow settings c item) before
 
   pub writing-start : (before : List ℕ) → Writing before before 0 0
   writing-start before = record {
@@ -39,14 +38,11 @@ module _ (settings : Settings) (c : Coordinator) where
   writing-yes before now count item so-far inside yes-listed left = record {
     counting = counting-yes settings c count item (so-far .counting) inside yes-listed;
     same-length = length-set now count item ∙ so-far .same-length;
-    written = ap (λ (l : List ℕ). set l count item) (so-far .written)
-        ∙ ap (λ (l : List ℕ). set (listedBelow settings c item ++ l) count item)
-        (drop-cons before count 0 left)
-        ∙ set-at (listedBelow settings c item) _ _ item count (sym (so-far .counting .counted))
-        ∙ sym (append-snoc (listedBelow settings c item) item (drop (suc count) before))
-        ∙ ap (λ (l : List ℕ). l ++ drop (suc count) before)
-        (sym (listed-yes settings c item yes-listed))
-        ∙ ap (λ (n : ℕ). listedBelow settings c (item + 1) ++ drop n before) (sym (add-one count));
+    written =
+        ap (λ (l : List ℕ). set l count item) (so-far .written)
+        ∙ overwritten-sets (listedBelow settings c item) (item ∷ []) before count
+        (sym (so-far .counting .counted)) (omega arith)
+        ∙ ap (λ (l : List ℕ). overwrite l before) (sym (listed-yes settings c item yes-listed));
   }
 
   pub writing-no : (before now : List ℕ) (count item : ℕ)
@@ -58,7 +54,7 @@ module _ (settings : Settings) (c : Coordinator) where
     counting = counting-no settings c count item (so-far .counting) inside no-listed;
     same-length = so-far .same-length;
     written = so-far .written
-        ∙ ap (λ (l : List ℕ). l ++ drop count before) (sym (listed-no settings c item no-listed));
+        ∙ ap (λ (l : List ℕ). overwrite l before) (sym (listed-no settings c item no-listed));
   }
 
   pub writing-end : (before now : List ℕ) (count item : ℕ)
@@ -68,5 +64,4 @@ module _ (settings : Settings) (c : Coordinator) where
   writing-end before now count item so-far past =
       let last : item ≡ settings .universe = omega (arith, so-far .counting .place) in
       so-far .written
-      ∙ ap (λ (n : ℕ). listedBelow settings c item ++ drop n before) (so-far .counting .counted)
       ∙ ap (λ (n : ℕ). overwrite (listedBelow settings c n) before) last

@@ -15,10 +15,11 @@ use Rattle.reader.specs.declared.Step.{Step}
 use Rattle.tracker.specs.Batch.{batchIn}
 use Rattle.listing.specs.Contracts.{listRefusal}
 use Rattle.session_steps.specs.declared.Session.{Session}
-use Rattle.session_steps.specs.Output.{atStart, linesAfter, linesOf}
+use Rattle.lines.specs.Contracts.{atStart, linesAfter}
+use Rattle.session_steps.specs.Output.{linesOf}
 use Rattle.session_steps.specs.Outcome.{Lent, Outcome, refusedOf}
 use Rattle.session_steps.specs.Steps.{drawCall, drawRefusal, takenOf, drawOf, sessionCoordinator, resultLinesOf, listedOf, resultsOf}
-use Rattle.session_steps.proofs.OutputLaws.{lines-kept}
+use Rattle.lines.proofs.OutputLaws.{lines-kept}
 use Rattle.session.specs.Begin.{beginRefusalOf, firstSession, startedOf, beginOf}
 use Rattle.session.specs.Advance.{lineOf}
 use Rattle.session.specs.Claims.{LastKept, Keeps}

@@ -19,10 +19,12 @@ use Rattle.reader.specs.declared.Step.{Step}
 use Rattle.tracker.specs.Batch.{BatchCall, batchIn}
 use Rattle.session_steps.specs.declared.Session.{Session}
 use Rattle.session_steps.specs.declared.Turn.{Turn}
-use Rattle.session_steps.specs.Output.{atStart, linesOf}
+use Rattle.lines.specs.Contracts.{atStart}
+use Rattle.lines.proofs.OutputLaws.{fits-all}
+use Rattle.session_steps.specs.Output.{linesOf}
 use Rattle.session_steps.specs.Outcome.{Lent, Outcome, refusedOf}
 use Rattle.session_steps.specs.Steps.{FewBytes, drawCall, drawRefusal, takenOf, drawOf, resultsOf}
-use Rattle.session_steps.proofs.OutputLaws.{joined-messages, fits-all}
+use Rattle.session_steps.proofs.OutputLaws.{joined-messages}
 use Rattle.session.specs.Advance.{lineOf, LineSays}
 use Rattle.session.specs.Course.{Represents, Room, LineRight}
 use Rattle.session.proofs.RefusalLaws.{draw-small, refused-line}

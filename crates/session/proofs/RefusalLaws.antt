@@ -25,8 +25,8 @@ use Rattle.model.specs.Transcript.{refusedLine, beyondProgram}
 use Rattle.transcript.proofs.LineBounds.{line-claims}
 use Rattle.reader.specs.Contracts.{lineRefusal, settingsIn, bytesAfter}
 use Rattle.reader.specs.Walk.{stepOf, stepAt}
-use Rattle.session_steps.specs.Output.{atStart, lineAfter}
-use Rattle.session_steps.proofs.OutputLaws.{line-fits}
+use Rattle.lines.specs.Contracts.{atStart, lineAfter}
+use Rattle.lines.proofs.OutputLaws.{line-fits}
 use Rattle.session.specs.Limits.{outRoom}
 use Rattle.session.specs.Course.{beginRefusal}
 

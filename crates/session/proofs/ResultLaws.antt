@@ -28,10 +28,11 @@ use Rattle.listing.specs.Contracts.{listRefusal}
 use Rattle.history.proofs.RunSound.{sound-run, messages-within}
 use Rattle.history.proofs.Accepted.{coordinator-accepted}
 use Rattle.session_steps.specs.declared.Session.{Session}
-use Rattle.session_steps.specs.Output.{atStart, linesAfter}
+use Rattle.lines.specs.Contracts.{atStart, linesAfter}
 use Rattle.session_steps.specs.Outcome.{Lent}
 use Rattle.session_steps.specs.Steps.{sessionCoordinator, resultLinesOf, listedOf, resultsOf}
-use Rattle.session_steps.proofs.OutputLaws.{joined, Fitted, fits-all}
+use Rattle.laws.proofs.Writing.{joined}
+use Rattle.lines.proofs.OutputLaws.{Fitted, fits-all}
 use Rattle.session.specs.Course.{Represents, Room}
 use Rattle.session.proofs.StateLaws.{runAfter, state-ok}
 

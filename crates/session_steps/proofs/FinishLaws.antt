@@ -15,17 +15,15 @@ use Rattle.model.specs.CoordinatorMemory.{coordinatorIn, coordinatorMemoryRefus
 use Rattle.model.specs.Reading.{heavyHitters, quantileOf}
 use Rattle.model.specs.Transcript.{endLine, classWord, messagesWord, quantileWord}
 use Rattle.model.proofs.RefusalLaws.{both-accepted}
-use Rattle.lines.specs.Contracts.{countedLine, listedLine, LineWritten}
+use Rattle.lines.specs.Contracts.{countedLine, listedLine, Written, writtenTo, atStart, lineAfter, linesAfter, LineWritten}
 use Rattle.listing.specs.declared.Listed.{Listed}
 use Rattle.reading.specs.declared.QuantileRead.{QuantileRead}
 use Rattle.reading.specs.Contracts.{ReadsQuantile}
 use Rattle.listing.specs.Contracts.{listRefusal, Lists}
 use Rattle.session_steps.specs.declared.Session.{Session}
 use Rattle.session_steps.specs.declared.Turn.{Turn}
-use Rattle.session_steps.specs.Output.{Written, writtenTo, atStart, lineAfter, linesAfter}
 use Rattle.session_steps.specs.Outcome.{lent, outcome, ended, Refuses, refusedOf}
 use Rattle.session_steps.specs.Steps.{resultLinesOf, Finishes}
-use Rattle.session_steps.proofs.OutputLaws.{line-written}
 
 module _ (session : Session) (memory listBefore listAfter : List ℕ) (listed : Listed)
     (lists : Lists (session .settings) (session .coordinator) memory listBefore listAfter listed)
@@ -82,14 +80,10 @@ module _ (session : Session) (memory listBefore listAfter : List ℕ) (listed : 
         → turn ≡ ended session p₃
         → Finishes session memory listBefore before listAfter after turn
     finish-listed out₁ out₂ p₁ p₂ p₃ first second third turn-is =
-        let listLine = listedLine (take (listed .count) listAfter) in
         let classLine = endLine (classWord ++ quantileWord (read .quantile)) in
         let countLine = countedLine messagesWord (session .sites .messages) in
-        let one = line-written listLine 0 before out₁ p₁ first in
-        let two = line-written classLine p₁ out₁ out₂ p₂ second
-        ∙ ap (λ (w : Written). lineAfter w classLine) one in
-        let three = line-written countLine p₂ out₂ after p₃ third
-        ∙ ap (λ (w : Written). lineAfter w countLine) two in
+        let two = second .is ∙ ap (λ (w : Written). lineAfter w classLine) (first .is) in
+        let three = third .is ∙ ap (λ (w : Written). lineAfter w countLine) two in
         let all : writtenTo p₃ after ≡ linesAfter (atStart before) (resultLinesOf session c) =
         three
         ∙ (λ i. linesAfter (atStart before)

@@ -12,10 +12,9 @@ use lib.Seq.{getD-drop, drop-drop}
 use Rattle.model.specs.declared.Message.{Message}
 use Rattle.model.specs.Messages.{messageWidth, message}
 use Rattle.model.specs.Transcript.{messageLine, messageLines}
-use Rattle.lines.specs.Contracts.{RecordWritten}
+use Rattle.lines.specs.Contracts.{Written, writtenTo, atStart, linesAfter, RecordWritten}
 use Rattle.tracker.specs.Batch.{messagesIn}
-use Rattle.session_steps.specs.Output.{Written, writtenTo, atStart, linesAfter, linesOf, MessagesWritten}
-use Rattle.session_steps.proofs.OutputLaws.{line-written}
+use Rattle.session_steps.specs.Output.{linesOf, MessagesWritten}
 
 -- The messages of the log that are left.
 abbrev left : List ℕ → ℕ → ℕ → List Message
@@ -75,7 +74,6 @@ module _ (log : List ℕ) (count : ℕ) (first before after : List ℕ) (place d
   writing-on more-to-do same written =
       let more = count - (done + 1) in
       let m = messageAt log (messageWidth * done) in
-      let now = line-written (messageLine m) place before after next (written .written) in
       let one-more : count - done ≡ suc more = omega arith in
       let after-it : messageWidth * done + messageWidth ≡ messageWidth * (done + 1) = omega arith in
       let split : left log count done ≡ m ∷ left log count (done + 1) =
@@ -87,7 +85,8 @@ module _ (log : List ℕ) (count : ℕ) (first before after : List ℕ) (place d
         within = omega arith;
         log-long = far .log-long;
         comes-to =
-            ap (λ (w : Written). linesAfter w (linesOf (left log count (done + 1)))) now
+            ap (λ (w : Written). linesAfter w (linesOf (left log count (done + 1))))
+            (written .written .is)
             ∙ ap (λ (ms : List Message). linesAfter (writtenTo place before) (linesOf ms))
             (sym split)
             ∙ far .comes-to;

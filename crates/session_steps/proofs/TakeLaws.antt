@@ -31,7 +31,8 @@ use Rattle.history.proofs.EmptyBatch.{nothing-done, batch-same}
 use Rattle.history.proofs.HandedOut.{messagesIn-written}
 use Rattle.session_steps.specs.declared.Session.{Session}
 use Rattle.session_steps.specs.declared.Turn.{Turn}
-use Rattle.session_steps.specs.Output.{atStart, linesAfter, linesOf, MessagesWritten}
+use Rattle.lines.specs.Contracts.{atStart, linesAfter}
+use Rattle.session_steps.specs.Output.{linesOf, MessagesWritten}
 use Rattle.session_steps.specs.Outcome.{Lent, lent, outcome, Refuses, refusedOf}
 use Rattle.session_steps.specs.Steps.{drawCall, drawRefusal, DrawSays}
 

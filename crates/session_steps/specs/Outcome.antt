@@ -14,7 +14,7 @@ use lib.ListN.{length}
 use Rattle.model.specs.Transcript.{refusedLine}
 use Rattle.session_steps.specs.declared.Session.{Session}
 use Rattle.session_steps.specs.declared.Turn.{Turn}
-use Rattle.session_steps.specs.Output.{atStart, lineAfter}
+use Rattle.lines.specs.Contracts.{atStart, lineAfter}
 
 -- ---- What a call is lent, and what comes of it
 

@@ -24,7 +24,8 @@ use Rattle.listing.specs.Contracts.{listRefusal}
 use Rattle.tracker.specs.Batch.{BatchCall, startRefusal, batchIn, unlessRefused, sitesAfter, messageNumbers}
 use Rattle.session_steps.specs.declared.Session.{Session}
 use Rattle.session_steps.specs.declared.Turn.{Turn}
-use Rattle.session_steps.specs.Output.{atStart, linesAfter, linesOf}
+use Rattle.lines.specs.Contracts.{atStart, linesAfter}
+use Rattle.session_steps.specs.Output.{linesOf}
 use Rattle.session_steps.specs.Outcome.{Lent, lent, withList, Outcome, outcome, ended, refusedOf}
 
 -- ---- A line's draw

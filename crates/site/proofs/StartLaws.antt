@@ -1,63 +1,25 @@
--- Starting all sites: their memory cleared place by place, and the answers of the start call.
+-- Starting all sites: the answers of the start call.
 --
---   Clearing, clearing-start, clearing-on, clearing-end   the memory, place by place
 --   words-fit                                             how much memory that is at most
 --   start-settings, start-short, start-accepted           the answers
-use Prim.Native.Nat.{ℕ, _+_, _*_, _<_, _≤_}
-use mathlib.Core.Path.{_≡_, refl, ap, sym, _∙_}
+use Prim.Native.Nat.{ℕ, _*_, _<_, _≤_}
+use mathlib.Core.Path.{_≡_, refl, sym, _∙_}
 use mathlib.Core.List.{List}
 use native.Mathlib.Nat.{mul-le-mul}
 use native.Mathlib.Omega.{arith}
-use lib.ListN.{length, set, replicate, length-set}
+use lib.ListN.{length}
 use borrow.Author.Tests.{eq-eqb, ne-eqb, lt-ltb, le-ltb}
-use Rattle.laws.proofs.FlatMemory.{overwritten, filled-on}
 use Rattle.model.specs.declared.Settings.{Settings}
 use Rattle.model.specs.declared.Sites.{Sites}
 use Rattle.model.specs.Refusals.{accepted, memoryTooShort}
 use Rattle.model.specs.Limits.{mostSites, mostSiteWords}
 use Rattle.model.specs.Settings.{settingsRefusal}
-use Rattle.model.specs.SiteMemory.{siteWords, overwrite}
+use Rattle.model.specs.SiteMemory.{siteWords}
 use Rattle.model.specs.NetworkMemory.{sitesWords, freshSites}
 use Rattle.model.proofs.RefusalLaws.{Still, begin, pass, pass-part, refuse, refuse-part, end}
 use Rattle.model.proofs.SettingsLaws.{settled}
 use Rattle.model.proofs.ReportLaws.{valueCount-is}
 use Rattle.site.specs.Calls.{startRefusal, cleared, StartSays}
-
--- ---- Memory cleared
-
--- The first i numbers are 0, and the rest as before.
-pub record Clearing (before : List ℕ) (words : ℕ) (memory : List ℕ) (i : ℕ) : Type 0 where
-  pub within : i ≤ words
-  pub same-length : length memory ≡ length before
-  pub memory-is : memory ≡ overwritten (replicate i 0) before
-
-pub clearing-start : (before : List ℕ) (words : ℕ) → Clearing before words before 0
-clearing-start before words = record {
-  within = omega arith;
-  same-length = refl;
-  memory-is = refl;
-}
-
-pub clearing-on : (before : List ℕ) (words : ℕ) (memory : List ℕ) (i : ℕ)
-    → words ≤ length before
-    → Clearing before words memory i
-    → i < words
-    → Clearing before words (set memory i 0) (i + 1)
-clearing-on before words memory i fits clearing inside = record {
-  within = omega arith;
-  same-length = length-set memory i 0 ∙ clearing .same-length;
-  memory-is =
-      ap (λ (l : List ℕ). set l i 0) (clearing .memory-is)
-      ∙ filled-on before i 0 (omega arith);
-}
-
-pub clearing-end : (before : List ℕ) (words : ℕ) (memory : List ℕ) (i : ℕ)
-    → Clearing before words memory i
-    → words ≤ i
-    → memory ≡ overwrite (replicate words 0) before
-clearing-end before words memory i clearing past =
-    let e : i ≡ words = omega (arith, clearing .within) in
-    clearing .memory-is ∙ ap (λ (n : ℕ). overwrite (replicate n 0) before) e
 
 -- ---- The answers
 

@@ -10,7 +10,7 @@ use Rattle.history.specs.State.{Held}
 use Rattle.public_delivery.specs.declared.DeliveryAnswer.{DeliveryAnswer}
 use Rattle.public_delivery.specs.Progress.{heldBy}
 use Rattle.public_delivery.specs.Delivery.{DeliverySays}
-use Rattle.testing_numbers.specs.Numbers.{settingsFrom, sitesFrom, coordinatorFrom}
+use Rattle.record_numbers.specs.Numbers.{settingsFrom, sitesFrom, coordinatorFrom}
 
 pub says-of-numbers : (settings sites coordinator : List ℕ)
     {t : Settings} {p : Sites} {d : CoordinatorRecord}

@@ -28,7 +28,8 @@ use Rattle.reading.specs.declared.Margin.{Margin}
 use Rattle.reading.specs.declared.QuantileRead.{QuantileRead}
 use Rattle.reading.specs.Contracts.{marginRefusal, ReadsQuantile}
 use Rattle.listing.specs.Contracts.{listRefusal, Lists}
-use Rattle.testing_numbers.specs.Numbers.{settingsFrom, siteFrom, siteNumbers, sitesNumbers, oneMessage, twoMessages, coordinatorFrom, coordinatorNumbers, quantileNumbers}
+use Rattle.record_numbers.specs.Numbers.{settingsFrom, siteFrom, siteNumbers, sitesNumbers, coordinatorFrom, coordinatorNumbers}
+use Rattle.testing_numbers.specs.Answers.{oneMessage, twoMessages, quantileNumbers}
 use Rattle.testing_numbers.specs.Openings.{Slice, given, Lent, lent, placesLent, siteLent, coordinatorLent, Writes, unfit, Kept, Exported}
 
 -- ---- What is handed back

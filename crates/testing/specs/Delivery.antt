@@ -13,7 +13,7 @@ use Rattle.history.specs.State.{Held}
 use Rattle.public_delivery.specs.declared.DeliveryAnswer.{DeliveryAnswer}
 use Rattle.public_delivery.specs.Progress.{heldBy}
 use Rattle.public_delivery.specs.Delivery.{deliveryRefusal, DeliverySays}
-use Rattle.testing_numbers.specs.Numbers.{greatestNarrow, greatestHeld, settingsFrom, sitesFrom, sitesNumbers, coordinatorFrom, coordinatorNumbers}
+use Rattle.record_numbers.specs.Numbers.{greatestNarrow, greatestHeld, settingsFrom, sitesFrom, sitesNumbers, coordinatorFrom, coordinatorNumbers}
 use Rattle.testing_numbers.specs.Openings.{Slice, Lent, lent, networkLent, Writes, Kept, Exported}
 
 pub record DeliveryLends : Type 0 where

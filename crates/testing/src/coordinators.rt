@@ -7,11 +7,11 @@ ghost use Rattle.testing.specs.Calls.{HandsReceived, StartCoordinatorExp
 use coordinator::Received;
 use messages::message_of;
 use reading::Margin;
-use testing_numbers::coordinator_numbers::COORDINATOR_NUMBERS;
-use testing_numbers::coordinator_numbers::write_coordinator;
-use testing_numbers::coordinator_numbers::write_quantile;
-use testing_numbers::numbers::ONE_MESSAGE;
-use testing_numbers::numbers::write_message;
+use record_numbers::coordinator_numbers::COORDINATOR_NUMBERS;
+use record_numbers::coordinator_numbers::write_coordinator;
+use testing_numbers::answers::ONE_MESSAGE;
+use testing_numbers::answers::write_message;
+use testing_numbers::answers::write_quantile;
 use testing_numbers::openings::UNFIT;
 use testing_numbers::openings::open_coordinator;
 use testing_numbers::openings::open_places;

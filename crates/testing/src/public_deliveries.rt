@@ -3,11 +3,11 @@ ghost use Rattle.model.specs.Instances.{arrivalWith};
 ghost use Rattle.testing_numbers.specs.Openings.{given};
 ghost use Rattle.testing.specs.Delivery.{deliveryLends, DeliveryAsks, HandsDelivery, DeliveryExported};
 use model::Arrival;
-use testing_numbers::coordinator_numbers::coordinator_from;
-use testing_numbers::coordinator_numbers::write_coordinator;
-use testing_numbers::numbers::settings_from;
-use testing_numbers::numbers::sites_from;
-use testing_numbers::numbers::write_sites;
+use record_numbers::coordinator_numbers::coordinator_from;
+use record_numbers::coordinator_numbers::write_coordinator;
+use record_numbers::numbers::settings_from;
+use record_numbers::numbers::sites_from;
+use record_numbers::numbers::write_sites;
 use testing_numbers::openings::UNFIT;
 use testing_numbers::openings::network_lent;
 

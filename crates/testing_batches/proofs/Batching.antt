@@ -16,7 +16,7 @@ use Rattle.model.specs.declared.CoordinatorRecord.{CoordinatorRecord}
 use Rattle.tracker_steps.specs.declared.BatchAnswer.{BatchAnswer}
 use Rattle.tracker.specs.Batch.{BatchSays}
 use Rattle.testing_batches.specs.declared.Opening.{Opening}
-use Rattle.testing_numbers.specs.Numbers.{settingsFrom, sitesFrom, coordinatorFrom}
+use Rattle.record_numbers.specs.Numbers.{settingsFrom, sitesFrom, coordinatorFrom}
 use Rattle.testing_numbers.specs.Openings.{Lent, change, Kept}
 use Rattle.testing_batches.specs.Batch.{batchFits, openingOf, noOpening, openingFrom, Opens, ClosesAsk, Closes, BatchLends, allLent, callOf, leftBy, BatchExports}
 use Rattle.testing_numbers.proofs.Lending.{NetworkLent, network-is}

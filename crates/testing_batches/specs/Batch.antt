@@ -17,7 +17,8 @@ use Rattle.model.specs.Choice.{if_then_else_}
 use Rattle.tracker_steps.specs.declared.BatchAnswer.{BatchAnswer}
 use Rattle.tracker.specs.Batch.{BatchCall, BatchLent, BatchSays}
 use Rattle.testing_batches.specs.declared.Opening.{Opening}
-use Rattle.testing_numbers.specs.Numbers.{settingsFrom, zeroSettings, sitesFrom, zeroSites, sitesNumbers, coordinatorFrom, zeroCoordinator, coordinatorNumbers}
+use Rattle.record_numbers.specs.Numbers.{settingsFrom, sitesFrom, sitesNumbers, coordinatorFrom, coordinatorNumbers}
+use Rattle.testing_numbers.specs.Answers.{zeroSettings, zeroSites, zeroCoordinator}
 use Rattle.testing_numbers.specs.Openings.{Slice, given, Lent, lent, networkLent, Writes, Kept, Exported}
 
 -- ---- What is lent

@@ -7,16 +7,16 @@ use model::Arrival;
 use model::CoordinatorRecord;
 use model::Settings;
 use model::Sites;
-use testing_numbers::coordinator_numbers::coordinator_from;
-use testing_numbers::coordinator_numbers::write_coordinator;
-use testing_numbers::coordinator_numbers::zero_coordinator;
-use testing_numbers::numbers::settings_from;
-use testing_numbers::numbers::sites_from;
-use testing_numbers::numbers::write_sites;
-use testing_numbers::numbers::zero_settings;
-use testing_numbers::numbers::zero_sites;
+use record_numbers::coordinator_numbers::coordinator_from;
+use record_numbers::coordinator_numbers::write_coordinator;
+use record_numbers::numbers::settings_from;
+use record_numbers::numbers::sites_from;
+use record_numbers::numbers::write_sites;
 use testing_numbers::openings::UNFIT;
 use testing_numbers::openings::network_lent;
+use testing_numbers::zeros::zero_coordinator;
+use testing_numbers::zeros::zero_settings;
+use testing_numbers::zeros::zero_sites;
 use tracker_steps::BatchAnswer;
 
 // What the batch call is given, and whether what is lent fits.

@@ -15,7 +15,7 @@ use lib.ListN.{length, getD}
 use lib.Dec.{leb}
 use borrow.Author.Tests.{leb-true}
 use Rattle.laws.proofs.Tests.{both-true}
-use Rattle.testing_numbers.specs.Numbers.{coordinatorFits, greatestHeld, greatestNarrow}
+use Rattle.record_numbers.specs.Numbers.{coordinatorFits, greatestHeld, greatestNarrow}
 use Rattle.testing_numbers.specs.declared.openings.PlacesOpened.{PlacesOpened}
 use Rattle.testing_numbers.specs.declared.openings.SiteOpened.{SiteOpened}
 use Rattle.testing_numbers.specs.declared.openings.CoordinatorOpened.{CoordinatorOpened}

@@ -1,3 +1,3 @@
--- Records as plain numbers, and what is lent to the boundary.
-pub mod Numbers
+-- Answers as plain numbers, and what is lent to the boundary.
+pub mod Answers
 pub mod Openings

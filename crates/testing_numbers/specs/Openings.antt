@@ -18,7 +18,8 @@ use Rattle.model.specs.SiteMemory.{overwrite}
 use Rattle.testing_numbers.specs.declared.openings.PlacesOpened.{PlacesOpened}
 use Rattle.testing_numbers.specs.declared.openings.SiteOpened.{SiteOpened}
 use Rattle.testing_numbers.specs.declared.openings.CoordinatorOpened.{CoordinatorOpened}
-use Rattle.testing_numbers.specs.Numbers.{settingsFrom, zeroSettings, siteFrom, zeroSite, coordinatorFits, coordinatorFrom, zeroCoordinator}
+use Rattle.record_numbers.specs.Numbers.{settingsFrom, siteFrom, zeroSite, coordinatorFits, coordinatorFrom}
+use Rattle.testing_numbers.specs.Answers.{zeroSettings, zeroCoordinator}
 
 -- ---- Lent numbers
 

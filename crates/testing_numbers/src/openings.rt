@@ -1,19 +1,19 @@
 // Whether what is lent fits the boundary, and the records made from it.
 ghost use mathlib.Core.Path.{_≡_};
 ghost use Rattle.testing_numbers.specs.Openings.{given, placesLent, siteLent, coordinatorLent, networkLent, OpensPlaces, OpensSite, OpensCoordinator};
-use crate::coordinator_numbers::coordinator_fits;
-use crate::coordinator_numbers::coordinator_from;
-use crate::coordinator_numbers::zero_coordinator;
-use crate::numbers::SETTINGS_NUMBERS;
-use crate::numbers::SITE_NUMBERS;
-use crate::numbers::SITES_NUMBERS;
-use crate::numbers::settings_from;
-use crate::numbers::site_from;
-use crate::numbers::zero_settings;
-use crate::numbers::zero_site;
+use crate::zeros::zero_coordinator;
+use crate::zeros::zero_settings;
+use crate::zeros::zero_site;
 use model::CoordinatorRecord;
 use model::Settings;
 use model::SiteRecord;
+use record_numbers::coordinator_numbers::coordinator_fits;
+use record_numbers::coordinator_numbers::coordinator_from;
+use record_numbers::numbers::SETTINGS_NUMBERS;
+use record_numbers::numbers::SITE_NUMBERS;
+use record_numbers::numbers::SITES_NUMBERS;
+use record_numbers::numbers::settings_from;
+use record_numbers::numbers::site_from;
 
 // The answer where what is lent does not fit.
 pub const UNFIT: u32 = 255;

@@ -1,12 +1,12 @@
 -- The digits of a tenth are written first, and then the last digit right after them.
-use mathlib.Core.Path.{sym, ap, _∙_}
-use mathlib.Core.List.{List, [], _∷_}
+use mathlib.Core.Path.{refl, sym, ap, _∙_}
+use mathlib.Core.List.{[], _∷_}
 use native.Mathlib.Omega.{arith}
 use lib.ListN.{length, length-set}
 use borrow.Author.Needs.{needs}
 use Rattle.model.proofs.DecimalLaws.{decimal-small, length-decimal-large}
-use Rattle.decimals.specs.Contracts.{writtenAt}
-use Rattle.decimals.proofs.WritingLaws.{written-one, same-length, last-inside, digit-more}
+use Rattle.laws.proofs.Writing.{put-one, put-as}
+use Rattle.decimals.proofs.WritingLaws.{same-length, last-inside, digit-more}
 use Prim.Native.Nat.{ℕ, _<_}
 use borrow.Fn.Kinds.{In}
 use borrow.Fn.PlainCycle.{Measures, is, falls, and}
@@ -63,15 +63,9 @@ put-digits-returns : (t : ℕ) → put-digits-lts.Need-returns (
 put-digits-returns t c =
     let start = c .before .before .before in
     let one = decimal-small (start .args .n) (c .before .if1 .taken) in
-    let inside : start .args .at < length (start .args .bytes .now)
-    = put-digits-slice-write-bytes t c in
-    record {
-      count = sym (ap length one);
-      bytes =
-          written-one _ _ _ inside
-          ∙ ap (λ (digits : List ℕ). writtenAt (start .args .at) digits (start .args .bytes .now))
-          (ap (λ (byte : ℕ). byte ∷ []) (c .digit-byte .ensures) ∙ sym one);
-    }
+    put-as (ap (λ (byte : ℕ). byte ∷ []) (c .digit-byte .ensures) ∙ sym one)
+    (put-one (start .args .at) (c .digit-byte .result) (start .args .bytes .now) _
+    (put-digits-slice-write-bytes t c) refl)
 
 put-digits-put-digits-requires : (t : ℕ) → put-digits-lts.Need-put-digits-requires (
   digit-byte-reads.Asked,

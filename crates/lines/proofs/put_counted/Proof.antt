@@ -1,6 +1,6 @@
 -- The word, the number with a space before it and the line feed are written one after the other.
 use mathlib.Core.List.{[], _∷_}
-use Rattle.lines.proofs.PutLaws.{Stage, stage-begins, stage-room, stage-on, stage-ends}
+use Rattle.laws.proofs.Writing.{Stage, stage-begins, stage-room, stage-on, stage-ends}
 use Rattle.lines.proofs.LinesLaws.{spacedNumber, feed, counted-joined}
 use Rattle.lines.specs.Contracts.{countedLine}
 use borrow.Author.Needs.{needs}

@@ -2,7 +2,7 @@
 use mathlib.Core.List.{[], _∷_}
 use Rattle.model.specs.Transcript.{spaced}
 use Rattle.lines.specs.Contracts.{listedLine}
-use Rattle.lines.proofs.PutLaws.{Stage, stage-begins, stage-room, stage-on, stage-ends}
+use Rattle.laws.proofs.Writing.{Stage, stage-begins, stage-room, stage-on, stage-ends}
 use Rattle.lines.proofs.LinesLaws.{feed, listedPieces, listed-joined}
 use borrow.Author.Needs.{needs}
 use Rattle.lines.proofs.put_listed.Statement.{statement}

@@ -5,7 +5,8 @@ use native.Mathlib.Omega.{arith}
 use Rattle.model.specs.declared.Message.{Message}
 use Rattle.model.specs.Messages.{message}
 use Rattle.model.specs.Transcript.{messageLine}
-use Rattle.lines.proofs.PutLaws.{put-digits, Stage, stage-begins, stage-room, stage-on, stage-ends}
+use Rattle.laws.proofs.Writing.{Stage, stage-begins, stage-room, stage-on, stage-ends}
+use Rattle.lines.proofs.PutLaws.{put-digits}
 use Rattle.lines.proofs.LinesLaws.{spacedNumber, feed, messagePieces, message-joined}
 use borrow.Author.Needs.{needs}
 use Rattle.lines.proofs.put_message.Statement.{statement}

@@ -1,6 +1,5 @@
 -- The line of the refusal, and then the session has ended.
-use Rattle.model.specs.Transcript.{refusedLine}
-use Rattle.session_steps.proofs.OutputLaws.{line-written, refused-of}
+use Rattle.session_steps.proofs.OutputLaws.{refused-of}
 use borrow.Author.Needs.{needs}
 use Rattle.session_steps.proofs.refuse.Statement.{statement}
 use Rattle.session_steps.proofs.refuse.Tie as tie
@@ -18,11 +17,9 @@ returns : tie.Need-returns
 returns c =
     let start = c .before .before .before .before .before .before in
     let written = c .before .before .before .write-refused in
-    let line = line-written (refusedLine (start .args .refusal)) 0 (start .args .out .now) _ _
-    (written .ensures) in
     record {
       is = λ given. refused-of (start .args .session) (start .args .refusal) _
-          (start .args .out .now) _ _ (c .stop .ensures) line given;
+          (start .args .out .now) _ _ (c .stop .ensures) (written .ensures .is) given;
     }
 
 pub refuse-spec : {M : Type 1} → statement M

@@ -4,7 +4,7 @@ use lib.ListN.{length-set}
 use native.Mathlib.Omega.{arith}
 use Rattle.testing_batches.specs.Batch.{countsNumbers}
 use Rattle.testing_numbers.proofs.Lending.{exported-handed, exported-kept}
-use Rattle.testing_numbers.proofs.Writing.{written}
+use Rattle.laws.proofs.Fronts.{front-sets}
 use borrow.Author.Needs.{needs}
 use Rattle.testing_batches.proofs.close_lent.Statement.{statement}
 use Rattle.testing_batches.proofs.close_lent.Tie as tie
@@ -56,7 +56,7 @@ returns c =
       sites-are = at-write-sites .write-sites .ensures;
       coordinator-is = at-write-coordinator .write-coordinator .ensures;
       out-is =
-          written (countsNumbers (start .args .done)) (start .args .out .now)
+          front-sets (countsNumbers (start .args .done)) (start .args .out .now)
           (start .pre .out-long (at-if1 .if1 .taken));
     }
 

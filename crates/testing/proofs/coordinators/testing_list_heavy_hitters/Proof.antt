@@ -2,7 +2,7 @@
 use mathlib.Core.Path.{refl}
 use mathlib.Core.List.{[], _∷_}
 use Rattle.testing_numbers.proofs.Lending.{room, coordinator-enough}
-use Rattle.testing_numbers.proofs.Writing.{written}
+use Rattle.laws.proofs.Fronts.{front-sets}
 use Rattle.testing.proofs.Handing.{hands, keeps}
 use borrow.Author.Needs.{needs}
 use Rattle.testing.proofs.coordinators.testing_list_heavy_hitters.Statement.{statement}
@@ -18,7 +18,7 @@ returns c =
     let fit = at-if1 .if1 .taken in
     let says = rw (opens .opens .made fit) at (listed .ensures) in
     hands (opens .opens) fit _ (says .refusal) says
-    (written (listed .result .count ∷ []) (a .out .now) (coordinator-enough opens fit))
+    (front-sets (listed .result .count ∷ []) (a .out .now) (coordinator-enough opens fit))
 
 returns-2 : tie.Need-returns-2
 returns-2 c = keeps (c .before .open-coordinator .ensures .opens) (c .if1 .left) refl

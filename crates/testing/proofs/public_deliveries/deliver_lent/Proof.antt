@@ -2,7 +2,7 @@
 use mathlib.Core.List.{[], _∷_}
 use native.Mathlib.Omega.{arith}
 use lib.ListN.{length-set}
-use Rattle.testing_numbers.proofs.Writing.{written}
+use Rattle.laws.proofs.Fronts.{front-sets}
 use Rattle.testing.proofs.Delivering.{says-of-numbers}
 use borrow.Author.Needs.{needs}
 use Rattle.testing.proofs.public_deliveries.deliver_lent.Statement.{statement}
@@ -68,7 +68,7 @@ returns c =
       says = says;
       sites-are = at-write-sites .write-sites .ensures;
       coordinator-is = at-write-coordinator .write-coordinator .ensures;
-      out-is = written (done .carried ∷ (done .stopped ∷ [])) (a .out .now) (start .pre .out-long);
+      out-is = front-sets (done .carried ∷ (done .stopped ∷ [])) (a .out .now) (start .pre .out-long);
     }
 
 pub deliver-lent-spec : {M : Type 1} → statement M

@@ -1,0 +1,247 @@
+-- Records to numbers and back. The record made from a record's numbers is that record, whatever
+-- stands behind them; the numbers of the record made from numbers are these, where they are well
+-- formed.
+--
+--   settings-back, settings-same         settings
+--   message-back, message-same           a message
+--   site-back, site-same                 a site's record
+--   phase-back, phase-same               a phase
+--   coordinator-back, coordinator-same   the coordinator's record
+--   sites-back, sites-same               all sites' records and the count of messages
+use Prim.Native.Nat.{ℕ, zero, suc, _+_, _*_, _<_, _≤_}
+use mathlib.Core.Path.{_≡_, refl, ap, sym, _∙_}
+use mathlib.Core.Bool.{true, _&&_}
+use mathlib.Core.List.{List, [], _∷_, _++_, append-assoc}
+use native.Mathlib.Nat.{add-zero}
+use native.Mathlib.Omega.{arith}
+use native.Mathlib.Decide.{ℕ-discrete}
+use lib.Dec.{leb}
+use lib.ListN.{length, getD, take, drop}
+use lib.Seq.{getD-append-add, take-add, take-suc, ext-getD, getD-at}
+use borrow.Author.Tests.{ne-eqb, eqb-true, leb-true}
+use Rattle.laws.proofs.Tests.{both-true}
+use Rattle.laws.proofs.Lists.{read-take, getD-snoc-old, getD-snoc-new}
+use Rattle.model.specs.declared.Settings.{Settings}
+use Rattle.model.specs.declared.Message.{Message}
+use Rattle.model.specs.declared.SiteRecord.{SiteRecord}
+use Rattle.model.specs.declared.Sites.{Sites}
+use Rattle.model.specs.declared.Phase.{Phase}
+use Rattle.model.specs.declared.Phase.the-variants.{Idle, Collecting, Probing, Announcing}
+use Rattle.model.specs.declared.CoordinatorRecord.{CoordinatorRecord}
+use Rattle.model.specs.Choice.{isZero}
+use Rattle.record_numbers.specs.Numbers.{settingsNumbers, settingsFrom, messageNumbers, messageFrom, siteAt, siteNumbers, siteFrom, zeroSite, recordsNumbers, recordsFrom, sitesNumbers, sitesFrom, phaseOf, phaseNumbers, phaseFrom, phaseWell, tenNumbers, coordinatorNumbers, coordinatorFrom, coordinatorWell}
+use Rattle.record_numbers.proofs.Records.{length-recordsFrom, length-recordsNumbers}
+
+-- ---- Settings, messages, a site's record
+
+pub settings-back : (settings : Settings) (rest : List ℕ)
+    → settingsFrom (settingsNumbers settings ++ rest) ≡ settings
+settings-back settings rest = refl
+
+pub settings-same : (numbers : List ℕ)
+    → 6 ≤ length numbers
+    → settingsNumbers (settingsFrom numbers) ≡ take 6 numbers
+settings-same numbers long = read-take 0 6 0 numbers (omega arith)
+
+pub message-back : (m : Message) (rest : List ℕ) → messageFrom (messageNumbers m ++ rest) ≡ m
+message-back m rest = refl
+
+pub message-same : (numbers : List ℕ)
+    → 4 ≤ length numbers
+    → messageNumbers (messageFrom numbers) ≡ take 4 numbers
+message-same numbers long = read-take 0 4 0 numbers (omega arith)
+
+pub site-back : (site : SiteRecord) (rest : List ℕ) → siteFrom (siteNumbers site ++ rest) ≡ site
+site-back site rest = refl
+
+-- The record whose numbers begin at a place.
+site-at-same : (numbers : List ℕ) (n : ℕ)
+    → n + 4 ≤ length numbers
+    → siteNumbers (siteAt numbers n) ≡ take 4 (drop n numbers)
+site-at-same numbers n long =
+    let one : n + 1 ≡ suc n = omega arith in
+    let two : n + 2 ≡ suc (suc n) = omega arith in
+    let three : n + 3 ≡ suc (suc (suc n)) = omega arith in
+    rw (one, two, three) (read-take 0 4 n numbers long)
+
+pub site-same : (numbers : List ℕ)
+    → 4 ≤ length numbers
+    → siteNumbers (siteFrom numbers) ≡ take 4 numbers
+site-same numbers long = site-at-same numbers 0 (omega arith)
+
+-- ---- The coordinator
+
+pub phase-back : (phase : Phase)
+    → let p = phaseNumbers phase in
+    phaseFrom (p .which) (p .site) (p .low) (p .high) (p .sum) ≡ phase
+phase-back Idle = refl
+phase-back (Collecting site) = refl
+phase-back (Probing site low high sum) = refl
+phase-back (Announcing site) = refl
+
+-- By the phase's number: idle has no numbers, collecting and announcing have one, probing all four.
+pub phase-same : (which site low high sum : ℕ)
+    → phaseWell which site low high sum ≡ true
+    → phaseNumbers (phaseFrom which site low high sum) ≡ phaseOf which site low high sum
+phase-same zero site low high sum well =
+    let none = eqb-true (site + low + high + sum) 0 well in
+    let s : 0 ≡ site = omega (arith, none) in
+    let l : 0 ≡ low = omega (arith, none) in
+    let h : 0 ≡ high = omega (arith, none) in
+    let m : 0 ≡ sum = omega (arith, none) in
+    λ i. phaseOf 0 (s i) (l i) (h i) (m i)
+phase-same (suc zero) site low high sum well =
+    let none = eqb-true (low + high + sum) 0 well in
+    let l : 0 ≡ low = omega (arith, none) in
+    let h : 0 ≡ high = omega (arith, none) in
+    let m : 0 ≡ sum = omega (arith, none) in
+    λ i. phaseOf 1 site (l i) (h i) (m i)
+phase-same (suc (suc zero)) site low high sum well = refl
+phase-same (suc (suc (suc zero))) site low high sum well =
+    let none = eqb-true (low + high + sum) 0 well in
+    let l : 0 ≡ low = omega (arith, none) in
+    let h : 0 ≡ high = omega (arith, none) in
+    let m : 0 ≡ sum = omega (arith, none) in
+    λ i. phaseOf 3 site (l i) (h i) (m i)
+phase-same (suc (suc (suc (suc more)))) site low high sum well =
+    let which = suc (suc (suc (suc more))) in
+    let rest : leb which 3 && isZero (low + high + sum) ≡ true =
+    rw (ne-eqb which 0 (λ none. omega arith), ne-eqb which 2 (λ two. omega arith)) at well in
+    let small = leb-true which 3
+    (both-true (leb which 3) (isZero (low + high + sum)) rest .first-true) in
+    absurd (omega arith)
+
+pub coordinator-back : (c : CoordinatorRecord) (rest : List ℕ)
+    → coordinatorFrom (coordinatorNumbers c ++ rest) ≡ c
+coordinator-back c rest =
+    ap (λ (phase : Phase). record {
+      total = c .total;
+      base = c .base;
+      threshold = c .threshold;
+      signals = c .signals;
+      quantile = c .quantile;
+      phase = phase;
+    })
+    (phase-back (c .phase))
+
+pub coordinator-same : (numbers : List ℕ)
+    → coordinatorWell numbers ≡ true
+    → coordinatorNumbers (coordinatorFrom numbers) ≡ take 10 numbers
+coordinator-same numbers well =
+    let both = both-true (leb 10 (length numbers)) _ well in
+    let long = leb-true 10 (length numbers) (both .first-true) in
+    ap (tenNumbers (coordinatorFrom numbers))
+    (phase-same (getD numbers 5 0) (getD numbers 6 0) (getD numbers 7 0) (getD numbers 8 0)
+    (getD numbers 9 0) (both .second-true))
+    ∙ read-take 0 10 0 numbers (omega arith)
+
+-- ---- All sites
+
+-- The record at a place, read from the first n.
+getD-recordsFrom : (n : ℕ) (numbers : List ℕ) (i : ℕ)
+    → i < n
+    → getD (recordsFrom n numbers) i zeroSite ≡ siteAt numbers (4 * i)
+getD-recordsFrom zero numbers i inside = absurd (omega arith)
+getD-recordsFrom (suc n) numbers i inside = by-place (ℕ-discrete i n)
+    (λ before. getD-recordsFrom n numbers i before)
+  where
+    width : length (recordsFrom n numbers) ≡ n
+    width = length-recordsFrom n numbers
+
+    by-place : Dec (i ≡ n)
+        → (i < n → getD (recordsFrom n numbers) i zeroSite ≡ siteAt numbers (4 * i))
+        → getD (recordsFrom (suc n) numbers) i zeroSite ≡ siteAt numbers (4 * i)
+    by-place (yes last) earlier =
+        ap (λ (j : ℕ). getD (recordsFrom (suc n) numbers) j zeroSite) (last ∙ sym width)
+        ∙ getD-snoc-new zeroSite (recordsFrom n numbers) (siteAt numbers (4 * n))
+        ∙ ap (λ (j : ℕ). siteAt numbers (4 * j)) (sym last)
+    by-place (no other) earlier =
+        getD-snoc-old zeroSite (recordsFrom n numbers) (siteAt numbers (4 * n)) i
+        (omega (arith, width, other))
+        ∙ earlier (omega arith)
+
+-- The numbers of the first n of k records.
+records-same : (n k : ℕ) (numbers : List ℕ)
+    → n ≤ k
+    → 4 * n ≤ length numbers
+    → recordsNumbers n (recordsFrom k numbers) ≡ take (4 * n) numbers
+records-same zero k numbers within long = refl
+records-same (suc n) k numbers within long =
+    let next : 4 * n + 4 ≡ 4 * suc n = omega arith in
+    (λ i. records-same n k numbers (omega arith) (omega arith) i
+    ++ siteNumbers (getD-recordsFrom k numbers n (omega arith) i))
+    ∙ ap (λ (l : List ℕ). take (4 * n) numbers ++ l) (site-at-same numbers (4 * n) (omega arith))
+    ∙ sym (take-add (4 * n) 4 numbers)
+    ∙ ap (λ (j : ℕ). take j numbers) next
+
+pub sites-same : (numbers : List ℕ)
+    → 129 ≤ length numbers
+    → sitesNumbers (sitesFrom numbers) ≡ take 129 numbers
+sites-same numbers long =
+    ap (λ (l : List ℕ). l ++ (getD numbers 128 0 ∷ []))
+    (records-same 32 32 numbers (omega arith) (omega arith))
+    ∙ sym (take-suc numbers 128 0 (omega arith))
+
+-- A record that stands right behind so many numbers.
+site-behind : (front back : List ℕ) (n : ℕ)
+    → length front ≡ n
+    → siteAt (front ++ back) n ≡ siteFrom back
+site-behind front back n width =
+    let at : (j : ℕ) → getD (front ++ back) (n + j) 0 ≡ getD back j 0 =
+    λ j. ap (λ (m : ℕ). getD (front ++ back) (m + j) 0) (sym width)
+    ∙ getD-append-add front back j 0 in
+    let first : getD (front ++ back) n 0 ≡ getD back 0 0 =
+    ap (λ (m : ℕ). getD (front ++ back) m 0) (sym (add-zero n)) ∙ at 0 in
+    λ i. record { arrivals = first i; pending = at 1 i; threshold = at 2 i; used = at 3 i }
+
+-- The record at a place among the numbers of the first n.
+site-written : (n : ℕ) (records : List SiteRecord) (rest : List ℕ) (i : ℕ)
+    → i < n
+    → siteAt (recordsNumbers n records ++ rest) (4 * i) ≡ getD records i zeroSite
+site-written zero records rest i inside = absurd (omega arith)
+site-written (suc n) records rest i inside =
+    ap (λ (l : List ℕ). siteAt l (4 * i))
+    (append-assoc (recordsNumbers n records) (siteNumbers (getD records n zeroSite)) rest)
+    ∙ by-place (ℕ-discrete i n)
+    (λ before. site-written n records (siteNumbers (getD records n zeroSite) ++ rest) i before)
+  where
+    by-place : Dec (i ≡ n)
+        → (i < n
+        → siteAt (recordsNumbers n records ++ (siteNumbers (getD records n zeroSite) ++ rest))
+        (4 * i)
+        ≡ getD records i zeroSite)
+        → siteAt (recordsNumbers n records ++ (siteNumbers (getD records n zeroSite) ++ rest))
+        (4 * i)
+        ≡ getD records i zeroSite
+    by-place (yes last) earlier =
+        ap (λ (j : ℕ).
+        siteAt (recordsNumbers n records ++ (siteNumbers (getD records n zeroSite) ++ rest)) (4 * j))
+        last
+        ∙ site-behind (recordsNumbers n records) _ (4 * n) (length-recordsNumbers n records)
+        ∙ ap (λ (j : ℕ). getD records j zeroSite) (sym last)
+    by-place (no other) earlier = earlier (omega arith)
+
+-- So many records and what stands behind them, read again.
+records-back : (n : ℕ) (records : List SiteRecord) (rest : List ℕ)
+    → length records ≡ n
+    → recordsFrom n (recordsNumbers n records ++ rest) ≡ records
+records-back n records rest whole =
+    let numbers = recordsNumbers n records ++ rest in
+    let width = length-recordsFrom n numbers in
+    ext-getD zeroSite (recordsFrom n numbers) records (width ∙ sym whole)
+    (λ i inside.
+    let below : i < n = omega (arith, width) in
+    getD-recordsFrom n numbers i below ∙ site-written n records rest i below)
+
+pub sites-back : (sites : Sites) (rest : List ℕ)
+    → length (sites .records) ≡ 32
+    → sitesFrom (sitesNumbers sites ++ rest) ≡ sites
+sites-back sites rest whole =
+    let front = recordsNumbers 32 (sites .records) in
+    let numbers-are : sitesNumbers sites ++ rest ≡ front ++ (sites .messages ∷ rest) =
+    append-assoc front (sites .messages ∷ []) rest in
+    let records = ap (recordsFrom 32) numbers-are
+    ∙ records-back 32 (sites .records) (sites .messages ∷ rest) whole in
+    let messages = ap (λ (l : List ℕ). getD l 128 0) numbers-are
+    ∙ getD-at front (sites .messages) rest 0 128 (length-recordsNumbers 32 (sites .records)) in
+    λ i. record { records = records i; messages = messages i }

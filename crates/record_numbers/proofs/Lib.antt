@@ -1,0 +1,3 @@
+-- Laws of records as plain numbers.
+pub mod Records
+pub mod Inverse

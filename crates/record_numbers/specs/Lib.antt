@@ -1,0 +1,2 @@
+-- Records as plain numbers.
+pub mod Numbers

@@ -1,0 +1,191 @@
+-- Records as plain numbers, in the order in which document 01 names them, and back. Every list of
+-- numbers may be longer than the record; the rest is not looked at.
+--
+--   settingsNumbers, settingsFrom        k, e, p, q, c, u
+--   messageNumbers, messageFrom          kind, deck, a, b
+--   siteNumbers, siteFrom                draws, pending, threshold, slots in use
+--   sitesNumbers, sitesFrom              the records of 32 decks, then the count of messages
+--   phaseNumbers, phaseFrom              0 idle, 1 collecting, 2 probing or 3 announcing; then
+--                                        deck, low, high and sum, those not in use 0
+--   coordinatorNumbers, coordinatorFrom  total, base, threshold, signals, class, and the phase
+--   coordinatorFits numbers              whether they are a coordinator's record
+--   phaseWell, coordinatorWell           whether numbers are those of the record made from them
+use mathlib.Core.Bool.{Bool, true, _&&_}
+use mathlib.Core.List.{List, [], _∷_, _++_}
+use Prim.Native.Nat.{ℕ, zero, suc, max, _+_, _*_}
+use lib.Dec.{leb, eqb}
+use lib.ListN.{length, getD}
+use Rattle.model.specs.declared.Settings.{Settings}
+use Rattle.model.specs.declared.Message.{Message}
+use Rattle.model.specs.declared.SiteRecord.{SiteRecord}
+use Rattle.model.specs.declared.Sites.{Sites}
+use Rattle.model.specs.declared.Phase.{Phase}
+use Rattle.model.specs.declared.Phase.the-variants.{Idle, Collecting, Probing, Announcing}
+use Rattle.model.specs.declared.CoordinatorRecord.{CoordinatorRecord}
+use Rattle.record_numbers.specs.declared.coordinator_numbers.PhaseNumbers.{PhaseNumbers}
+use Rattle.model.specs.Choice.{if_then_else_, isZero}
+use Rattle.model.specs.Limits.{mostSites}
+use Rattle.model.specs.Messages.{message}
+use Rattle.model.specs.Settings.{settingsWith}
+
+-- ---- Settings and messages
+
+-- Six numbers: k, e, p, q, c, u.
+abbrev pub settingsNumbers : Settings → List ℕ
+settingsNumbers settings =
+    settings .sites ∷ (settings .epsilon ∷ (settings .phi ∷ (settings .rank
+    ∷ (settings .capacity ∷ (settings .universe ∷ [])))))
+
+abbrev pub settingsFrom : List ℕ → Settings
+settingsFrom numbers =
+    settingsWith
+    (getD numbers 0 0)
+    (getD numbers 1 0)
+    (getD numbers 2 0)
+    (getD numbers 3 0)
+    (getD numbers 4 0)
+    (getD numbers 5 0)
+
+-- Kind, site, a, b.
+abbrev pub messageNumbers : Message → List ℕ
+messageNumbers m = m .kind ∷ (m .site ∷ (m .a ∷ (m .b ∷ [])))
+
+abbrev pub messageFrom : List ℕ → Message
+messageFrom numbers =
+    message (getD numbers 0 0) (getD numbers 1 0) (getD numbers 2 0) (getD numbers 3 0)
+
+-- ---- Sites
+
+-- Arrivals, pending, threshold, used: the record whose numbers begin at a place.
+abbrev pub siteAt : List ℕ → ℕ → SiteRecord
+siteAt numbers at = record {
+  arrivals = getD numbers at 0;
+  pending = getD numbers (at + 1) 0;
+  threshold = getD numbers (at + 2) 0;
+  used = getD numbers (at + 3) 0;
+}
+
+abbrev pub siteFrom : List ℕ → SiteRecord
+siteFrom numbers = siteAt numbers 0
+
+-- The same four, in the same order.
+abbrev pub siteNumbers : SiteRecord → List ℕ
+siteNumbers site = site .arrivals ∷ (site .pending ∷ (site .threshold ∷ (site .used ∷ [])))
+
+-- The first n records of the numbers, four numbers each.
+abbrev pub recordsFrom : ℕ → List ℕ → List SiteRecord
+recordsFrom zero numbers = []
+recordsFrom (suc n) numbers = recordsFrom n numbers ++ (siteAt numbers (4 * n) ∷ [])
+
+-- All 32 records, then the count of messages.
+abbrev pub sitesFrom : List ℕ → Sites
+sitesFrom numbers = record {
+  records = recordsFrom mostSites numbers;
+  messages = getD numbers 128 0;
+}
+
+-- The record that stands for one past the end: all numbers 0.
+abbrev pub zeroSite : SiteRecord
+zeroSite = record { arrivals = 0; pending = 0; threshold = 0; used = 0 }
+
+-- The first n records, four numbers each.
+abbrev pub recordsNumbers : ℕ → List SiteRecord → List ℕ
+recordsNumbers zero records = []
+recordsNumbers (suc n) records = recordsNumbers n records ++ siteNumbers (getD records n zeroSite)
+
+-- Those of all 32, then the count of messages.
+abbrev pub sitesNumbers : Sites → List ℕ
+sitesNumbers sites = recordsNumbers mostSites (sites .records) ++ (sites .messages ∷ [])
+
+-- ---- The coordinator
+
+-- The greatest number of four bytes.
+abbrev pub greatestNarrow : ℕ
+greatestNarrow = 4294967295
+
+-- 0 idle, 1 collecting, 2 probing, 3 announcing; those numbers that the phase has not are not
+-- looked at.
+abbrev pub phaseFrom : ℕ → ℕ → ℕ → ℕ → ℕ → Phase
+phaseFrom which site low high sum =
+    if eqb which 0 then Idle
+    else if eqb which 1 then Collecting site
+    else if eqb which 2 then Probing site low high sum
+    else Announcing site
+
+-- Total, base, threshold, signals, quantile; then the phase: which, site, low, high, sum.
+abbrev pub coordinatorFrom : List ℕ → CoordinatorRecord
+coordinatorFrom numbers = record {
+  total = getD numbers 0 0;
+  base = getD numbers 1 0;
+  threshold = getD numbers 2 0;
+  signals = getD numbers 3 0;
+  quantile = getD numbers 4 0;
+  phase =
+      phaseFrom
+      (getD numbers 5 0)
+      (getD numbers 6 0)
+      (getD numbers 7 0)
+      (getD numbers 8 0)
+      (getD numbers 9 0);
+}
+
+-- The greatest of the numbers that the record holds in four bytes.
+abbrev pub greatestHeld : List ℕ → ℕ
+greatestHeld numbers =
+    max
+    (max (getD numbers 3 0) (getD numbers 4 0))
+    (max (getD numbers 6 0) (max (getD numbers 7 0) (getD numbers 8 0)))
+
+-- There are ten, the phase is one of the four, and what the record holds in four bytes fits them.
+abbrev pub coordinatorFits : List ℕ → Bool
+coordinatorFits numbers =
+    leb 10 (length numbers)
+    && leb (getD numbers 5 0) 3
+    && leb (greatestHeld numbers) greatestNarrow
+
+-- The five numbers of a phase.
+abbrev pub phaseOf : ℕ → ℕ → ℕ → ℕ → ℕ → PhaseNumbers
+phaseOf which site low high sum = record {
+  which = which;
+  site = site;
+  low = low;
+  high = high;
+  sum = sum;
+}
+
+-- The numbers that a phase has not are 0.
+abbrev pub phaseNumbers : Phase → PhaseNumbers
+phaseNumbers Idle = phaseOf 0 0 0 0 0
+phaseNumbers (Collecting site) = phaseOf 1 site 0 0 0
+phaseNumbers (Probing site low high sum) = phaseOf 2 site low high sum
+phaseNumbers (Announcing site) = phaseOf 3 site 0 0 0
+
+-- The record's ten numbers, the last five of them those of its phase.
+abbrev pub tenNumbers : CoordinatorRecord → PhaseNumbers → List ℕ
+tenNumbers c phase =
+    c .total ∷ (c .base ∷ (c .threshold ∷ (c .signals ∷ (c .quantile
+    ∷ (phase .which ∷ (phase .site ∷ (phase .low ∷ (phase .high ∷ (phase .sum ∷ [])))))))))
+
+-- The ten numbers of a record.
+abbrev pub coordinatorNumbers : CoordinatorRecord → List ℕ
+coordinatorNumbers c = tenNumbers c (phaseNumbers (c .phase))
+
+-- ---- Well formed
+
+-- A phase's number is at most 3, and the numbers that it has not are 0.
+abbrev pub phaseWell : ℕ → ℕ → ℕ → ℕ → ℕ → Bool
+phaseWell which site low high sum =
+    if eqb which 0 then isZero (site + low + high + sum)
+    else if eqb which 2 then true
+    else leb which 3 && isZero (low + high + sum)
+
+-- There are ten, and the last five are a phase's.
+abbrev pub coordinatorWell : List ℕ → Bool
+coordinatorWell numbers =
+    leb 10 (length numbers)
+    && phaseWell
+    (getD numbers 5 0)
+    (getD numbers 6 0)
+    (getD numbers 7 0)
+    (getD numbers 8 0)
+    (getD numbers 9 0)

@@ -1,0 +1,109 @@
+// Settings and sites' records as plain numbers, in document 01's order. Lent numbers may be more;
+// the rest is not looked at, and stays.
+ghost use mathlib.Core.Path.{_≡_};
+ghost use Prim.Native.Nat.{_≤_};
+ghost use lib.ListN.{length};
+ghost use Rattle.model.specs.SiteMemory.{overwrite};
+ghost use Rattle.record_numbers.specs.Numbers.{settingsFrom, siteFrom, siteNumbers, sitesFrom, sitesNumbers};
+use model::SITE_RECORDS;
+use model::Settings;
+use model::SiteRecord;
+use model::Sites;
+
+// How many numbers each record takes.
+pub const SETTINGS_NUMBERS: usize = 6;
+
+pub const SITE_NUMBERS: usize = 4;
+
+pub const SITES_NUMBERS: usize = COUNT_PLACE + 1;
+
+// Where the count of messages stands among the sites' numbers: after all records.
+const COUNT_PLACE: usize = SITE_NUMBERS * SITE_RECORDS;
+
+// The settings of six numbers. The caller tests the lengths.
+pub fn settings_from(numbers: &[u32]) -> Settings
+    requires { ⌜ 6 ≤ length (now numbers) ⌝ }
+    ensures { λ r. ⌜ r ≡ settingsFrom (now (numbers .entry)) ⌝ }
+{
+    Settings {
+        sites: numbers[0],
+        epsilon: numbers[1],
+        phi: numbers[2],
+        rank: numbers[3],
+        capacity: numbers[4],
+        universe: numbers[5],
+    }
+}
+
+// The site's record of four numbers. The caller tests the lengths.
+pub fn site_from(numbers: &[u64]) -> SiteRecord
+    requires { ⌜ 4 ≤ length (now numbers) ⌝ }
+    ensures { λ r. ⌜ r ≡ siteFrom (now (numbers .entry)) ⌝ }
+{
+    SiteRecord {
+        arrivals: numbers[0],
+        pending: numbers[1],
+        threshold: numbers[2],
+        used: numbers[3],
+    }
+}
+
+// The four numbers of a site's record. The caller tests the lengths.
+pub fn write_site(numbers: &mut [u64], site: SiteRecord)
+    requires { ⌜ 4 ≤ length (now numbers) ⌝ }
+    ensures { λ r. ⌜ now (numbers .exit)
+        ≡ overwrite (siteNumbers site) (now (numbers .entry)) ⌝ }
+{
+    numbers[0] = site.arrivals;
+    numbers[1] = site.pending;
+    numbers[2] = site.threshold;
+    numbers[3] = site.used;
+}
+
+// All records and the count of messages. The caller tests the lengths.
+pub fn sites_from(numbers: &[u64]) -> Sites
+    requires { ⌜ 129 ≤ length (now numbers) ⌝ }
+    ensures { λ r. ⌜ r ≡ sitesFrom (now (numbers .entry)) ⌝ }
+{
+    let zero = SiteRecord {
+        arrivals: 0,
+        pending: 0,
+        threshold: 0,
+        used: 0,
+    };
+    let mut records = [zero; SITE_RECORDS];
+    let mut i = 0;
+    while i < SITE_RECORDS {
+        let at = 4 * i;
+        records[i] = SiteRecord {
+            arrivals: numbers[at],
+            pending: numbers[at + 1],
+            threshold: numbers[at + 2],
+            used: numbers[at + 3],
+        };
+        i += 1;
+    }
+    Sites {
+        records: records,
+        messages: numbers[COUNT_PLACE],
+    }
+}
+
+// Their numbers. The caller tests the lengths.
+pub fn write_sites(numbers: &mut [u64], sites: Sites)
+    requires { ⌜ 129 ≤ length (now numbers) ⌝ }
+    ensures { λ r. ⌜ now (numbers .exit)
+        ≡ overwrite (sitesNumbers sites) (now (numbers .entry)) ⌝ }
+{
+    let mut i = 0;
+    while i < SITE_RECORDS {
+        let site = sites.records[i];
+        let at = 4 * i;
+        numbers[at] = site.arrivals;
+        numbers[at + 1] = site.pending;
+        numbers[at + 2] = site.threshold;
+        numbers[at + 3] = site.used;
+        i += 1;
+    }
+    numbers[COUNT_PLACE] = sites.messages;
+}

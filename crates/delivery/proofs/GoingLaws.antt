@@ -26,7 +26,7 @@ use Rattle.model.proofs.DeliveryTheorem.{delivery-claims}
 use Rattle.model.proofs.Stages.{Stage}
 use Rattle.model.proofs.SoundTheorem.{StillLeft, reached-left, sound-claims}
 use Rattle.delivery.specs.Bounded.{Bounded}
-use Rattle.delivery.specs.Holding.{Given, Accepting, Going, rested}
+use Rattle.delivery.specs.Holding.{WithLog, Accepting, Going, rested}
 use Rattle.delivery.proofs.StageNumbers.{at-stage}
 use Rattle.delivery.proofs.QuietSteps.{answers-one, quiet-announced}
 use Rattle.delivery.proofs.BoundedSteps.{reached-bounded}
@@ -83,7 +83,7 @@ stored-of-sound {settings} {network} all sites numbers = record {
 
 -- ---- A delivery that goes on
 
-module _ {settings : Settings} {given : Given} {earlier : List Message} {network : Network}
+module _ {settings : Settings} {given : WithLog} {earlier : List Message} {network : Network}
     {arrival : Arrival} (accepting : Accepting settings given earlier network arrival) where
   pub going-fit : Settled settings
   going-fit = settled settings (accepting .fits .settings-accepted)
@@ -92,7 +92,7 @@ module _ {settings : Settings} {given : Given} {earlier : List Message} {network
   going-taken =
       taken-of-no-refusal settings (siteAt network (arrival .site)) arrival (accepting .taken)
 
-module _ {settings : Settings} {given : Given} {earlier : List Message} {network : Network}
+module _ {settings : Settings} {given : WithLog} {earlier : List Message} {network : Network}
     {arrival : Arrival} {steps : ℕ} {d : Delivery}
     (going : Going settings given earlier network arrival steps d) where
   abbrev accepting : Accepting settings given earlier network arrival
@@ -144,7 +144,7 @@ module _ {settings : Settings} {given : Given} {earlier : List Message} {network
 
 -- ---- The next step
 
-module _ {settings : Settings} {given : Given} {earlier : List Message} {network : Network}
+module _ {settings : Settings} {given : WithLog} {earlier : List Message} {network : Network}
     {arrival : Arrival} {steps : ℕ} where
   pub going-handed : {now : Network} {m : Message} {waiting log : List Message}
       → Going settings given earlier network arrival steps (delivery now (m ∷ waiting) log)

@@ -25,7 +25,7 @@ use Rattle.model.proofs.MidDelivery.{hand-on}
 use Rattle.model.proofs.SoundTheorem.{StillLeft, reached-left, sound-claims}
 use Rattle.site_steps.proofs.ReceiveLaws.{message-due}
 use Rattle.delivery.specs.Bounded.{Bounded}
-use Rattle.delivery.specs.Holding.{Given, State, Holds, Accepting, rested}
+use Rattle.delivery.specs.Holding.{WithLog, Carrying, Holds, Accepting, rested}
 use Rattle.delivery.proofs.BoundedLaws.{allArrivals-set}
 use Rattle.delivery.proofs.QuietSteps.{quiet-site}
 use Rattle.delivery.proofs.BoundedSteps.{reached-bounded}
@@ -65,7 +65,7 @@ steps-somewhere (suc fuel) settings start d there =
     steps-somewhere fuel settings start (deliveryStep settings d)
     (step-somewhere settings start (d .network) (d .waiting) (d .log) there)
 
-module _ {settings : Settings} {given : Given} {earlier : List Message} {network : Network}
+module _ {settings : Settings} {given : WithLog} {earlier : List Message} {network : Network}
     {arrival : Arrival} (accepting : Accepting settings given earlier network arrival) where
   abbrev start : Delivery
   start = deliveryOf settings network arrival
@@ -146,10 +146,11 @@ module _ {settings : Settings} {given : Given} {earlier : List Message} {network
 -- ---- Messages so far
 
 -- At rest, the delivery's own messages are those of earlier arrivals for the next.
-pub holds-rested : {settings : Settings} {given : Given} {earlier : List Message} {held : State}
+pub holds-rested : {settings : Settings} {given : WithLog} {earlier : List Message}
+    {carry : Carrying}
     (network : Network) (messages : List Message)
-    → Holds settings given earlier (delivery network [] messages) held
-    → Holds settings given (earlier ++ messages) (delivery network [] []) held
+    → Holds settings given earlier (delivery network [] messages) carry
+    → Holds settings given (earlier ++ messages) (delivery network [] []) carry
 holds-rested {earlier = earlier} network messages holds =
     let same : (earlier ++ messages) ++ [] ≡ earlier ++ messages =
     append-nil (earlier ++ messages) in

@@ -19,7 +19,7 @@ use Rattle.model.specs.declared.Message.{Message}
 use Rattle.model.specs.Refusals.{accepted}
 use Rattle.model.specs.Limits.{mostSites}
 use Rattle.model.specs.Settings.{settingsRefusal}
-use Rattle.model.specs.Site.{Site, freshSite, siteReceives}
+use Rattle.model.specs.Site.{Site, siteReceives}
 use Rattle.model.specs.SiteMemory.{siteWords, siteIn, siteRecord, siteMemory, siteMemoryRefusal}
 use Rattle.model.specs.CoordinatorMemory.{coordinatorWords, coordinatorIn, coordinatorMemory}
 use Rattle.model.specs.Network.{siteAt, withSite}
@@ -30,7 +30,7 @@ use Rattle.model.proofs.ConsistentSites.{length-countersIn, consistent-of-sound
 use Rattle.site_memory.proofs.SiteMemoryLaws.{siteIn-siteMemory}
 use Rattle.network_memory.proofs.OneSite.{Storable}
 use Rattle.network_memory.proofs.SitesReading.{getD-sitesIn}
-use Rattle.history.specs.State.{Held, networkOf, recordAt, siteStart, sitePart, withPart, afterSiteCall}
+use Rattle.history.specs.State.{Held, networkOf, recordAt, siteStart, sitePart, withPart, afterSiteCall, noRecord}
 use Rattle.history.proofs.SiteParts.{siteIn-take, front-long, siteIn-received}
 use Rattle.history.proofs.SitesMemory.{offset, offset-is, sitesIn-set, written, length-written, part-written, sitesIn-written}
 
@@ -74,7 +74,7 @@ module _ {settings : Settings} (passes : settingsRefusal settings ≡ accepted) 
 
   site-is : siteAt (networkOf settings held) j ≡ siteIn settings (recordAt held j) rest
   site-is =
-      getD-sitesIn (siteRecord freshSite) (settings .sites) settings (held .sites .records)
+      getD-sitesIn noRecord (settings .sites) settings (held .sites .records)
       (held .siteMemory) j known enough-records
 
   -- The site that is read there is sound.
@@ -119,7 +119,7 @@ module _ {settings : Settings} (passes : settingsRefusal settings ≡ accepted) 
       let known-i : i < settings .sites = omega arith in
       let at = drop (siteStart settings i) (held .siteMemory) in
       let here : siteAt (networkOf settings held) i ≡ siteIn settings (recordAt held i) at =
-      getD-sitesIn (siteRecord freshSite) (settings .sites) settings (held .sites .records)
+      getD-sitesIn noRecord (settings .sites) settings (held .sites .records)
       (held .siteMemory) i known-i enough-records in
       let sound-i : SoundSite settings (siteIn settings (recordAt held i) at) =
       rw here at (sound i known-i) in
@@ -170,7 +170,7 @@ module _ {settings : Settings} (passes : settingsRefusal settings ≡ accepted) 
         ∙ ap (λ (from : ℕ). written settings from site (held .siteMemory))
         (sym (offset-is words j)))
         ∙ sitesIn-written settings site fits (settings .sites) j (held .sites .records)
-        (siteRecord site) (siteRecord freshSite) (held .siteMemory) in-memory-at earlier-within
+        (siteRecord site) noRecord (held .siteMemory) in-memory-at earlier-within
         ∙ ap (set (sitesIn (settings .sites) settings (held .sites .records) (held .siteMemory)) j)
         (ap (λ (from : ℕ).
         siteIn settings (siteRecord site)

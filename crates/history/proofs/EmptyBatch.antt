@@ -18,11 +18,10 @@ use Rattle.model.specs.declared.SiteRecord.{SiteRecord}
 use Rattle.model.specs.Choice.{isZero}
 use Rattle.model.specs.Refusals.{accepted}
 use Rattle.model.specs.Settings.{settingsRefusal}
-use Rattle.model.specs.Site.{freshSite}
-use Rattle.model.specs.SiteMemory.{siteWords, siteIn, siteRecord}
+use Rattle.model.specs.SiteMemory.{siteWords, siteIn}
 use Rattle.model.specs.CoordinatorMemory.{coordinatorWords}
 use Rattle.model.specs.Network.{Network, siteAt, afterArrival}
-use Rattle.model.specs.NetworkMemory.{sitesWords, networkRefusal, networkTooShort, networkConsistent, sitesIn}
+use Rattle.model.specs.NetworkMemory.{sitesWords, networkTooShort, networkConsistent, sitesIn}
 use Rattle.model.specs.Runs.{Batch, batchRefusal, batchFrom, batchOf}
 use Rattle.model.specs.SoundNetwork.{Sound}
 use Rattle.model.proofs.RefusalLaws.{both-accepted, passed}
@@ -30,9 +29,8 @@ use Rattle.model.proofs.ConsistentSites.{length-countersIn}
 use Rattle.model.proofs.ConsistentNetwork.{network-sound-of}
 use Rattle.network_memory.proofs.SitesReading.{getD-sitesIn, siteRecords-sitesIn, sitesMemory-sitesIn}
 use Rattle.coordinator_kinds.proofs.MemoryLaws.{memory-kept}
-use Rattle.tracker_steps.specs.declared.BatchAnswer.{BatchAnswer}
-use Rattle.tracker.specs.Batch.{BatchCall, BatchLent, BatchSays, startRefusal, batchIn, unlessRefused}
-use Rattle.history.specs.State.{Held, State, networkOf, recordAt, siteStart}
+use Rattle.tracker.specs.Batch.{BatchCall, BatchHeld, BatchSays, startRefusal, batchIn, unlessRefused}
+use Rattle.history.specs.State.{Held, State, networkOf, heldRefusal, recordAt, siteStart, noRecord}
 use Rattle.history.specs.Histories.{batchCall, afterBatch}
 
 -- ---- A batch of the model that accepts nothing
@@ -101,9 +99,7 @@ record Passes (settings : Settings) (held : Held) : Type 0 where
   sound : Sound settings (networkOf settings held)
 
 passes-of : (settings : Settings) (held : Held)
-    → networkRefusal settings (held .sites) (held .coordinator) (held .siteMemory)
-    (held .coordinatorMemory)
-    ≡ accepted
+    → heldRefusal settings held ≡ accepted
     → Passes settings held
 passes-of settings held none =
     let short = networkTooShort settings (held .siteMemory) (held .coordinatorMemory) in
@@ -147,7 +143,7 @@ module _ (settings : Settings) (held : Held) (ok : Passes settings held) where
   used-within j known =
       let at = drop (siteStart settings j) (held .siteMemory) in
       let here : siteAt (networkOf settings held) j ≡ siteIn settings (recordAt held j) at =
-      getD-sitesIn (siteRecord freshSite) (settings .sites) settings (held .sites .records)
+      getD-sitesIn noRecord (settings .sites) settings (held .sites .records)
       (held .siteMemory) j known enough-records in
       let few = rw here at (ok .sound .sites-sound j known .few-counters) in
       omega (arith, few, length-countersIn (recordAt held j .used) at)
@@ -155,8 +151,8 @@ module _ (settings : Settings) (held : Held) (ok : Passes settings held) where
 -- ---- The state after the call
 
 module _ (before : State) (given : Settings) (arrivals : List Arrival) (log : List ℕ)
-    (lent : BatchLent) (answer : BatchAnswer)
-    (says : BatchSays (batchCall given (before .held) arrivals log) lent answer)
+    (answer : BatchHeld)
+    (says : BatchSays (batchCall given (before .held) arrivals log) answer)
     (nothing : answer .accepted ≡ 0) where
   abbrev call : BatchCall
   call = batchCall given (before .held) arrivals log
@@ -182,9 +178,9 @@ module _ (before : State) (given : Settings) (arrivals : List Arrival) (log : Li
       nothing-done given _ (networkOf given held) arrivals
       (sym (rw (eq-eqb (startRefusal call) 0 none) at (says .accepted)) ∙ nothing)
 
-  sites-same : answer .sites ≡ held .sites
+  sites-same : answer .held .sites ≡ held .sites
   sites-same =
-      by-start _ _ (answer .sites) (says .sites)
+      by-start _ _ (answer .held .sites) (says .sites)
       (λ none.
       let done = idle-batch none in
       let records = siteRecords-sitesIn (given .sites) given (held .sites .records)
@@ -198,24 +194,24 @@ module _ (before : State) (given : Settings) (arrivals : List Arrival) (log : Li
       add-zero : (n : ℕ) → n + 0 ≡ n
       add-zero n = omega arith
 
-  coordinator-same : answer .coordinator ≡ held .coordinator
+  coordinator-same : answer .held .coordinator ≡ held .coordinator
   coordinator-same =
-      by-start _ _ (answer .coordinator) (says .coordinator)
+      by-start _ _ (answer .held .coordinator) (says .coordinator)
       (λ none. rw (idle-batch none .network-same))
 
-  site-memory-same : lent .siteMemory ≡ held .siteMemory
+  site-memory-same : answer .held .siteMemory ≡ held .siteMemory
   site-memory-same =
-      by-start _ _ (lent .siteMemory) (says .site-memory)
+      by-start _ _ (answer .held .siteMemory) (says .site-memory)
       (λ none.
       let ok = passes-of given held none in
       rw (idle-batch none .network-same)
-      (sitesMemory-sitesIn (siteRecord freshSite) (given .sites) given (held .sites .records)
+      (sitesMemory-sitesIn noRecord (given .sites) given (held .sites .records)
       (held .siteMemory) (used-within given held ok) (enough-records given held ok)
       (ok .sites-long)))
 
-  coordinator-memory-same : lent .coordinatorMemory ≡ held .coordinatorMemory
+  coordinator-memory-same : answer .held .coordinatorMemory ≡ held .coordinatorMemory
   coordinator-memory-same =
-      by-start _ _ (lent .coordinatorMemory) (says .coordinator-memory)
+      by-start _ _ (answer .held .coordinatorMemory) (says .coordinator-memory)
       (λ none.
       rw (idle-batch none .network-same)
       (sym (memory-kept given (held .coordinator) (held .coordinatorMemory)
@@ -227,7 +223,7 @@ module _ (before : State) (given : Settings) (arrivals : List Arrival) (log : Li
       (λ none. ap length (idle-batch none .no-messages))
 
   -- Records, memory and bookkeeping are as they were.
-  pub batch-same : afterBatch before arrivals lent answer ≡ before
+  pub batch-same : afterBatch before arrivals answer ≡ before
   batch-same =
       rw (nothing, nothing-written)
       (λ i. record {

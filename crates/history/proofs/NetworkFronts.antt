@@ -12,16 +12,12 @@ use lib.ListN.{length, take, drop, take-append-drop}
 use borrow.Author.Tests.{ltb-false}
 use Rattle.laws.proofs.Tests.{neither-of-or}
 use Rattle.model.specs.declared.Settings.{Settings}
-use Rattle.model.specs.declared.Sites.{Sites}
-use Rattle.model.specs.declared.CoordinatorRecord.{CoordinatorRecord}
 use Rattle.model.specs.Refusals.{accepted, memoryTooShort}
 use Rattle.model.specs.Settings.{settingsRefusal}
-use Rattle.model.specs.Site.{freshSite}
-use Rattle.model.specs.SiteMemory.{siteRecord}
 use Rattle.model.specs.CoordinatorMemory.{coordinatorWords}
-use Rattle.model.specs.NetworkMemory.{sitesWords, sitesIn, networkTooShort, networkRefusal}
+use Rattle.model.specs.NetworkMemory.{sitesWords, sitesIn, networkTooShort}
 use Rattle.model.proofs.RefusalLaws.{both-accepted, passed}
-use Rattle.history.specs.State.{Held, networkOf, fronts, lending}
+use Rattle.history.specs.State.{Held, networkOf, heldRefusal, fronts, lending, noRecord}
 use Rattle.history.proofs.CoordinatorFronts.{coordinatorIn-front}
 use Rattle.network_memory.proofs.SitesFronts.{sitesIn-front}
 use Rattle.history.proofs.Decoded.{Lengths, SitesSound, used-at}
@@ -32,11 +28,11 @@ pub record LongEnough (settings : Settings) (siteMemory coordinatorMemory : List
   pub coordinator-long : coordinatorWords settings ≤ length coordinatorMemory
 
 -- Not 4, and so long enough.
-pub long-enough : (settings : Settings) (sites : Sites) (coordinator : CoordinatorRecord)
-    (siteMemory coordinatorMemory : List ℕ)
-    → networkRefusal settings sites coordinator siteMemory coordinatorMemory ≡ accepted
-    → LongEnough settings siteMemory coordinatorMemory
-long-enough settings sites coordinator siteMemory coordinatorMemory none =
+pub long-enough : (settings : Settings) (held : Held) → heldRefusal settings held ≡ accepted
+    → LongEnough settings (held .siteMemory) (held .coordinatorMemory)
+long-enough settings held none =
+    let siteMemory = held .siteMemory in
+    let coordinatorMemory = held .coordinatorMemory in
     let short : networkTooShort settings siteMemory coordinatorMemory ≡ false =
     passed (networkTooShort settings siteMemory coordinatorMemory) memoryTooShort _ (omega arith)
     (both-accepted (settingsRefusal settings) _ none .later-accepted) .test-failed in
@@ -63,7 +59,7 @@ network-front {settings} passes held lengths sound siteCount coordinatorCount si
     let memory = held .siteMemory in
     let sites : sitesIn (settings .sites) settings records (take siteCount memory)
     ≡ sitesIn (settings .sites) settings records memory =
-    sym (sitesIn-front settings (siteRecord freshSite) (settings .sites) records
+    sym (sitesIn-front settings noRecord (settings .sites) records
     (take siteCount memory) (drop siteCount memory)
     (λ j known. used-at passes held lengths sound j known) sites-long)
     ∙ ap (sitesIn (settings .sites) settings records) (take-append-drop siteCount memory) in

@@ -31,7 +31,7 @@ use Rattle.model.proofs.RefusalLaws.{refused-same}
 use Rattle.site_memory.specs.Ready.{SiteReady}
 use Rattle.site_memory.proofs.ReadyLaws.{ready-of-consistent}
 use Rattle.model.proofs.ConsistentCoordinator.{coordinator-within-of}
-use Rattle.network_memory.specs.Records.{noRecord}
+use Rattle.model.specs.Held.{noRecord}
 use Rattle.network_tests.specs.Contracts.{SitesFit, NetworkFits, CountsFit}
 
 module _ (settings : Settings) where

@@ -33,7 +33,7 @@ use Rattle.model.proofs.ConsistentCoordinator.{CoordinatorWithin, coordinator-s
 use Rattle.counters.proofs.CounterMemory.{length-countersIn}
 use Rattle.site_memory.specs.Ready.{SiteReady}
 use Rattle.coordinator_kinds.proofs.MemoryLaws.{estimates-long, histogram-long}
-use Rattle.network_memory.specs.Records.{noRecord}
+use Rattle.model.specs.Held.{noRecord}
 use Rattle.network_memory.proofs.SitesReading.{length-sitesIn, getD-sitesIn}
 use Rattle.delivery.specs.Bounded.{Bounded}
 use Rattle.delivery.proofs.BoundedLaws.{bounded-start}

@@ -21,7 +21,7 @@ use Rattle.model.specs.Limits.{mostSites, messageLimit}
 use Rattle.model.specs.Settings.{settingsRefusal}
 use Rattle.model.specs.SiteMemory.{siteWords}
 use Rattle.model.specs.CoordinatorMemory.{coordinatorConsistent}
-use Rattle.model.specs.NetworkMemory.{sitesConsistent, atRestTogether, networkConsistent, networkTooShort, networkRefusal}
+use Rattle.model.specs.NetworkMemory.{sitesConsistent, atRestTogether, networkConsistent, networkTooShort}
 use Rattle.model.specs.Runs.{refusalIn}
 use Rattle.model.specs.SoundNetwork.{Sound}
 use Rattle.model.proofs.RefusalLaws.{both-accepted, passed, refused-same}
@@ -29,18 +29,12 @@ use Rattle.model.proofs.ConsistentCoordinator.{CoordinatorWithin, coordinator-w
 use Rattle.network_tests.specs.Contracts.{SitesFit}
 use Rattle.network_tests.proofs.SoundLaws.{passing}
 use Rattle.site.specs.Calls.{observeRefusal}
-use Rattle.history.specs.State.{Held, State, networkOf, recordAt, siteStart}
+use Rattle.history.specs.State.{heldRefusal, Held, State, networkOf, recordAt, siteStart}
 use Rattle.history.proofs.Decoded.{Lengths}
 use Rattle.history.proofs.Underway.{SoundRest, SoundParts}
 use Rattle.history.proofs.SoundMemory.{arrival-by-rules}
 use Rattle.public_delivery.specs.Arriving.{restFrom}
 use Rattle.public_delivery.specs.Delivery.{deliveryRefusal}
-
--- The start test of what is held.
-abbrev pub startRefusal : Settings → Held → ℕ
-startRefusal settings held =
-    networkRefusal settings (held .sites) (held .coordinator) (held .siteMemory)
-    (held .coordinatorMemory)
 
 pub record Passed (settings : Settings) (held : Held) : Type 0 where
   pub passes : settingsRefusal settings ≡ accepted
@@ -51,7 +45,7 @@ pub record Passed (settings : Settings) (held : Held) : Type 0 where
 
 -- The coordinator passes 11, so no number of it is above the limit.
 within-of : (settings : Settings) (held : Held)
-    → startRefusal settings held ≡ accepted
+    → heldRefusal settings held ≡ accepted
     → CoordinatorWithin (networkOf settings held .coordinator)
 within-of settings held none =
     let sites = held .sites in
@@ -76,7 +70,7 @@ within-of settings held none =
 -- Records that fill their array, and a start test that passes.
 pub passed-of : (settings : Settings) (held : Held)
     → length (held .sites .records) ≡ mostSites
-    → startRefusal settings held ≡ accepted
+    → heldRefusal settings held ≡ accepted
     → Passed settings held
 passed-of settings held all none =
     let holds = passing settings (held .sites) (held .coordinator) (held .siteMemory)
@@ -111,15 +105,15 @@ rest-of {settings} ok state held-is nothing-waits = record {
 
 -- 1, 2, 3, 4, 11.
 pub refused-start : (settings : Settings) (held : Held) (arrival : Arrival) (refusal : ℕ)
-    → refusal ≡ startRefusal settings held
+    → refusal ≡ heldRefusal settings held
     → (refusal ≡ accepted → ⊥)
     → refusal ≡ deliveryRefusal settings held arrival
 refused-start settings held arrival refusal =
-    refused-same refusal (startRefusal settings held)
+    refused-same refusal (heldRefusal settings held)
     (refusalIn settings (networkOf settings held) arrival)
 
 module _ (settings : Settings) (held : Held) (arrival : Arrival)
-    (none : startRefusal settings held ≡ accepted) where
+    (none : heldRefusal settings held ≡ accepted) where
   -- Past the start test, the rules' number.
   by-rules : refusalIn settings (networkOf settings held) arrival
       ≡ deliveryRefusal settings held arrival

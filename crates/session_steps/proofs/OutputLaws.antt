@@ -19,9 +19,9 @@ use Rattle.decimals.specs.Contracts.{writtenAt}
 use Rattle.decimals.proofs.WritingLaws.{length-written}
 use Rattle.lines.specs.Contracts.{fit, LineWritten}
 use Rattle.session_steps.specs.declared.Session.{Session}
-use Rattle.session_steps.specs.declared.Turn.{Turn}
+use Rattle.session_steps.specs.declared.Moved.{Moved}
 use Rattle.session_steps.specs.Output.{Written, writtenTo, atStart, lineAfter, linesAfter, linesOf}
-use Rattle.session_steps.specs.Outcome.{Lent, withOut, outcome, ended, refusedOf}
+use Rattle.session_steps.specs.Outcome.{Buffers, withOut, outcome, ended, refusedOf}
 
 -- ---- A line
 
@@ -174,11 +174,11 @@ lines-kept (line ∷ lines) before inside =
 
 -- ---- A refusal
 
-pub refused-of : (session : Session) (refusal place : ℕ) (before after : List ℕ) (turn : Turn)
-    → turn ≡ ended session place
+pub refused-of : (session : Session) (refusal place : ℕ) (before after : List ℕ) (moved : Moved)
+    → moved ≡ ended session place
     → writtenTo place after ≡ lineAfter (atStart before) (refusedLine refusal)
-    → (given : Lent)
-    → outcome turn (withOut given after) ≡ refusedOf session refusal (withOut given before)
-refused-of session refusal place before after turn is line given =
-    let turn-is = is ∙ ap (λ (written : Written). ended session (written .place)) line in
-    (λ i. outcome (turn-is i) (withOut given (line i .out)))
+    → (given : Buffers)
+    → outcome moved (withOut given after) ≡ refusedOf session refusal (withOut given before)
+refused-of session refusal place before after moved is line given =
+    let moved-is = is ∙ ap (λ (written : Written). ended session (written .place)) line in
+    (λ i. outcome (moved-is i) (withOut given (line i .out)))

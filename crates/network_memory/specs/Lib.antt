@@ -1,2 +1,0 @@
--- The records of the sites.
-pub mod Records

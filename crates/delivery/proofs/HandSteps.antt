@@ -23,7 +23,7 @@ use Rattle.site_steps.specs.Steps.{ReceiveStepSays}
 use Rattle.coordinator_kinds.specs.declared.Answered.{Answered}
 use Rattle.coordinator_kinds.specs.Steps.{answerOf, Does}
 use Rattle.model.specs.Held.{noRecord}
-use Rattle.network_memory.proofs.SitePart.{part}
+use Rattle.site_memory.proofs.SitePart.{part}
 use Rattle.sending.specs.declared.Queue.{Queue}
 use Rattle.sending.specs.declared.Traffic.{Traffic}
 use Rattle.delivery.specs.declared.Underway.{Underway}

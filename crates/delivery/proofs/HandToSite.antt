@@ -26,7 +26,7 @@ use Rattle.site_memory.specs.Ready.{SiteReady}
 use Rattle.site_steps.specs.declared.Replied as SiteAnswer
 use Rattle.site_steps.specs.Steps.{ReceiveAsks, ReceiveStepSays}
 use Rattle.site_steps.proofs.ReceiveLaws.{Due, message-due}
-use Rattle.network_memory.proofs.SitesMemoryLaws.{sitesMemory-kept}
+use Rattle.site_memory.proofs.SitesMemoryLaws.{sitesMemory-kept}
 use Rattle.sending.specs.declared.Queue.{Queue}
 use Rattle.delivery.specs.declared.Underway.{Underway}
 use Rattle.model.specs.Held.{noRecord, withRecord}
@@ -35,7 +35,7 @@ use Rattle.delivery.specs.UnderwayParts.{trafficOf}
 use Rattle.delivery.specs.Holding.{Carrying, carrying, answered, Holds, Fits, Delivering}
 use Rattle.delivery.specs.Handing.{siteOfHead}
 use Rattle.delivery.proofs.StageNumbers.{at-stage, site-ready}
-use Rattle.network_memory.proofs.SitePart.{few-sites, start-small, part, part-is}
+use Rattle.site_memory.proofs.SitePart.{few-sites, start-small, part, part-is}
 use Rattle.delivery.proofs.QuietSteps.{quiet-site}
 use Rattle.delivery.proofs.HoldingLaws.{part-long, part-starts, site-read, holds-answer, holds-site}
 use Rattle.delivery.proofs.GoingLaws.{going-fit, going-stage, going-stored}

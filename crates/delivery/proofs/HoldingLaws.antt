@@ -29,9 +29,9 @@ use Rattle.model.specs.Network.{Network, siteAt, withSite, withCoordinator}
 use Rattle.model.specs.NetworkMemory.{sitesMemory}
 use Rattle.model.specs.DeliveryClaims.{Delivery, delivery}
 use Rattle.coordinator_kinds.proofs.MemoryLaws.{written-coordinator}
-use Rattle.network_memory.proofs.OneSite.{overwritten-again}
-use Rattle.network_memory.proofs.SitesMemoryLaws.{AllStorable, getD-siteRecords, siteRecords-set, length-sitesMemory}
-use Rattle.network_memory.proofs.SitesReading.{siteIn-sitesMemory}
+use Rattle.site_memory.proofs.OneSite.{overwritten-again}
+use Rattle.site_memory.proofs.SitesMemoryLaws.{AllStorable, getD-siteRecords, siteRecords-set, length-sitesMemory}
+use Rattle.site_memory.proofs.SitesReading.{siteIn-sitesMemory}
 use Rattle.delivery.specs.declared.Underway.{Underway}
 use Rattle.sending.specs.declared.Queue.{Queue}
 use Rattle.sending.specs.Log.{messageNumbers, putRecord}

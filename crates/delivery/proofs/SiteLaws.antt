@@ -22,8 +22,8 @@ use Rattle.site_memory.specs.Ready.{SiteReady}
 use Rattle.site_steps.specs.declared.Observed.{Observed}
 use Rattle.site_steps.specs.Steps.{ObserveAsks, ObserveStepSays}
 use Rattle.model.specs.Held.{noRecord}
-use Rattle.network_memory.proofs.SitesMemoryLaws.{sitesMemory-set}
-use Rattle.network_memory.proofs.SitePart.{few-sites, start-small, part, part-is}
+use Rattle.site_memory.proofs.SitesMemoryLaws.{sitesMemory-set}
+use Rattle.site_memory.proofs.SitePart.{few-sites, start-small, part, part-is}
 use Rattle.sending.specs.Sending.{queueOf}
 use Rattle.delivery.specs.Holding.{Carrying, carrying, underwayIn, Holds, Fits}
 use Rattle.delivery.specs.Arriving.{ArrivalAsks, stepAt, takenAt, Taken, outOf, putBack}

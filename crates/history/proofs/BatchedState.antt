@@ -22,8 +22,8 @@ use Rattle.model.specs.Runs.{Run, runFrom, runOf, Batch, batchOf}
 use Rattle.model.specs.SoundNetwork.{Sound}
 use Rattle.model.proofs.SettingsLaws.{Settled, settled}
 use Rattle.model.proofs.RunLaws.{runFrom-append}
-use Rattle.network_memory.proofs.SitesMemoryLaws.{AllStorable, length-siteRecords, length-sitesMemory}
-use Rattle.network_memory.proofs.SitesReading.{sitesIn-sitesMemory}
+use Rattle.site_memory.proofs.SitesMemoryLaws.{AllStorable, length-siteRecords, length-sitesMemory}
+use Rattle.site_memory.proofs.SitesReading.{sitesIn-sitesMemory}
 use Rattle.coordinator_kinds.proofs.MemoryLaws.{written-coordinator}
 use Rattle.tracker.specs.Batch.{BatchCall, BatchHeld, BatchSays, startRefusal, batchIn, unlessRefused, logRoom, messagesIn}
 use Rattle.history.specs.State.{Held, State, AtRest, networkOf, networkWritten}

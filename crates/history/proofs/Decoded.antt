@@ -28,8 +28,8 @@ use Rattle.model.specs.SoundNetwork.{SoundSite}
 use Rattle.model.proofs.SettingsLaws.{Settled, settled}
 use Rattle.model.proofs.ConsistentSites.{length-countersIn, consistent-of-sound}
 use Rattle.site_memory.proofs.SiteMemoryLaws.{siteIn-siteMemory}
-use Rattle.network_memory.proofs.OneSite.{Storable}
-use Rattle.network_memory.proofs.SitesReading.{getD-sitesIn}
+use Rattle.site_memory.proofs.OneSite.{Storable}
+use Rattle.site_memory.proofs.SitesReading.{getD-sitesIn}
 use Rattle.history.specs.State.{Held, networkOf, recordAt, siteStart, sitePart, withPart, afterSiteCall, noRecord}
 use Rattle.history.proofs.SiteParts.{siteIn-take, front-long, siteIn-received}
 use Rattle.history.proofs.SitesMemory.{offset, offset-is, sitesIn-set, written, length-written, part-written, sitesIn-written}

@@ -27,7 +27,7 @@ use Rattle.model.specs.SoundNetwork.{Sound}
 use Rattle.model.proofs.RefusalLaws.{both-accepted, passed}
 use Rattle.model.proofs.ConsistentSites.{length-countersIn}
 use Rattle.model.proofs.ConsistentNetwork.{network-sound-of}
-use Rattle.network_memory.proofs.SitesReading.{getD-sitesIn, siteRecords-sitesIn, sitesMemory-sitesIn}
+use Rattle.site_memory.proofs.SitesReading.{getD-sitesIn, siteRecords-sitesIn, sitesMemory-sitesIn}
 use Rattle.coordinator_kinds.proofs.MemoryLaws.{memory-kept}
 use Rattle.tracker.specs.Batch.{BatchCall, BatchHeld, BatchSays, startRefusal, batchIn, unlessRefused}
 use Rattle.history.specs.State.{Held, State, networkOf, heldRefusal, recordAt, siteStart, noRecord}

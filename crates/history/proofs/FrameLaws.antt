@@ -19,8 +19,8 @@ use Rattle.model.specs.SiteMemory.{siteWords, siteMemory}
 use Rattle.model.specs.Coordinator.{Coordinator}
 use Rattle.model.specs.CoordinatorMemory.{coordinatorWords, coordinatorMemory}
 use Rattle.model.specs.NetworkMemory.{sitesMemory, siteRecords}
-use Rattle.network_memory.proofs.OneSite.{Storable, length-written}
-use Rattle.network_memory.proofs.SitesMemoryLaws.{AllStorable, later}
+use Rattle.site_memory.proofs.OneSite.{Storable, length-written}
+use Rattle.site_memory.proofs.SitesMemoryLaws.{AllStorable, later}
 use Rattle.history.proofs.SitesMemory.{offset, written, drop-siteMemory}
 
 -- ---- Places further on

@@ -24,9 +24,9 @@ use Rattle.model.specs.NetworkMemory.{sitesWords, sitesMemory}
 use Rattle.model.specs.Runs.{runOf}
 use Rattle.model.proofs.SettingsLaws.{settled}
 use Rattle.model.proofs.NeverFewer.{counters-kept, values-kept, NoFewer, observed-grows, run-no-fewer}
-use Rattle.network_memory.proofs.SitesMemoryLaws.{sitesMemory-set, sitesMemory-kept}
-use Rattle.network_memory.proofs.SitesReading.{sitesMemory-sitesIn}
-use Rattle.network_memory.proofs.SitesFronts.{sitesMemory-again}
+use Rattle.site_memory.proofs.SitesMemoryLaws.{sitesMemory-set, sitesMemory-kept}
+use Rattle.site_memory.proofs.SitesReading.{sitesMemory-sitesIn}
+use Rattle.site_memory.proofs.SitesFronts.{sitesMemory-again}
 use Rattle.site_steps.specs.declared.Observed.{Observed}
 use Rattle.site.specs.Calls.{ObserveSays}
 use Rattle.tracker.specs.Batch.{BatchHeld, BatchSays, batchIn}

@@ -26,7 +26,7 @@ use Rattle.history.specs.State.{Held, State, AtRest, fronts, lending, wi
 use Rattle.history.specs.Histories.{batchCall, afterBatch, batch-accepts-nothing}
 use Rattle.history.proofs.Answers.{accepted-choice, refused-choice}
 use Rattle.history.proofs.CoordinatorFronts.{front-then, overwrite-front}
-use Rattle.network_memory.proofs.SitesFronts.{sitesMemory-front}
+use Rattle.site_memory.proofs.SitesFronts.{sitesMemory-front}
 use Rattle.history.proofs.NetworkFronts.{LongEnough, long-enough, network-front}
 use Rattle.history.proofs.Invariant.{StateOk}
 use Rattle.history.proofs.Accepted.{held-sound}

@@ -19,7 +19,7 @@ use Rattle.model.specs.NetworkMemory.{sitesWords, sitesIn, networkTooShort}
 use Rattle.model.proofs.RefusalLaws.{both-accepted, passed}
 use Rattle.history.specs.State.{Held, networkOf, heldRefusal, fronts, lending, noRecord}
 use Rattle.history.proofs.CoordinatorFronts.{coordinatorIn-front}
-use Rattle.network_memory.proofs.SitesFronts.{sitesIn-front}
+use Rattle.site_memory.proofs.SitesFronts.{sitesIn-front}
 use Rattle.history.proofs.Decoded.{Lengths, SitesSound, used-at}
 
 -- Neither memory is too short.

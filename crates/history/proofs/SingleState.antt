@@ -25,7 +25,7 @@ use Rattle.model.specs.SoundClaims.{Reached, begun}
 use Rattle.model.proofs.RefusalLaws.{BothAccepted, both-accepted}
 use Rattle.model.proofs.SettingsLaws.{settled}
 use Rattle.model.proofs.SoundSites.{ArrivalTaken, taken-of-no-refusal, sound-observed}
-use Rattle.network_memory.proofs.OneSite.{Storable}
+use Rattle.site_memory.proofs.OneSite.{Storable}
 use Rattle.site_steps.specs.declared.Observed.{Observed}
 use Rattle.site.specs.Calls as SiteCalls
 use Rattle.history.specs.State.{Held, State, AtRest, networkOf, recordAt, siteStart, sitePart, withPart, afterSiteCall}

@@ -20,7 +20,7 @@ use Rattle.model.specs.Messages.{isPoll, isProbe}
 use Rattle.model.specs.Site.{Site, freshSite, siteReceives}
 use Rattle.model.specs.SiteMemory.{counterWords, siteWords, countersIn, siteIn, siteRecord, siteMemory}
 use Rattle.counters.proofs.CounterMemory.{length-countersIn}
-use Rattle.network_memory.proofs.OneSite.{Storable, siteIn-front, siteMemory-front}
+use Rattle.site_memory.proofs.OneSite.{Storable, siteIn-front, siteMemory-front}
 
 -- ---- A site read
 

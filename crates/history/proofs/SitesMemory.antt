@@ -16,8 +16,8 @@ use Rattle.model.specs.declared.SiteRecord.{SiteRecord}
 use Rattle.model.specs.Site.{Site}
 use Rattle.model.specs.SiteMemory.{siteWords, siteIn, siteMemory}
 use Rattle.model.specs.NetworkMemory.{sitesIn}
-use Rattle.network_memory.proofs.OneSite.{Storable, siteIn-front}
-use Rattle.network_memory.proofs.OneSite as OneSite
+use Rattle.site_memory.proofs.OneSite.{Storable, siteIn-front}
+use Rattle.site_memory.proofs.OneSite as OneSite
 use Rattle.history.specs.State.{withPart}
 use Rattle.history.proofs.SiteParts.{siteIn-take, siteMemory-append}
 

@@ -14,7 +14,7 @@ use Rattle.model.specs.declared.Settings.{Settings}
 use Rattle.model.specs.SiteMemory.{siteWords}
 use Rattle.model.proofs.SettingsLaws.{Settled, settled}
 use Rattle.site_memory.specs.Contracts.{MemoryFits}
-use Rattle.network_memory.proofs.SitePart.{few-sites, start-small, part, part-is}
+use Rattle.site_memory.proofs.SitePart.{few-sites, start-small, part, part-is}
 use Rattle.network_tests.specs.Contracts.{SitesFit}
 
 -- A part of so many words starts early enough, and within the memory.

@@ -13,7 +13,7 @@ use Rattle.model.specs.SiteMemory.{siteWords}
 use Rattle.model.specs.NetworkMemory.{sitesWords, networkTooShort}
 use Rattle.model.proofs.SettingsLaws.{settled}
 use Rattle.site_memory.proofs.ValueLaws.{valueCount-is}
-use Rattle.network_memory.proofs.SitePart.{all-small}
+use Rattle.site_memory.proofs.SitePart.{all-small}
 
 -- The words of all sites, with those of one that the code computed.
 pub all-words : (settings : Settings) (words : ℕ)

@@ -34,7 +34,7 @@ use Rattle.counters.proofs.CounterMemory.{length-countersIn}
 use Rattle.site_memory.specs.Ready.{SiteReady}
 use Rattle.coordinator_kinds.proofs.MemoryLaws.{estimates-long, histogram-long}
 use Rattle.model.specs.Held.{noRecord}
-use Rattle.network_memory.proofs.SitesReading.{length-sitesIn, getD-sitesIn}
+use Rattle.site_memory.proofs.SitesReading.{length-sitesIn, getD-sitesIn}
 use Rattle.delivery.specs.Bounded.{Bounded}
 use Rattle.delivery.proofs.BoundedLaws.{bounded-start}
 use Rattle.network_tests.specs.Contracts.{NetworkFits}

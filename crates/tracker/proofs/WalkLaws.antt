@@ -23,7 +23,7 @@ use Rattle.model.specs.Network.{Network}
 use Rattle.model.specs.Runs.{Batch, batchFrom, freshBatch}
 use Rattle.coordinator_kinds.proofs.MemoryLaws.{memory-kept}
 use Rattle.model.specs.Held.{Held, noRecord, networkOf}
-use Rattle.network_memory.proofs.SitesReading.{siteRecords-sitesIn, sitesMemory-sitesIn}
+use Rattle.site_memory.proofs.SitesReading.{siteRecords-sitesIn, sitesMemory-sitesIn}
 use Rattle.sending.specs.Log.{logRoom}
 use Rattle.delivery.specs.Holding.{WithLog}
 use Rattle.network_tests.proofs.SoundLaws.{Passing, passing}

@@ -16,8 +16,8 @@ use Rattle.model.specs.Site.{Site}
 use Rattle.model.specs.SiteMemory.{siteWords, siteMemory}
 use Rattle.model.specs.NetworkMemory.{sitesIn, sitesMemory}
 use Rattle.model.proofs.NeverFewer.{NoFewer, no-fewer-later}
-use Rattle.network_memory.proofs.OneSite.{siteIn-front, siteMemory-again}
-use Rattle.network_memory.proofs.SitesMemoryLaws.{AllStorable, later, part-long, part-length, rest-long, written-length}
+use Rattle.site_memory.proofs.OneSite.{siteIn-front, siteMemory-again}
+use Rattle.site_memory.proofs.SitesMemoryLaws.{AllStorable, later, part-long, part-length, rest-long, written-length}
 
 -- ---- The sites read and written
 

@@ -19,8 +19,8 @@ use Rattle.model.specs.Site.{Site, freshSite}
 use Rattle.model.specs.SiteMemory.{siteWords, siteIn, siteRecord, siteMemory}
 use Rattle.model.specs.NetworkMemory.{sitesIn, sitesMemory, siteRecords}
 use Rattle.site_memory.proofs.SiteMemoryLaws.{siteIn-siteMemory, siteMemory-siteIn, siteRecord-siteIn}
-use Rattle.network_memory.proofs.OneSite.{Storable, siteIn-front, length-written}
-use Rattle.network_memory.proofs.SitesMemoryLaws.{AllStorable, later, part-length, rest-long, drop-sitesMemory, written-length}
+use Rattle.site_memory.proofs.OneSite.{Storable, siteIn-front, length-written}
+use Rattle.site_memory.proofs.SitesMemoryLaws.{AllStorable, later, part-length, rest-long, drop-sitesMemory, written-length}
 
 -- ---- Read back
 

@@ -18,7 +18,7 @@ use Rattle.model.specs.declared.SiteRecord.{SiteRecord}
 use Rattle.model.specs.Site.{Site, freshSite}
 use Rattle.model.specs.SiteMemory.{siteWords, siteRecord, siteMemory}
 use Rattle.model.specs.NetworkMemory.{sitesMemory, siteRecords}
-use Rattle.network_memory.proofs.OneSite.{Storable, siteMemory-front, siteMemory-again, length-written}
+use Rattle.site_memory.proofs.OneSite.{Storable, siteMemory-front, siteMemory-again, length-written}
 
 pub record AllStorable (settings : Settings) (sites : List Site) : Type 0 where
   pub at : (j : ℕ) → j < length sites → Storable settings (getD sites j freshSite)

@@ -24,20 +24,20 @@ use Rattle.model.specs.Network.{handOver, askAnnouncement, afterArrival}
 use Rattle.model.specs.DeliveryClaims.{Delivery, deliveryStep}
 use Rattle.sending.specs.declared.Queue.{Queue}
 use Rattle.delivery.specs.declared.Underway.{Underway}
-use Rattle.delivery.specs.Holding.{State, Holds, Going, Delivering, goesOn, StepSays, rested}
+use Rattle.delivery.specs.Holding.{Carrying, underwayIn, Holds, Going, Delivering, goesOn, StepSays, rested}
 use Rattle.delivery.proofs.HoldingLaws.{log-length}
 use Rattle.delivery.proofs.GoingLaws.{going-room, going-handed, going-asked, going-ends}
 use Rattle.delivery.proofs.StepLaws.{none-waits, handing, asking}
 
 -- ---- The next delivery
 
-pub going-step : {settings : Settings} {held : State} (u : Delivering settings held)
-    → goesOn (held .underway .coordinator) (held .underway .waiting) ≡ true
+pub going-step : {settings : Settings} {carry : Carrying} (u : Delivering settings carry)
+    → goesOn (carry .held .coordinator) (carry .waiting) ≡ true
     → Going settings (u .given) (u .earlier) (u .network) (u .arrival) (suc (u .steps))
     (deliveryStep settings (u .now))
-going-step {settings} {held} u goes = by-count (ℕ-discrete (held .underway .waiting .count) 0)
+going-step {settings} {carry} u goes = by-count (ℕ-discrete (carry .waiting .count) 0)
   where
-    by-count : Dec (held .underway .waiting .count ≡ 0)
+    by-count : Dec (carry .waiting .count ≡ 0)
         → Going settings (u .given) (u .earlier) (u .network) (u .arrival) (suc (u .steps))
         (deliveryStep settings (u .now))
     by-count (yes none) =
@@ -69,12 +69,12 @@ record Less (earlier : List Message) (d next : Delivery) : Type 0 where
   log-is : next .log ≡ d .log ++ out
   fewer : length (next .waiting) < length (d .waiting) + 2 * length out
 
-less-step : {settings : Settings} {held : State} (u : Delivering settings held)
-    → goesOn (held .underway .coordinator) (held .underway .waiting) ≡ true
+less-step : {settings : Settings} {carry : Carrying} (u : Delivering settings carry)
+    → goesOn (carry .held .coordinator) (carry .waiting) ≡ true
     → Less (u .earlier) (u .now) (deliveryStep settings (u .now))
-less-step {settings} {held} u goes = by-count (ℕ-discrete (held .underway .waiting .count) 0)
+less-step {settings} {carry} u goes = by-count (ℕ-discrete (carry .waiting .count) 0)
   where
-    by-count : Dec (held .underway .waiting .count ≡ 0)
+    by-count : Dec (carry .waiting .count ≡ 0)
         → Less (u .earlier) (u .now) (deliveryStep settings (u .now))
     by-count (yes none) =
         let ask = asking u none goes in
@@ -91,7 +91,7 @@ less-step {settings} {held} u goes = by-count (ℕ-discrete (held .underway .wai
         }
     by-count (no some) =
         let hand = handing u some in
-        let m = held .underway .waiting .first in
+        let m = carry .waiting .first in
         let out = handOver settings (u .now .network) m .messages in
         record {
           out = out;
@@ -105,12 +105,12 @@ less-step {settings} {held} u goes = by-count (ℕ-discrete (held .underway .wai
           );
         }
 
-pub left-less : {settings : Settings} {held next : State} (u : Delivering settings held)
-    → goesOn (held .underway .coordinator) (held .underway .waiting) ≡ true
+pub left-less : {settings : Settings} {carry next : Carrying} (u : Delivering settings carry)
+    → goesOn (carry .held .coordinator) (carry .waiting) ≡ true
     → Holds settings (u .given) (u .earlier) (deliveryStep settings (u .now)) next
-    → leftToDo (next .underway) (length (next .log))
-    < leftToDo (held .underway) (length (held .log))
-left-less {settings} {held} {next} u goes holds =
+    → leftToDo (underwayIn next) (length (next .log))
+    < leftToDo (underwayIn carry) (length (carry .log))
+left-less {settings} {carry} {next} u goes holds =
     let less = less-step u goes in
     let then = deliveryStep settings (u .now) in
     let room-now = going-room (u .going) in
@@ -133,15 +133,15 @@ left-less {settings} {held} {next} u goes holds =
 
 -- ---- From the first state on
 
-pub record After {settings : Settings} {first : State} (u : Delivering settings first)
-    (held : State)
+pub record After {settings : Settings} {first : Carrying} (u : Delivering settings first)
+    (carry : Carrying)
     : Type 0 where
   pub steps : ℕ
   pub now : Delivery
   pub going : Going settings (u .given) (u .earlier) (u .network) (u .arrival) steps now
-  pub holds : Holds settings (u .given) (u .earlier) now held
+  pub holds : Holds settings (u .given) (u .earlier) now carry
 
-module _ {settings : Settings} {first : State} (u : Delivering settings first) where
+module _ {settings : Settings} {first : Carrying} (u : Delivering settings first) where
   pub after-start : After u first
   after-start = record {
     steps = u .steps;
@@ -150,7 +150,7 @@ module _ {settings : Settings} {first : State} (u : Delivering settings first) w
     holds = u .holds;
   }
 
-  abbrev pub delivering-after : {held : State} → After u held → Delivering settings held
+  abbrev pub delivering-after : {carry : Carrying} → After u carry → Delivering settings carry
   delivering-after after = record {
     given = u .given;
     earlier = u .earlier;
@@ -162,9 +162,9 @@ module _ {settings : Settings} {first : State} (u : Delivering settings first) w
     holds = after .holds;
   }
 
-  pub after-step : {held next : State} → After u held
-      → goesOn (held .underway .coordinator) (held .underway .waiting) ≡ true
-      → StepSays settings held next
+  pub after-step : {carry next : Carrying} → After u carry
+      → goesOn (carry .held .coordinator) (carry .waiting) ≡ true
+      → StepSays settings carry next
       → After u next
   after-step after goes says = record {
     steps = suc (after .steps);
@@ -173,16 +173,16 @@ module _ {settings : Settings} {first : State} (u : Delivering settings first) w
     holds = says .next (delivering-after after);
   }
 
-  pub after-end : {held : State} → After u held
-      → goesOn (held .underway .coordinator) (held .underway .waiting) ≡ false
+  pub after-end : {carry : Carrying} → After u carry
+      → goesOn (carry .held .coordinator) (carry .waiting) ≡ false
       → Holds settings (u .given) (u .earlier)
-      (rested (afterArrival settings (u .network) (u .arrival))) held
-  after-end {held} after ends =
-      subst (λ (d : Delivery). Holds settings (u .given) (u .earlier) d held)
+      (rested (afterArrival settings (u .network) (u .arrival))) carry
+  after-end {carry} after ends =
+      subst (λ (d : Delivery). Holds settings (u .given) (u .earlier) d carry)
       (going-ends (after .going) waits-none silent) (after .holds)
     where
       queue : Queue
-      queue = held .underway .waiting
+      queue = carry .waiting
 
       none : queue .count ≡ 0
       none = by-count (ℕ-discrete (queue .count) 0)

@@ -31,7 +31,7 @@ use Rattle.model.proofs.SoundTheorem.{StillLeft, reached-left, sound-claims}
 use Rattle.site_memory.proofs.SitesMemoryLaws.{all-storable}
 use Rattle.model.proofs.NumberBounds.{estimates-few, values-few}
 use Rattle.coordinator_steps.specs.Ready.{CoordinatorReady}
-use Rattle.delivery.specs.Holding.{Given, Accepting, Going, rested}
+use Rattle.delivery.specs.Holding.{Accepting, Going, rested, WithLog}
 use Rattle.delivery.proofs.OneAnswer.{answers-one, announced-one}
 use Rattle.delivery.proofs.HoldingLaws.{StoredCoordinator, Stored}
 use Rattle.delivery.proofs.RestLaws.{sound-then, bounded-then}
@@ -83,7 +83,7 @@ stored-of-sound {settings} {network} all sites numbers = record {
 
 -- ---- A delivery that goes on
 
-module _ {settings : Settings} {given : Given} {earlier : List Message} {network : Network}
+module _ {settings : Settings} {given : WithLog} {earlier : List Message} {network : Network}
     {arrival : Arrival} (accepting : Accepting settings given earlier network arrival) where
   pub going-fit : Settled settings
   going-fit = settled settings (accepting .fits .settings-accepted)
@@ -92,7 +92,7 @@ module _ {settings : Settings} {given : Given} {earlier : List Message} {network
   going-taken =
       taken-of-no-refusal settings (siteAt network (arrival .site)) arrival (accepting .taken)
 
-module _ {settings : Settings} {given : Given} {earlier : List Message} {network : Network}
+module _ {settings : Settings} {given : WithLog} {earlier : List Message} {network : Network}
     {arrival : Arrival} {steps : ℕ} {d : Delivery}
     (going : Going settings given earlier network arrival steps d) where
   abbrev accepting : Accepting settings given earlier network arrival
@@ -160,7 +160,7 @@ module _ {settings : Settings} {given : Given} {earlier : List Message} {network
 
 -- ---- The next step
 
-module _ {settings : Settings} {given : Given} {earlier : List Message} {network : Network}
+module _ {settings : Settings} {given : WithLog} {earlier : List Message} {network : Network}
     {arrival : Arrival} {steps : ℕ} where
   pub going-handed : {now : Network} {m : Message} {waiting log : List Message}
       → Going settings given earlier network arrival steps (delivery now (m ∷ waiting) log)

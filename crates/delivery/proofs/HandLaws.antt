@@ -18,19 +18,19 @@ use Rattle.model.specs.DeliveryClaims.{messageRefusal}
 use Rattle.model.proofs.MidDelivery.{hand-on}
 use Rattle.sending.specs.declared.Queue.{Queue}
 use Rattle.sending.specs.Sending.{queueOf, withoutHead}
-use Rattle.delivery.specs.Holding.{State, Delivering}
+use Rattle.delivery.specs.Holding.{Delivering, Carrying}
 use Rattle.sending.proofs.LogLaws.{withoutHead-queueOf}
 use Rattle.delivery.proofs.HoldingLaws.{Stored}
 use Rattle.delivery.proofs.GoingLaws.{going-fit, going-stage, going-stored, going-room, going-handed}
 use Rattle.delivery.proofs.StepLaws.{Handing}
 
-module _ {settings : Settings} {held : State} (u : Delivering settings held)
-    (hand : Handing settings held u) where
+module _ {settings : Settings} {carry : Carrying} (u : Delivering settings carry)
+    (hand : Handing settings carry u) where
   abbrev pub now : Network
   now = u .now .network
 
   abbrev pub m : Message
-  m = held .underway .waiting .first
+  m = carry .waiting .first
 
   pub head-accepted : messageRefusal settings now m ≡ accepted
   head-accepted =
@@ -40,7 +40,7 @@ module _ {settings : Settings} {held : State} (u : Delivering settings held)
   few-rest = omega (arith, hand .going .few-waiting)
 
   -- The messages that wait when the head was taken.
-  pub rest-waits : (queue : Queue) → queue ≡ withoutHead (held .underway .waiting)
+  pub rest-waits : (queue : Queue) → queue ≡ withoutHead (carry .waiting)
       → queue ≡ queueOf (hand .rest)
   rest-waits queue is =
       is ∙ ap withoutHead (hand .holds .waiting) ∙ withoutHead-queueOf m (hand .rest) few-rest

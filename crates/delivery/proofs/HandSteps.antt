@@ -18,19 +18,19 @@ use Rattle.model.specs.Coordinator.{coordinatorReceives, announced}
 use Rattle.model.specs.CoordinatorMemory.{coordinatorIn}
 use Rattle.model.specs.SiteMemory.{siteWords}
 use Rattle.model.specs.DeliveryClaims.{deliveryStep}
-use Rattle.site_steps.specs.declared.Answered as SiteAnswer
+use Rattle.site_steps.specs.declared.Replied as SiteAnswer
 use Rattle.site_steps.specs.Steps.{ReceiveStepSays}
 use Rattle.coordinator_kinds.specs.declared.Answered.{Answered}
 use Rattle.coordinator_kinds.specs.Steps.{answerOf, Does}
-use Rattle.site_memory.specs.Records.{noRecord}
 use Rattle.site_memory.proofs.SitePart.{part}
+use Rattle.model.specs.Held.{noRecord}
 use Rattle.sending.specs.declared.Queue.{Queue}
 use Rattle.sending.specs.declared.Traffic.{Traffic}
 use Rattle.delivery.specs.declared.Underway.{Underway}
 use Rattle.delivery.specs.declared.Change.{Change}
 use Rattle.sending.specs.Sending.{withoutHead, SendAsks, AnswerSays}
 use Rattle.delivery.specs.UnderwayParts.{trafficOf, underwayOf}
-use Rattle.delivery.specs.Holding.{state, answered, Holds, Delivering, goesOn, StepSays}
+use Rattle.delivery.specs.Holding.{carrying, answered, Holds, Delivering, goesOn, StepSays}
 use Rattle.delivery.specs.Handing.{siteOfHead, coordinatorChange, withQueue, changed, Handed, HandSays}
 use Rattle.delivery.proofs.StepLaws.{handing, asking, asked-sends, asked-holds}
 use Rattle.delivery.proofs.HandToCoordinator.{coordinator-sends, coordinator-holds}
@@ -56,12 +56,12 @@ handed-as : {settings : Settings} {underway : Underway}
     {siteMemory coordinatorBefore coordinatorAfter : List ℕ} {by : Change} (next : Underway)
     → changed underway by ≡ next
     → ((log : List ℕ)
-    → Delivering settings (state underway siteMemory coordinatorBefore log)
+    → Delivering settings (carrying underway siteMemory coordinatorBefore log)
     → (by .count ≡ 0 → ⊥)
     → SendAsks (trafficOf next) log)
-    → ((log : List ℕ) (u : Delivering settings (state underway siteMemory coordinatorBefore log))
+    → ((log : List ℕ) (u : Delivering settings (carrying underway siteMemory coordinatorBefore log))
     → Holds settings (u .given) (u .earlier) (deliveryStep settings (u .now))
-    (answered (by .count) (by .out) (state next siteMemory coordinatorAfter log)))
+    (answered (by .count) (by .out) (carrying next siteMemory coordinatorAfter log)))
     → Handed settings underway siteMemory coordinatorBefore coordinatorAfter by
 handed-as {settings} {siteMemory = siteMemory} {coordinatorAfter = coordinatorAfter} {by = by}
     next is sends holds = record {
@@ -70,7 +70,7 @@ handed-as {settings} {siteMemory = siteMemory} {coordinatorAfter = coordinatorAf
       next = λ log u.
           subst⁻¹ (λ (then : Underway).
           Holds settings (u .given) (u .earlier) (deliveryStep settings (u .now))
-          (answered (by .count) (by .out) (state then siteMemory coordinatorAfter log))) is
+          (answered (by .count) (by .out) (carrying then siteMemory coordinatorAfter log))) is
           (holds log u);
     }
 
@@ -127,7 +127,7 @@ module _ {settings : Settings} {own : SiteRecord} {coordinator : CoordinatorReco
     pub site-says : toCoordinator (waiting .first) ≡ false
         → (words : ℕ)
         → words ≡ siteWords settings
-        → (answer : SiteAnswer.Answered)
+        → (answer : SiteAnswer.Replied)
         → ReceiveStepSays settings own (waiting .first)
         (part siteMemory (waiting .first .site) words) answer
         → HandSays settings own coordinator waiting siteMemory coordinatorBefore coordinatorBefore
@@ -179,7 +179,7 @@ module _ {settings : Settings} {coordinator : CoordinatorRecord}
       (withQueue traffic (by .waiting))) which-is
 
   pub send-asks : Delivering settings
-      (state (underwayOf records coordinator traffic) siteMemory coordinatorBefore log)
+      (carrying (underwayOf records coordinator traffic) siteMemory coordinatorBefore log)
       → (by .count ≡ 0 → ⊥)
       → SendAsks (withQueue traffic (by .waiting)) log
   send-asks = by-hand .sends log
@@ -187,16 +187,16 @@ module _ {settings : Settings} {coordinator : CoordinatorRecord}
   pub answered-step : {result : Traffic} {written : List ℕ}
       → AnswerSays (by .count) (withQueue traffic (by .waiting)) (by .out) log result written
       → StepSays settings
-      (state (underwayOf records coordinator traffic) siteMemory coordinatorBefore log)
-      (state (settled result) siteMemory coordinatorAfter written)
+      (carrying (underwayOf records coordinator traffic) siteMemory coordinatorBefore log)
+      (carrying (settled result) siteMemory coordinatorAfter written)
   answered-step said = record {
     next = λ u.
         subst₂ (λ (then : Traffic) (after : List ℕ).
         Holds settings (u .given) (u .earlier) (deliveryStep settings (u .now))
-        (state (settled then) siteMemory coordinatorAfter after))
+        (carrying (settled then) siteMemory coordinatorAfter after))
         (sym (said .goes-out)) (sym (said .logged))
         (subst⁻¹ (λ (then : Underway).
         Holds settings (u .given) (u .earlier) (deliveryStep settings (u .now))
-        (answered (by .count) (by .out) (state then siteMemory coordinatorAfter log))) settled-is
+        (answered (by .count) (by .out) (carrying then siteMemory coordinatorAfter log))) settled-is
         (by-hand .next log u));
   }

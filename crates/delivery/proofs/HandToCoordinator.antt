@@ -23,20 +23,20 @@ use Rattle.sending.specs.declared.Queue.{Queue}
 use Rattle.delivery.specs.declared.Underway.{Underway}
 use Rattle.sending.specs.Sending.{withoutHead, SendAsks}
 use Rattle.delivery.specs.UnderwayParts.{trafficOf}
-use Rattle.delivery.specs.Holding.{State, state, answered, Holds, Fits, Delivering}
+use Rattle.delivery.specs.Holding.{answered, Holds, Fits, Delivering, Carrying, carrying}
 use Rattle.delivery.proofs.OneAnswer.{receives-one}
 use Rattle.delivery.proofs.HoldingLaws.{coordinator-read, coordinator-memory-length, holds-answer, holds-coordinator, coordinator-again}
 use Rattle.delivery.proofs.GoingLaws.{going-ready, going-stored}
 use Rattle.delivery.proofs.StepLaws.{Handing, answer-sends}
 use Rattle.delivery.proofs.HandLaws.{head-accepted, few-rest, rest-waits, room, stored-then}
 
-module _ {settings : Settings} {held : State} (u : Delivering settings held)
-    (hand : Handing settings held u) where
+module _ {settings : Settings} {carry : Carrying} (u : Delivering settings carry)
+    (hand : Handing settings carry u) where
   abbrev now : Network
   now = u .now .network
 
   abbrev m : Message
-  m = held .underway .waiting .first
+  m = carry .waiting .first
 
   abbrev fits : Fits settings (u .given)
   fits = hand .going .accepting .fits
@@ -48,11 +48,11 @@ module _ {settings : Settings} {held : State} (u : Delivering settings held)
     abbrev after : CoordinatorStep
     after = coordinatorReceives settings c m
 
-    c-read : coordinatorIn settings (held .underway .coordinator) (held .coordinatorMemory) ≡ c
+    c-read : coordinatorIn settings (carry .held .coordinator) (carry .held .coordinatorMemory) ≡ c
     c-read = coordinator-read fits (going-stored (hand .going)) (hand .holds)
 
-    pub coordinator-asks : StepAsks settings (held .underway .coordinator) m
-        (held .coordinatorMemory)
+    pub coordinator-asks : StepAsks settings (carry .held .coordinator) m
+        (carry .held .coordinatorMemory)
     coordinator-asks = record {
       settings-accepted = fits .settings-accepted;
       memory-long = omega (
@@ -67,26 +67,26 @@ module _ {settings : Settings} {held : State} (u : Delivering settings held)
     module _ (answer : CoordinatorAnswer.Answered) (memory : List ℕ) (queue : Queue)
         (does : Does
         (coordinatorReceives settings
-        (coordinatorIn settings (held .underway .coordinator) (held .coordinatorMemory)) m)
-        (held .coordinatorMemory) memory answer)
-        (queue-is : queue ≡ withoutHead (held .underway .waiting)) where
-      did : Does after (held .coordinatorMemory) memory answer
+        (coordinatorIn settings (carry .held .coordinator) (carry .held .coordinatorMemory)) m)
+        (carry .held .coordinatorMemory) memory answer)
+        (queue-is : queue ≡ withoutHead (carry .waiting)) where
+      did : Does after (carry .held .coordinatorMemory) memory answer
       did =
           subst (λ (x : Coordinator).
-          Does (coordinatorReceives settings x m) (held .coordinatorMemory) memory answer)
+          Does (coordinatorReceives settings x m) (carry .held .coordinatorMemory) memory answer)
           c-read does
 
       abbrev next : Underway
       next = record {
-        sites = held .underway .sites;
+        sites = carry .held .sites;
         coordinator = answer .coordinator;
-        written = held .underway .written;
+        written = carry .written;
         waiting = queue;
       }
 
       changed : Holds settings (u .given) (u .earlier)
           (delivery (withCoordinator now (after .coordinator)) (hand .rest) (u .now .log))
-          (state next (held .siteMemory) memory (held .log))
+          (carrying next (carry .held .siteMemory) memory (carry .log))
       changed =
           let then = rw way at (stored-then u hand) in
           holds-coordinator (hand .holds) (after .coordinator) (hand .rest) (answer .coordinator)
@@ -104,14 +104,14 @@ module _ {settings : Settings} {held : State} (u : Delivering settings held)
       abbrev count-is : answer .count ≡ length (after .messages)
       count-is = ap (λ (a : CoordinatorAnswer.Answered). a .count) (did .answer)
 
-      pub coordinator-sends : (answer .count ≡ 0 → ⊥) → SendAsks (trafficOf next) (held .log)
+      pub coordinator-sends : (answer .count ≡ 0 → ⊥) → SendAsks (trafficOf next) (carry .log)
       coordinator-sends =
           answer-sends changed (after .messages) (answer .count) count-is room-then fits
 
       pub coordinator-holds :
           Holds settings (u .given) (u .earlier) (deliveryStep settings (u .now))
           (answered (answer .count) (answer .out)
-          (state next (held .siteMemory) memory (held .log)))
+          (carrying next (carry .held .siteMemory) memory (carry .log)))
       coordinator-holds =
           rw (hand .step-is, way)
           (holds-answer (after .messages) (answer .count) (answer .out) changed

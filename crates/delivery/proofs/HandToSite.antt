@@ -26,16 +26,16 @@ use Rattle.model.specs.DeliveryClaims.{delivery, deliveryStep}
 use Rattle.model.specs.SoundNetwork.{SoundSite}
 use Rattle.model.proofs.StageFacts.{stage-sites}
 use Rattle.model.proofs.NeverFewer.{counters-kept, values-kept}
-use Rattle.site_steps.specs.declared.Answered as SiteAnswer
+use Rattle.site_steps.specs.declared.Replied as SiteAnswer
 use Rattle.site_steps.specs.Steps.{ReceiveAsks, ReceiveStepSays}
 use Rattle.site_steps.proofs.ReceiveLaws.{Due, message-due}
 use Rattle.site_memory.proofs.SitesMemoryLaws.{sitesMemory-kept}
 use Rattle.sending.specs.declared.Queue.{Queue}
 use Rattle.delivery.specs.declared.Underway.{Underway}
-use Rattle.site_memory.specs.Records.{noRecord, withRecord}
+use Rattle.model.specs.Held.{noRecord, withRecord}
 use Rattle.sending.specs.Sending.{withoutHead, SendAsks}
 use Rattle.delivery.specs.UnderwayParts.{trafficOf}
-use Rattle.delivery.specs.Holding.{State, state, answered, Holds, Fits, Delivering}
+use Rattle.delivery.specs.Holding.{Carrying, carrying, answered, Holds, Fits, Delivering}
 use Rattle.delivery.specs.Handing.{siteOfHead}
 use Rattle.site_memory.proofs.SitePart.{few-sites, start-small, part, part-is}
 use Rattle.delivery.proofs.OneAnswer.{site-one}
@@ -50,13 +50,13 @@ pub siteOfHead-is : (waiting : Queue)
     → siteOfHead waiting ≡ waiting .first .site
 siteOfHead-is waiting some way = rw (ne-eqb (waiting .count) 0 some, way)
 
-module _ {settings : Settings} {held : State} (u : Delivering settings held)
-    (hand : Handing settings held u) where
+module _ {settings : Settings} {carry : Carrying} (u : Delivering settings carry)
+    (hand : Handing settings carry u) where
   abbrev now : Network
   now = u .now .network
 
   abbrev m : Message
-  m = held .underway .waiting .first
+  m = carry .waiting .first
 
   abbrev fits : Fits settings (u .given)
   fits = hand .going .accepting .fits
@@ -79,7 +79,7 @@ module _ {settings : Settings} {held : State} (u : Delivering settings held)
 
     -- The words of a site, as the code names them.
     module _ (words : ℕ) (words-are : words ≡ siteWords settings) where
-      pub starts-within : j * words ≤ length (held .siteMemory)
+      pub starts-within : j * words ≤ length (carry .held .siteMemory)
       starts-within =
           rw words-are (part-starts fits (going-stored (hand .going)) (hand .holds) j site-known)
 
@@ -88,13 +88,13 @@ module _ {settings : Settings} {held : State} (u : Delivering settings held)
 
     -- The site's record and its part of the memory, as the code names them.
     module _ (numbers : SiteRecord) (words : ℕ)
-        (numbers-are : numbers ≡ getD (held .underway .sites .records) j noRecord)
+        (numbers-are : numbers ≡ getD (carry .held .sites .records) j noRecord)
         (words-are : words ≡ siteWords settings) where
       abbrev own : List ℕ
-      own = part (held .siteMemory) j words
+      own = part (carry .held .siteMemory) j words
 
-      own-is : own ≡ drop (j * siteWords settings) (held .siteMemory)
-      own-is = part-is settings (held .siteMemory) j words words-are
+      own-is : own ≡ drop (j * siteWords settings) (carry .held .siteMemory)
+      own-is = part-is settings (carry .held .siteMemory) j words words-are
 
       read : siteIn settings numbers own ≡ siteAt now j
       read =
@@ -113,30 +113,31 @@ module _ {settings : Settings} {held : State} (u : Delivering settings held)
         value-known = due .value-known;
       }
 
-      module _ (answer : SiteAnswer.Answered) (queue : Queue)
+      module _ (answer : SiteAnswer.Replied) (queue : Queue)
           (says : ReceiveStepSays settings numbers m own answer)
-          (queue-is : queue ≡ withoutHead (held .underway .waiting)) where
+          (queue-is : queue ≡ withoutHead (carry .waiting)) where
         site-is : answer .site ≡ siteRecord (after .site)
         site-is = says .site ∙ ap (λ (x : Site). siteRecord (siteReceives x m .site)) read
 
         abbrev next : Underway
         next = record {
-          sites = withRecord (held .underway .sites) j (answer .site);
-          coordinator = held .underway .coordinator;
-          written = held .underway .written;
+          sites = withRecord (carry .held .sites) j (answer .site);
+          coordinator = carry .held .coordinator;
+          written = carry .written;
           waiting = queue;
         }
 
         changed : Holds settings (u .given) (u .earlier)
             (delivery (withSite now j (after .site)) (hand .rest) (u .now .log))
-            (state next (held .siteMemory) (held .coordinatorMemory) (held .log))
+            (carrying next (carry .held .siteMemory) (carry .held .coordinatorMemory) (carry .log))
         changed =
             let inside : j < length (now .sites) =
             omega (arith, site-known, going-stored (hand .going) .all-sites) in
             holds-site (hand .holds) j (after .site) (hand .rest) (answer .site) queue
-            (held .siteMemory) inside site-is (rest-waits u hand queue queue-is)
+            (carry .held .siteMemory) inside site-is (rest-waits u hand queue queue-is)
             (hand .holds .site-memory
-            ∙ sym (sitesMemory-kept settings (now .sites) (u .given .siteMemory) j (after .site)
+            ∙ sym (sitesMemory-kept settings (now .sites) (u .given .held .siteMemory) j
+            (after .site)
             (counters-kept .by-message (siteAt now j) m)
             (values-kept .by-message (siteAt now j) m)))
 
@@ -147,14 +148,14 @@ module _ {settings : Settings} {held : State} (u : Delivering settings held)
         abbrev count-is : answer .count ≡ length (after .messages)
         count-is = says .count ∙ ap (λ (x : Site). length (siteReceives x m .messages)) read
 
-        pub site-sends : (answer .count ≡ 0 → ⊥) → SendAsks (trafficOf next) (held .log)
+        pub site-sends : (answer .count ≡ 0 → ⊥) → SendAsks (trafficOf next) (carry .log)
         site-sends =
             answer-sends changed (after .messages) (answer .count) count-is room-then fits
 
         pub site-holds :
             Holds settings (u .given) (u .earlier) (deliveryStep settings (u .now))
             (answered (answer .count) (answer .reply)
-            (state next (held .siteMemory) (held .coordinatorMemory) (held .log)))
+            (carrying next (carry .held .siteMemory) (carry .held .coordinatorMemory) (carry .log)))
         site-holds =
             rw (hand .step-is, way)
             (holds-answer (after .messages) (answer .count) (answer .reply) changed
@@ -163,12 +164,12 @@ module _ {settings : Settings} {held : State} (u : Delivering settings held)
             (few-rest u hand) room-then)
 
 -- There is a record for the site that the head is for, or for site 0.
-pub head-few : {settings : Settings} {held : State} → Delivering settings held
-    → siteOfHead (held .underway .waiting) < mostSites
-head-few {held = held} u = by-count (ℕ-discrete (queue .count) 0)
+pub head-few : {settings : Settings} {carry : Carrying} → Delivering settings carry
+    → siteOfHead (carry .waiting) < mostSites
+head-few {carry = carry} u = by-count (ℕ-discrete (queue .count) 0)
   where
     queue : Queue
-    queue = held .underway .waiting
+    queue = carry .waiting
 
     by-way : (queue .count ≡ 0 → ⊥)
         → (way : Bool)

@@ -35,10 +35,10 @@ use Rattle.site_memory.proofs.SitesReading.{siteIn-sitesMemory}
 use Rattle.delivery.specs.declared.Underway.{Underway}
 use Rattle.sending.specs.declared.Queue.{Queue}
 use Rattle.sending.specs.Log.{messageNumbers, putRecord}
-use Rattle.site_memory.specs.Records.{noRecord, withRecord}
+use Rattle.model.specs.Held.{noRecord, withRecord}
 use Rattle.sending.specs.Sending.{queueOf, sent, SendAsks}
-use Rattle.delivery.specs.UnderwayParts.{trafficOf, withTraffic}
-use Rattle.delivery.specs.Holding.{Given, State, state, answered, Holds, Fits}
+use Rattle.delivery.specs.UnderwayParts.{trafficOf}
+use Rattle.delivery.specs.Holding.{WithLog, Carrying, carrying, underwayIn, withMessages, answered, Holds, Fits}
 use Rattle.sending.proofs.LogLaws.{length-messageNumbers, putRecord-append, joined-queueOf}
 
 -- ---- Sizes
@@ -54,73 +54,75 @@ pub record Stored (settings : Settings) (network : Network) : Type 0 where
 
 -- ---- Read from a state
 
-module _ {settings : Settings} {given : Given} {earlier : List Message} {d : Delivery}
-    {held : State}
+module _ {settings : Settings} {given : WithLog} {earlier : List Message} {d : Delivery}
+    {carry : Carrying}
     (fits : Fits settings given)
     (stored : Stored settings (d .network))
-    (holds : Holds settings given earlier d held) where
-  memory-enough : length (d .network .sites) * siteWords settings ≤ length (given .siteMemory)
+    (holds : Holds settings given earlier d carry) where
+  memory-enough : length (d .network .sites) * siteWords settings ≤ length (given .held .siteMemory)
   memory-enough = rw (stored .all-sites) (fits .site-memory-long)
 
   pub record-read : (j : ℕ) → j < settings .sites
-      → getD (held .underway .sites .records) j noRecord ≡ siteRecord (siteAt (d .network) j)
+      → getD (carry .held .sites .records) j noRecord ≡ siteRecord (siteAt (d .network) j)
   record-read j j< =
       ap (λ (numbers : List SiteRecord). getD numbers j noRecord) (holds .records)
-      ∙ getD-siteRecords noRecord (d .network .sites) (given .records) j
+      ∙ getD-siteRecords noRecord (d .network .sites) (given .held .sites .records) j
       (omega (arith, stored .all-sites)) (omega (arith, stored .all-sites, fits .all-records))
 
-  pub memory-length : length (held .siteMemory) ≡ length (given .siteMemory)
+  pub memory-length : length (carry .held .siteMemory) ≡ length (given .held .siteMemory)
   memory-length =
       ap length (holds .site-memory)
-      ∙ length-sitesMemory settings (d .network .sites) (given .siteMemory)
+      ∙ length-sitesMemory settings (d .network .sites) (given .held .siteMemory)
       (stored .sites-stored) memory-enough
 
   -- The part of a site is long enough, and starts within the memory.
   pub part-long : (j : ℕ) → j < settings .sites
-      → siteWords settings ≤ length (drop (j * siteWords settings) (held .siteMemory))
+      → siteWords settings ≤ length (drop (j * siteWords settings) (carry .held .siteMemory))
   part-long j j< =
       let more : suc j * siteWords settings ≤ settings .sites * siteWords settings =
       mul-le-mul-right (siteWords settings) j< in
-      rw (length-drop (j * siteWords settings) (held .siteMemory), memory-length)
+      rw (length-drop (j * siteWords settings) (carry .held .siteMemory), memory-length)
       (omega (arith, fits .site-memory-long))
 
   pub part-starts : (j : ℕ) → j < settings .sites
-      → j * siteWords settings ≤ length (held .siteMemory)
+      → j * siteWords settings ≤ length (carry .held .siteMemory)
   part-starts j j< =
       let more : suc j * siteWords settings ≤ settings .sites * siteWords settings =
       mul-le-mul-right (siteWords settings) j< in
       omega (arith, memory-length, fits .site-memory-long)
 
   pub site-read : (j : ℕ) → j < settings .sites
-      → siteIn settings (getD (held .underway .sites .records) j noRecord)
-      (drop (j * siteWords settings) (held .siteMemory))
+      → siteIn settings (getD (carry .held .sites .records) j noRecord)
+      (drop (j * siteWords settings) (carry .held .siteMemory))
       ≡ siteAt (d .network) j
   site-read j j< =
       ap (λ (numbers : SiteRecord).
-      siteIn settings numbers (drop (j * siteWords settings) (held .siteMemory))) (record-read j j<)
+      siteIn settings numbers (drop (j * siteWords settings) (carry .held .siteMemory)))
+      (record-read j j<)
       ∙ ap (λ (memory : List ℕ).
       siteIn settings (siteRecord (siteAt (d .network) j)) (drop (j * siteWords settings) memory))
       (holds .site-memory)
-      ∙ siteIn-sitesMemory settings (d .network .sites) (given .siteMemory) j
+      ∙ siteIn-sitesMemory settings (d .network .sites) (given .held .siteMemory) j
       (stored .sites-stored) memory-enough (omega (arith, stored .all-sites))
 
   pub coordinator-read :
-      coordinatorIn settings (held .underway .coordinator) (held .coordinatorMemory)
+      coordinatorIn settings (carry .held .coordinator) (carry .held .coordinatorMemory)
       ≡ d .network .coordinator
   coordinator-read =
-      ap (λ (numbers : CoordinatorRecord). coordinatorIn settings numbers (held .coordinatorMemory))
+      ap (λ (numbers : CoordinatorRecord).
+      coordinatorIn settings numbers (carry .held .coordinatorMemory))
       (holds .coordinator)
       ∙ ap (coordinatorIn settings (coordinatorRecord (d .network .coordinator)))
       (holds .coordinator-memory)
-      ∙ written-coordinator settings (d .network .coordinator) (given .coordinatorMemory)
+      ∙ written-coordinator settings (d .network .coordinator) (given .held .coordinatorMemory)
       (stored .coordinator-stored .estimates-length) (stored .coordinator-stored .histogram-length)
 
   pub coordinator-memory-length :
-      length (held .coordinatorMemory) ≡ length (given .coordinatorMemory)
+      length (carry .held .coordinatorMemory) ≡ length (given .held .coordinatorMemory)
   coordinator-memory-length =
       let c = d .network .coordinator in
       ap length (holds .coordinator-memory)
-      ∙ length-overwritten (c .estimates ++ c .histogram) (given .coordinatorMemory)
+      ∙ length-overwritten (c .estimates ++ c .histogram) (given .held .coordinatorMemory)
       (rw (length-append (c .estimates) (c .histogram))
       (omega (
         arith,
@@ -131,37 +133,36 @@ module _ {settings : Settings} {given : Given} {earlier : List Message} {d : Del
 
 -- ---- Messages go out
 
-module _ {settings : Settings} {given : Given} {earlier : List Message} where
+module _ {settings : Settings} {given : WithLog} {earlier : List Message} where
   -- Room for the messages so far and so many more, four numbers each.
-  pub log-length : {d : Delivery} {held : State}
-      → Holds settings given earlier d held
+  pub log-length : {d : Delivery} {carry : Carrying}
+      → Holds settings given earlier d carry
       → messageWidth * length (earlier ++ d .log) ≤ length (given .log)
-      → length (held .log) ≡ length (given .log)
+      → length (carry .log) ≡ length (given .log)
   log-length {d} holds room =
       ap length (holds .log)
       ∙ length-overwritten (messageNumbers (earlier ++ d .log)) (given .log)
       (omega (arith, length-messageNumbers (earlier ++ d .log)))
 
-  pub send-asks : {d : Delivery} {held : State}
+  pub send-asks : {d : Delivery} {carry : Carrying}
       → Fits settings given
-      → Holds settings given earlier d held
+      → Holds settings given earlier d carry
       → messageWidth * length (earlier ++ d .log) + messageWidth ≤ length (given .log)
-      → SendAsks (trafficOf (held .underway)) (held .log)
+      → SendAsks (trafficOf (underwayIn carry)) (carry .log)
   send-asks fits holds room = record {
     room = omega (arith, log-length holds (omega arith), holds .written);
     count-within = omega (arith, holds .counted, holds .written, fits .count-within);
   }
 
-  pub holds-sent : {network : Network} {waiting log : List Message} {held : State} (m : Message)
-      → Holds settings given earlier (delivery network waiting log) held
+  pub holds-sent : {network : Network} {waiting log : List Message} {carry : Carrying} (m : Message)
+      → Holds settings given earlier (delivery network waiting log) carry
       → length waiting ≤ 1
       → messageWidth * length (earlier ++ log) + messageWidth ≤ length (given .log)
       → Holds settings given earlier
       (delivery network (waiting ++ (m ∷ [])) (log ++ (m ∷ [])))
-      (state (withTraffic (held .underway) (sent (trafficOf (held .underway)) m))
-      (held .siteMemory) (held .coordinatorMemory)
-      (putRecord (held .log) (held .underway .written) m))
-  holds-sent {network} {waiting} {log} {held} m holds few room =
+      (withMessages carry (sent (trafficOf (underwayIn carry)) m)
+      (putRecord (carry .log) (carry .written) m))
+  holds-sent {network} {waiting} {log} {carry} m holds few room =
       let all : earlier ++ (log ++ (m ∷ [])) ≡ (earlier ++ log) ++ (m ∷ []) =
       sym (append-assoc earlier log (m ∷ [])) in
       let more : length (earlier ++ (log ++ (m ∷ []))) ≡ length (earlier ++ log) + 1 =
@@ -179,19 +180,19 @@ module _ {settings : Settings} {given : Given} {earlier : List Message} where
       }
 
   -- A step answers with one message, or with none.
-  pub holds-answer : {network : Network} {waiting log : List Message} {held : State}
+  pub holds-answer : {network : Network} {waiting log : List Message} {carry : Carrying}
       (out : List Message) (count : ℕ) (m : Message)
-      → Holds settings given earlier (delivery network waiting log) held
+      → Holds settings given earlier (delivery network waiting log) carry
       → length out ≤ 1
       → count ≡ length out
       → m ≡ getD out 0 noMessage
       → length waiting ≤ 1
       → messageWidth * length (earlier ++ (log ++ out)) ≤ length (given .log)
       → Holds settings given earlier (delivery network (waiting ++ out) (log ++ out))
-      (answered count m held)
-  holds-answer {network} {waiting} {log} {held} [] count m holds one count-is m-is few room =
+      (answered count m carry)
+  holds-answer {network} {waiting} {log} {carry} [] count m holds one count-is m-is few room =
       rw (count-is, append-nil waiting, append-nil log) holds
-  holds-answer {network} {waiting} {log} {held} (x ∷ []) count m holds one count-is m-is few room =
+  holds-answer {network} {waiting} {log} {carry} (x ∷ []) count m holds one count-is m-is few room =
       let more : length (earlier ++ (log ++ (x ∷ []))) ≡ length (earlier ++ log) + 1 =
       ap length (sym (append-assoc earlier log (x ∷ []))) ∙ length-snoc (earlier ++ log) x in
       rw (count-is, m-is) (holds-sent x holds few (omega arith))
@@ -199,14 +200,14 @@ module _ {settings : Settings} {given : Given} {earlier : List Message} where
 
 -- ---- The network changed
 
-module _ {settings : Settings} {given : Given} {earlier : List Message}
-    {network : Network} {waiting log : List Message} {held : State}
-    (holds : Holds settings given earlier (delivery network waiting log) held) where
+module _ {settings : Settings} {given : WithLog} {earlier : List Message}
+    {network : Network} {waiting log : List Message} {carry : Carrying}
+    (holds : Holds settings given earlier (delivery network waiting log) carry) where
   abbrev withWaiting : CoordinatorRecord → Queue → Underway
   withWaiting numbers queue = record {
-    sites = held .underway .sites;
+    sites = carry .held .sites;
     coordinator = numbers;
-    written = held .underway .written;
+    written = carry .written;
     waiting = queue;
   }
 
@@ -214,9 +215,9 @@ module _ {settings : Settings} {given : Given} {earlier : List Message}
       (queue : Queue) (memory : List ℕ)
       → numbers ≡ coordinatorRecord c
       → queue ≡ queueOf later
-      → memory ≡ coordinatorMemory c (given .coordinatorMemory)
+      → memory ≡ coordinatorMemory c (given .held .coordinatorMemory)
       → Holds settings given earlier (delivery (withCoordinator network c) later log)
-      (state (withWaiting numbers queue) (held .siteMemory) memory (held .log))
+      (carrying (withWaiting numbers queue) (carry .held .siteMemory) memory (carry .log))
   holds-coordinator c later numbers queue memory numbers-are queue-is memory-is = record {
     records = holds .records;
     counted = holds .counted;
@@ -232,8 +233,8 @@ module _ {settings : Settings} {given : Given} {earlier : List Message}
   pub coordinator-again : (c : Coordinator)
       → StoredCoordinator settings (network .coordinator)
       → StoredCoordinator settings c
-      → coordinatorMemory c (held .coordinatorMemory)
-      ≡ coordinatorMemory c (given .coordinatorMemory)
+      → coordinatorMemory c (carry .held .coordinatorMemory)
+      ≡ coordinatorMemory c (given .held .coordinatorMemory)
   coordinator-again c old new =
       let was = network .coordinator in
       let same : length (was .estimates ++ was .histogram) ≤ length (c .estimates ++ c .histogram) =
@@ -250,13 +251,13 @@ module _ {settings : Settings} {given : Given} {earlier : List Message}
       )) in
       ap (coordinatorMemory c) (holds .coordinator-memory)
       ∙ overwritten-again (c .estimates ++ c .histogram) (was .estimates ++ was .histogram)
-      (given .coordinatorMemory) same
+      (given .held .coordinatorMemory) same
 
   abbrev withSiteRecord : ℕ → SiteRecord → Queue → Underway
   withSiteRecord j numbers queue = record {
-    sites = withRecord (held .underway .sites) j numbers;
-    coordinator = held .underway .coordinator;
-    written = held .underway .written;
+    sites = withRecord (carry .held .sites) j numbers;
+    coordinator = carry .held .coordinator;
+    written = carry .written;
     waiting = queue;
   }
 
@@ -265,12 +266,13 @@ module _ {settings : Settings} {given : Given} {earlier : List Message}
       → j < length (network .sites)
       → numbers ≡ siteRecord site
       → queue ≡ queueOf later
-      → memory ≡ sitesMemory settings (set (network .sites) j site) (given .siteMemory)
+      → memory ≡ sitesMemory settings (set (network .sites) j site) (given .held .siteMemory)
       → Holds settings given earlier (delivery (withSite network j site) later log)
-      (state (withSiteRecord j numbers queue) memory (held .coordinatorMemory) (held .log))
+      (carrying (withSiteRecord j numbers queue) memory (carry .held .coordinatorMemory)
+      (carry .log))
   holds-site j site later numbers queue memory inside numbers-are queue-is memory-is = record {
     records = rw (numbers-are, holds .records)
-        (siteRecords-set (network .sites) (given .records) j site inside);
+        (siteRecords-set (network .sites) (given .held .sites .records) j site inside);
     counted = holds .counted;
     coordinator = holds .coordinator;
     written = holds .written;

@@ -15,8 +15,8 @@ use Rattle.model.specs.Site.{Site, observed, reportsItem, reportsCount}
 use Rattle.model.specs.Network.{Network}
 use Rattle.model.specs.DeliveryClaims.{delivery}
 use Rattle.sending.specs.Sending.{sentTwo, loggedTwo}
-use Rattle.delivery.specs.UnderwayParts.{trafficOf, withTraffic}
-use Rattle.delivery.specs.Holding.{Given, State, state, Holds}
+use Rattle.delivery.specs.UnderwayParts.{trafficOf}
+use Rattle.delivery.specs.Holding.{WithLog, Carrying, underwayIn, withMessages, Holds}
 use Rattle.delivery.proofs.HoldingLaws.{holds-sent}
 
 -- ---- The messages of an arrival
@@ -35,18 +35,17 @@ messages-two settings site arrival =
     by-due false item-is false count-is = rw (item-is, count-is) (omega arith)
 
 -- Two messages at most go out when nothing waits.
-pub holds-two : {settings : Settings} {given : Given} {earlier : List Message} {network : Network}
-    {held : State} (out : List Message) (count : ℕ) (first second : Message)
-    → Holds settings given earlier (delivery network [] []) held
+pub holds-two : {settings : Settings} {given : WithLog} {earlier : List Message} {network : Network}
+    {carry : Carrying} (out : List Message) (count : ℕ) (first second : Message)
+    → Holds settings given earlier (delivery network [] []) carry
     → length out ≤ 2
     → count ≡ length out
     → first ≡ getD out 0 noMessage
     → second ≡ getD out 1 noMessage
     → messageWidth * length (earlier ++ out) ≤ length (given .log)
     → Holds settings given earlier (delivery network out out)
-    (state (withTraffic (held .underway) (sentTwo count (trafficOf (held .underway)) first second))
-    (held .siteMemory) (held .coordinatorMemory)
-    (loggedTwo count (held .log) (held .underway .written) first second))
+    (withMessages carry (sentTwo count (trafficOf (underwayIn carry)) first second)
+    (loggedTwo count (carry .log) (carry .written) first second))
 holds-two [] count first second holds few count-is first-is second-is room = rw count-is holds
 holds-two {earlier = earlier} (x ∷ []) count first second holds few count-is first-is second-is
     room =

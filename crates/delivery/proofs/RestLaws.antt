@@ -17,11 +17,11 @@ use Rattle.model.specs.DeliveryClaims.{delivery}
 use Rattle.model.proofs.SoundTheorem.{sound-claims}
 use Rattle.model.proofs.NumberBounds.{bounded-grown}
 use Rattle.model.proofs.NumberTheorem.{number-claims}
-use Rattle.delivery.specs.Holding.{Given, State, Holds, Accepting}
+use Rattle.delivery.specs.Holding.{Holds, Accepting, WithLog, Carrying}
 
 -- ---- The network then
 
-module _ {settings : Settings} {given : Given} {earlier : List Message} {network : Network}
+module _ {settings : Settings} {given : WithLog} {earlier : List Message} {network : Network}
     {arrival : Arrival} (accepting : Accepting settings given earlier network arrival) where
   abbrev after : Network
   after = afterArrival settings network arrival .network
@@ -45,10 +45,11 @@ module _ {settings : Settings} {given : Given} {earlier : List Message} {network
 -- ---- Messages so far
 
 -- At rest, the delivery's own messages are those of earlier arrivals for the next.
-pub holds-rested : {settings : Settings} {given : Given} {earlier : List Message} {held : State}
+pub holds-rested : {settings : Settings} {given : WithLog} {earlier : List Message}
+    {carry : Carrying}
     (network : Network) (messages : List Message)
-    → Holds settings given earlier (delivery network [] messages) held
-    → Holds settings given (earlier ++ messages) (delivery network [] []) held
+    → Holds settings given earlier (delivery network [] messages) carry
+    → Holds settings given (earlier ++ messages) (delivery network [] []) carry
 holds-rested {earlier = earlier} network messages holds =
     let same : (earlier ++ messages) ++ [] ≡ earlier ++ messages =
     append-nil (earlier ++ messages) in

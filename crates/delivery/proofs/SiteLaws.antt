@@ -22,18 +22,18 @@ use Rattle.model.proofs.SoundSites.{sound-observed}
 use Rattle.model.proofs.NeverFewer.{observed-grows}
 use Rattle.site_steps.specs.declared.Observed.{Observed}
 use Rattle.site_steps.specs.Steps.{ObserveAsks, ObserveStepSays}
-use Rattle.site_memory.specs.Records.{noRecord}
 use Rattle.site_memory.proofs.OneSite.{storable}
 use Rattle.site_memory.proofs.SitesMemoryLaws.{sitesMemory-set}
 use Rattle.site_memory.proofs.SitePart.{few-sites, start-small, part, part-is}
+use Rattle.model.specs.Held.{noRecord}
 use Rattle.sending.specs.Sending.{queueOf}
-use Rattle.delivery.specs.Holding.{State, state, Holds, Fits}
+use Rattle.delivery.specs.Holding.{Carrying, carrying, underwayIn, Holds, Fits}
 use Rattle.delivery.specs.Arriving.{ArrivalAsks, stepAt, takenAt, Taken, outOf, putBack}
 use Rattle.delivery.proofs.HoldingLaws.{Stored, part-long, part-starts, site-read, holds-site}
 use Rattle.delivery.proofs.GoingLaws.{stored-of-sound, going-fit, going-taken}
 
-module _ {settings : Settings} {arrival : Arrival} {held : State}
-    (u : ArrivalAsks settings arrival held) where
+module _ {settings : Settings} {arrival : Arrival} {carry : Carrying}
+    (u : ArrivalAsks settings arrival carry) where
   abbrev j : ℕ
   j = arrival .site
 
@@ -60,18 +60,18 @@ module _ {settings : Settings} {arrival : Arrival} {held : State}
   pub starts-small : j * siteWords settings ≤ mostSites * mostSiteWords
   starts-small = start-small (going-fit (u .accepting)) site-known
 
-  pub starts-within : j * siteWords settings ≤ length (held .siteMemory)
+  pub starts-within : j * siteWords settings ≤ length (carry .held .siteMemory)
   starts-within = part-starts fits stored (u .holds) j site-known
 
   -- The site's record and its part of the memory, as the code names them.
   module _ (numbers : SiteRecord) (words : ℕ)
-      (numbers-are : numbers ≡ getD (held .underway .sites .records) j noRecord)
+      (numbers-are : numbers ≡ getD (carry .held .sites .records) j noRecord)
       (words-are : words ≡ siteWords settings) where
     abbrev own : List ℕ
-    own = part (held .siteMemory) j words
+    own = part (carry .held .siteMemory) j words
 
-    own-is : own ≡ drop (j * siteWords settings) (held .siteMemory)
-    own-is = part-is settings (held .siteMemory) j words words-are
+    own-is : own ≡ drop (j * siteWords settings) (carry .held .siteMemory)
+    own-is = part-is settings (carry .held .siteMemory) j words words-are
 
     read : siteIn settings numbers own ≡ site
     read = rw (numbers-are, own-is) (site-read fits stored (u .holds) j site-known)
@@ -92,15 +92,16 @@ module _ {settings : Settings} {arrival : Arrival} {held : State}
       -- The memory with the part put back in its place.
       abbrev memory-after : List ℕ
       memory-after =
-          take (j * words) (held .siteMemory)
-          ++ (part-after
-          ++ drop (length (held .siteMemory) - j * words) (drop (j * words) (held .siteMemory)))
+          let memory = carry .held .siteMemory in
+          take (j * words) memory
+          ++ (part-after ++ drop (length memory - j * words) (drop (j * words) memory))
 
       memory-is : memory-after
-          ≡ sitesMemory settings (set (u .network .sites) j (after .site)) (u .given .siteMemory)
+          ≡ sitesMemory settings (set (u .network .sites) j (after .site))
+          (u .given .held .siteMemory)
       memory-is =
           let start = j * siteWords settings in
-          let memory = held .siteMemory in
+          let memory = carry .held .siteMemory in
           let nothing-past : drop (length memory - start) (drop start memory) ≡ [] =
           drop-of-length-le (drop start memory) {i = length memory - start}
           (omega (arith, length-drop start memory)) in
@@ -112,7 +113,7 @@ module _ {settings : Settings} {arrival : Arrival} {held : State}
           sound-observed (going-fit (u .accepting) .capacity .at-least) (going-taken (u .accepting))
           (u .accepting .sound .sites-sound j site-known) in
           rw (words-are, nothing-past, append-nil part-after, written, u .holds .site-memory)
-          (sitesMemory-set settings (u .network .sites) (u .given .siteMemory) j (after .site)
+          (sitesMemory-set settings (u .network .sites) (u .given .held .siteMemory) j (after .site)
           (stored .sites-stored)
           (storable sound-after)
           (observed-grows settings site arrival)
@@ -120,13 +121,13 @@ module _ {settings : Settings} {arrival : Arrival} {held : State}
           (omega (arith, site-known, stored .all-sites)))
 
       changed : Holds settings (u .given) (u .earlier) (takenAt settings (u .network) arrival)
-          (state (putBack (held .underway) j (answer .site)) memory-after
-          (held .coordinatorMemory) (held .log))
+          (carrying (putBack (underwayIn carry) j (answer .site)) memory-after
+          (carry .held .coordinatorMemory) (carry .log))
       changed =
           let site-is : answer .site ≡ siteRecord (after .site) =
           says .gathered .site
           ∙ ap (λ (x : Site). siteRecord (observed settings x arrival .site)) read in
-          holds-site (u .holds) j (after .site) [] (answer .site) (held .underway .waiting)
+          holds-site (u .holds) j (after .site) [] (answer .site) (carry .waiting)
           memory-after (omega (arith, site-known, stored .all-sites)) site-is (u .holds .waiting)
           memory-is
 
@@ -141,6 +142,6 @@ module _ {settings : Settings} {arrival : Arrival} {held : State}
           ∙ ap (λ (x : Site). queueOf (observed settings x arrival .messages)) read
 
       pub site-takes : Taken settings (u .given) (u .earlier) (u .network) arrival (outOf answer)
-          (state (putBack (held .underway) j (answer .site)) memory-after
-          (held .coordinatorMemory) (held .log))
+          (carrying (putBack (underwayIn carry) j (answer .site)) memory-after
+          (carry .held .coordinatorMemory) (carry .log))
       site-takes = record { accepting = u .accepting; out-is = out-is; holds = changed }

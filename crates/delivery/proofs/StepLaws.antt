@@ -24,7 +24,7 @@ use Rattle.sending.specs.declared.Queue.{Queue}
 use Rattle.delivery.specs.declared.Underway.{Underway}
 use Rattle.sending.specs.Sending.{queueOf, SendAsks}
 use Rattle.delivery.specs.UnderwayParts.{trafficOf}
-use Rattle.delivery.specs.Holding.{Given, State, state, answered, Holds, Fits, Going, Delivering, goesOn}
+use Rattle.delivery.specs.Holding.{answered, Holds, Fits, Going, Delivering, goesOn, WithLog, Carrying, carrying, underwayIn}
 use Rattle.delivery.proofs.OneAnswer.{announced-one, announced-remembers}
 use Rattle.delivery.proofs.HoldingLaws.{coordinator-read, send-asks, holds-answer, holds-coordinator}
 use Rattle.delivery.proofs.GoingLaws.{going-fit, going-stage, going-stored, going-room, going-asked}
@@ -54,80 +54,81 @@ head-waits queue (m ∷ rest) is some = record {
 }
 
 -- A delivery whose head is the message that the code sees.
-pub record Handing (settings : Settings) (held : State) (u : Delivering settings held)
+pub record Handing (settings : Settings) (carry : Carrying) (u : Delivering settings carry)
     : Type 0 where
   pub rest : List Message
   pub going : Going settings (u .given) (u .earlier) (u .network) (u .arrival) (u .steps)
-      (delivery (u .now .network) (held .underway .waiting .first ∷ rest) (u .now .log))
+      (delivery (u .now .network) (carry .waiting .first ∷ rest) (u .now .log))
   pub holds : Holds settings (u .given) (u .earlier)
-      (delivery (u .now .network) (held .underway .waiting .first ∷ rest) (u .now .log)) held
+      (delivery (u .now .network) (carry .waiting .first ∷ rest) (u .now .log)) carry
   pub step-is : deliveryStep settings (u .now)
-      ≡ joining (handOver settings (u .now .network) (held .underway .waiting .first)) rest
+      ≡ joining (handOver settings (u .now .network) (carry .waiting .first)) rest
       (u .now .log)
 
-pub handing : {settings : Settings} {held : State} (u : Delivering settings held)
-    → (held .underway .waiting .count ≡ 0 → ⊥)
-    → Handing settings held u
-handing {settings} {held} u some =
-    let head = head-waits (held .underway .waiting) (u .now .waiting) (u .holds .waiting) some in
-    let m = held .underway .waiting .first in
+pub handing : {settings : Settings} {carry : Carrying} (u : Delivering settings carry)
+    → (carry .waiting .count ≡ 0 → ⊥)
+    → Handing settings carry u
+handing {settings} {carry} u some =
+    let head = head-waits (carry .waiting) (u .now .waiting) (u .holds .waiting) some in
+    let m = carry .waiting .first in
     let is : u .now ≡ delivery (u .now .network) (m ∷ head .rest) (u .now .log) =
     ap (λ (waiting : List Message). delivery (u .now .network) waiting (u .now .log)) (head .is) in
     record {
       rest = head .rest;
       going = subst (Going settings (u .given) (u .earlier) (u .network) (u .arrival) (u .steps))
           is (u .going);
-      holds = subst (λ (d : Delivery). Holds settings (u .given) (u .earlier) d held)
+      holds = subst (λ (d : Delivery). Holds settings (u .given) (u .earlier) d carry)
           is (u .holds);
       step-is = ap (deliveryStep settings) is;
     }
 
 -- A coordinator that announces, and nothing waits.
-pub record Asking (settings : Settings) (held : State) (u : Delivering settings held) : Type 0 where
+pub record Asking (settings : Settings) (carry : Carrying) (u : Delivering settings carry)
+    : Type 0 where
   pub announces : isAnnouncing (u .now .network .coordinator .phase) ≡ true
   pub going : Going settings (u .given) (u .earlier) (u .network) (u .arrival) (u .steps)
       (delivery (u .now .network) [] (u .now .log))
   pub holds : Holds settings (u .given) (u .earlier)
-      (delivery (u .now .network) [] (u .now .log)) held
+      (delivery (u .now .network) [] (u .now .log)) carry
   pub step-is : deliveryStep settings (u .now)
       ≡ joining (askAnnouncement settings (u .now .network)) [] (u .now .log)
 
-pub asking : {settings : Settings} {held : State} (u : Delivering settings held)
-    → held .underway .waiting .count ≡ 0
-    → goesOn (held .underway .coordinator) (held .underway .waiting) ≡ true
-    → Asking settings held u
-asking {settings} {held} u none goes =
+pub asking : {settings : Settings} {carry : Carrying} (u : Delivering settings carry)
+    → carry .waiting .count ≡ 0
+    → goesOn (carry .held .coordinator) (carry .waiting) ≡ true
+    → Asking settings carry u
+asking {settings} {carry} u none goes =
     let is : u .now ≡ delivery (u .now .network) [] (u .now .log) =
     ap (λ (waiting : List Message). delivery (u .now .network) waiting (u .now .log))
-    (none-waits (held .underway .waiting) (u .now .waiting) (u .holds .waiting) none) in
+    (none-waits (carry .waiting) (u .now .waiting) (u .holds .waiting) none) in
     let announces : isAnnouncing (u .now .network .coordinator .phase) ≡ true =
     rw (none, u .holds .coordinator) at goes in
     record {
       announces = announces;
       going = subst (Going settings (u .given) (u .earlier) (u .network) (u .arrival) (u .steps))
           is (u .going);
-      holds = subst (λ (d : Delivery). Holds settings (u .given) (u .earlier) d held)
+      holds = subst (λ (d : Delivery). Holds settings (u .given) (u .earlier) d carry)
           is (u .holds);
       step-is = ap (deliveryStep settings) is ∙ rw announces;
     }
 
 -- ---- The answer goes out
 
-module _ {settings : Settings} {given : Given} {earlier : List Message}
-    {network : Network} {waiting log : List Message} {held : State}
-    (holds : Holds settings given earlier (delivery network waiting log) held)
+module _ {settings : Settings} {given : WithLog} {earlier : List Message}
+    {network : Network} {waiting log : List Message} {carry : Carrying}
+    (holds : Holds settings given earlier (delivery network waiting log) carry)
     (out : List Message)
     (count : ℕ)
     (count-is : count ≡ length out)
     (room : messageWidth * length (earlier ++ (log ++ out)) ≤ length (given .log)) where
   pub answer-sends : Fits settings given
       → (count ≡ 0 → ⊥)
-      → SendAsks (trafficOf (held .underway)) (held .log)
+      → SendAsks (trafficOf (underwayIn carry)) (carry .log)
   answer-sends fits some = by-answer out count-is room
     where
       by-answer : (answer : List Message) → count ≡ length answer
           → messageWidth * length (earlier ++ (log ++ answer)) ≤ length (given .log)
-          → SendAsks (trafficOf (held .underway)) (held .log)
+          → SendAsks (trafficOf (underwayIn carry)) (carry .log)
       by-answer [] is fits-log = absurd (some is)
       by-answer (x ∷ xs) is fits-log =
           send-asks fits holds
@@ -141,12 +142,12 @@ module _ {settings : Settings} {given : Given} {earlier : List Message}
 
 -- ---- The next kind 7
 
-module _ {settings : Settings} {held : State} (u : Delivering settings held)
-    (ask : Asking settings held u) where
+module _ {settings : Settings} {carry : Carrying} (u : Delivering settings carry)
+    (ask : Asking settings carry u) where
   abbrev c : Coordinator
   c = u .now .network .coordinator
 
-  pub ask-asks : AnnounceAsks settings (held .underway .coordinator)
+  pub ask-asks : AnnounceAsks settings (carry .held .coordinator)
   ask-asks = record {
     settings-accepted = u .going .accepting .fits .settings-accepted;
     phase-sound =
@@ -159,31 +160,31 @@ module _ {settings : Settings} {held : State} (u : Delivering settings held)
       (is : (memory : List ℕ)
       → answer
       ≡ answerOf
-      (announced settings (coordinatorIn settings (held .underway .coordinator) memory))) where
+      (announced settings (coordinatorIn settings (carry .held .coordinator) memory))) where
     abbrev after : CoordinatorStep
     after = announced settings c
 
     answer-is : answer ≡ answerOf after
     answer-is =
-        is (held .coordinatorMemory)
+        is (carry .held .coordinatorMemory)
         ∙ ap (λ (x : Coordinator). answerOf (announced settings x))
         (coordinator-read (ask .going .accepting .fits) (going-stored (ask .going)) (ask .holds))
 
     abbrev next : Underway
     next = record {
-      sites = held .underway .sites;
+      sites = carry .held .sites;
       coordinator = answer .coordinator;
-      written = held .underway .written;
-      waiting = held .underway .waiting;
+      written = carry .written;
+      waiting = carry .waiting;
     }
 
     changed : Holds settings (u .given) (u .earlier)
         (delivery (withCoordinator (u .now .network) (after .coordinator)) [] (u .now .log))
-        (state next (held .siteMemory) (held .coordinatorMemory) (held .log))
+        (carrying next (carry .held .siteMemory) (carry .held .coordinatorMemory) (carry .log))
     changed =
         let kept = announced-remembers settings c in
         holds-coordinator (ask .holds) (after .coordinator) [] (answer .coordinator)
-        (held .underway .waiting) (held .coordinatorMemory)
+        (carry .waiting) (carry .held .coordinatorMemory)
         (ap (λ (a : CoordinatorAnswer.Answered). a .coordinator) answer-is)
         (ask .holds .waiting)
         (ask .holds .coordinator-memory
@@ -196,7 +197,7 @@ module _ {settings : Settings} {held : State} (u : Delivering settings held)
     count-is : answer .count ≡ length (after .messages)
     count-is = ap (λ (a : CoordinatorAnswer.Answered). a .count) answer-is
 
-    pub asked-sends : (answer .count ≡ 0 → ⊥) → SendAsks (trafficOf next) (held .log)
+    pub asked-sends : (answer .count ≡ 0 → ⊥) → SendAsks (trafficOf next) (carry .log)
     asked-sends =
         answer-sends changed (after .messages) (answer .count) count-is room
         (ask .going .accepting .fits)
@@ -204,11 +205,12 @@ module _ {settings : Settings} {held : State} (u : Delivering settings held)
     pub asked-holds :
         Holds settings (u .given) (u .earlier) (deliveryStep settings (u .now))
         (answered (answer .count) (answer .out)
-        (state next (held .siteMemory) (held .coordinatorMemory) (held .log)))
+        (carrying next (carry .held .siteMemory) (carry .held .coordinatorMemory) (carry .log)))
     asked-holds =
         subst⁻¹ (λ (d : Delivery). Holds settings (u .given) (u .earlier) d
         (answered (answer .count) (answer .out)
-        (state next (held .siteMemory) (held .coordinatorMemory) (held .log)))) (ask .step-is)
+        (carrying next (carry .held .siteMemory) (carry .held .coordinatorMemory) (carry .log))))
+        (ask .step-is)
         (holds-answer (after .messages) (answer .count) (answer .out) changed
         (announced-one settings c) count-is
         (ap (λ (a : CoordinatorAnswer.Answered). a .out) answer-is)

@@ -22,17 +22,17 @@ use Rattle.model.specs.SoundClaims.{begun}
 use Rattle.sending.specs.declared.Queue.{Queue}
 use Rattle.sending.specs.declared.Traffic.{Traffic}
 use Rattle.sending.specs.Sending.{SendTwoAsks, TwoSay}
-use Rattle.delivery.specs.UnderwayParts.{trafficOf, withTraffic}
-use Rattle.delivery.specs.Holding.{Given, State, state, Holds, Going, Delivering, rested}
+use Rattle.delivery.specs.UnderwayParts.{trafficOf}
+use Rattle.delivery.specs.Holding.{WithLog, Carrying, underwayIn, withMessages, Holds, Going, Delivering, rested}
 use Rattle.delivery.specs.Arriving.{stepAt, Taken, MessagesAsk}
 use Rattle.delivery.proofs.ObservedLaws.{messages-two, holds-two}
 use Rattle.delivery.proofs.HoldingLaws.{log-length}
 use Rattle.delivery.proofs.GoingLaws.{going-room, going-ends}
 use Rattle.delivery.proofs.StepLaws.{none-waits}
 
-module _ {settings : Settings} {given : Given} {earlier : List Message} {network : Network}
-    {arrival : Arrival} {out : Queue} {held : State}
-    (taken : Taken settings given earlier network arrival out held) where
+module _ {settings : Settings} {given : WithLog} {earlier : List Message} {network : Network}
+    {arrival : Arrival} {out : Queue} {carry : Carrying}
+    (taken : Taken settings given earlier network arrival out carry) where
   abbrev messages : List Message
   messages = stepAt settings network arrival .messages
 
@@ -50,7 +50,7 @@ module _ {settings : Settings} {given : Given} {earlier : List Message} {network
   count-is : out .count ≡ length messages
   count-is = ap (λ (q : Queue). q .count) (taken .out-is)
 
-  pub two-ask : SendTwoAsks (out .count) (trafficOf (held .underway)) (held .log)
+  pub two-ask : SendTwoAsks (out .count) (trafficOf (underwayIn carry)) (carry .log)
   two-ask =
       let holds = taken .holds in
       let all = length-append earlier messages in
@@ -70,15 +70,14 @@ module _ {settings : Settings} {given : Given} {earlier : List Message} {network
       }
 
   pub begun-holds : {result : Traffic} {written : List ℕ}
-      → TwoSay (out .count) (trafficOf (held .underway)) (out .first) (out .second) (held .log)
+      → TwoSay (out .count) (trafficOf (underwayIn carry)) (out .first) (out .second) (carry .log)
       result written
       → Holds settings given earlier (deliveryOf settings network arrival)
-      (state (withTraffic (held .underway) result) (held .siteMemory) (held .coordinatorMemory)
-      written)
+      (withMessages carry result written)
   begun-holds said =
       subst₂ (λ (r : Traffic) (l : List ℕ).
       Holds settings given earlier (deliveryOf settings network arrival)
-      (state (withTraffic (held .underway) r) (held .siteMemory) (held .coordinatorMemory) l))
+      (withMessages carry r l))
       (sym (said .go-out)) (sym (said .logged))
       (holds-two messages (out .count) (out .first) (out .second) (taken .holds) few count-is
       (ap (λ (q : Queue). q .first) (taken .out-is))
@@ -87,19 +86,19 @@ module _ {settings : Settings} {given : Given} {earlier : List Message} {network
 
   -- The coordinator is idle, as before the arrival.
   pub quiet-rests : out .count ≡ 0
-      → Holds settings given earlier (rested (afterArrival settings network arrival)) held
+      → Holds settings given earlier (rested (afterArrival settings network arrival)) carry
   quiet-rests quiet =
       let none : messages ≡ [] = none-waits out messages (taken .out-is) quiet in
       let silent : isAnnouncing (network .coordinator .phase) ≡ false =
       ap isAnnouncing (taken .accepting .sound .idle) in
-      subst (λ (d : Delivery). Holds settings given earlier d held)
+      subst (λ (d : Delivery). Holds settings given earlier d carry)
       (going-ends going-begun none silent) (rw none (taken .holds))
 
 -- When its messages went out, its delivery goes on.
-abbrev pub delivering-begun : {settings : Settings} {out : Queue} {before held : State}
+abbrev pub delivering-begun : {settings : Settings} {out : Queue} {before carry : Carrying}
     (u : MessagesAsk settings out before)
-    → Holds settings (u .given) (u .earlier) (deliveryOf settings (u .network) (u .arrival)) held
-    → Delivering settings held
+    → Holds settings (u .given) (u .earlier) (deliveryOf settings (u .network) (u .arrival)) carry
+    → Delivering settings carry
 delivering-begun {settings} u holds = record {
   given = u .given;
   earlier = u .earlier;

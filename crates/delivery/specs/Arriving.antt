@@ -17,19 +17,19 @@ use Rattle.model.specs.Site.{SiteStep, observed}
 use Rattle.model.specs.Network.{Network, siteAt, withSite, afterArrival}
 use Rattle.model.specs.DeliveryClaims.{Delivery, delivery}
 use Rattle.site_steps.specs.declared.Observed.{Observed}
-use Rattle.site_memory.specs.Records.{noRecord, withRecord}
+use Rattle.model.specs.Held.{noRecord, withRecord}
 use Rattle.sending.specs.declared.Queue.{Queue}
 use Rattle.delivery.specs.declared.Underway.{Underway}
 use Rattle.sending.specs.Sending.{queueOf}
-use Rattle.delivery.specs.Holding.{Given, State, state, Holds, Accepting, rested}
+use Rattle.delivery.specs.Holding.{WithLog, Carrying, carrying, Holds, Accepting, rested}
 
 -- A network at rest, and an arrival that it accepts.
-pub record ArrivalAsks (settings : Settings) (arrival : Arrival) (held : State) : Type 0 where
-  pub given : Given
+pub record ArrivalAsks (settings : Settings) (arrival : Arrival) (carry : Carrying) : Type 0 where
+  pub given : WithLog
   pub earlier : List Message
   pub network : Network
   pub accepting : Accepting settings given earlier network arrival
-  pub holds : Holds settings given earlier (delivery network [] []) held
+  pub holds : Holds settings given earlier (delivery network [] []) carry
 
 -- The model's step of the arrival's site.
 abbrev pub stepAt : Settings → Network → Arrival → SiteStep
@@ -43,15 +43,15 @@ takenAt settings network arrival =
 -- What the state then holds, and the messages as code carries them.
 pub record Taken
     (settings : Settings)
-    (given : Given)
+    (given : WithLog)
     (earlier : List Message)
     (network : Network)
     (arrival : Arrival)
     (out : Queue)
-    (held : State) : Type 0 where
+    (carry : Carrying) : Type 0 where
   pub accepting : Accepting settings given earlier network arrival
   pub out-is : out ≡ queueOf (stepAt settings network arrival .messages)
-  pub holds : Holds settings given earlier (takenAt settings network arrival) held
+  pub holds : Holds settings given earlier (takenAt settings network arrival) carry
 
 -- The site is handed its record alone, and its part of the sites' memory.
 pub record SiteAsks
@@ -62,7 +62,7 @@ pub record SiteAsks
   pub underway : Underway
   pub coordinatorMemory : List ℕ
   pub log : List ℕ
-  pub asks : ArrivalAsks settings arrival (state underway siteMemory coordinatorMemory log)
+  pub asks : ArrivalAsks settings arrival (carrying underway siteMemory coordinatorMemory log)
   pub own-is : own ≡ getD (underway .sites .records) (arrival .site) noRecord
 
 -- The messages of an observed arrival, as they wait.
@@ -90,20 +90,20 @@ pub record SiteSays
     (before after : List ℕ)
     (answer : Observed) : Type 0 where
   pub takes : (underway : Underway) (coordinatorMemory log : List ℕ)
-      (u : ArrivalAsks settings arrival (state underway before coordinatorMemory log))
+      (u : ArrivalAsks settings arrival (carrying underway before coordinatorMemory log))
       → own ≡ getD (underway .sites .records) (arrival .site) noRecord
       → Taken settings (u .given) (u .earlier) (u .network) arrival (outOf answer)
-      (state (putBack underway (arrival .site) (answer .site)) after coordinatorMemory log)
+      (carrying (putBack underway (arrival .site) (answer .site)) after coordinatorMemory log)
 
 -- The messages of an arrival that its site has taken, with full delivery.
-pub record MessagesAsk (settings : Settings) (out : Queue) (held : State) : Type 0 where
-  pub given : Given
+pub record MessagesAsk (settings : Settings) (out : Queue) (carry : Carrying) : Type 0 where
+  pub given : WithLog
   pub earlier : List Message
   pub network : Network
   pub arrival : Arrival
-  pub taken : Taken settings given earlier network arrival out held
+  pub taken : Taken settings given earlier network arrival out carry
 
-pub record MessagesSay (settings : Settings) (out : Queue) (before after : State) : Type 0 where
+pub record MessagesSay (settings : Settings) (out : Queue) (before after : Carrying) : Type 0 where
   pub delivers : (u : MessagesAsk settings out before)
       → Holds settings (u .given) (u .earlier)
       (rested (afterArrival settings (u .network) (u .arrival))) after

@@ -19,14 +19,14 @@ use Rattle.model.specs.Choice.{if_then_else_, isZero}
 use Rattle.model.specs.Messages.{toCoordinator}
 use Rattle.model.specs.DeliveryClaims.{deliveryStep}
 use Rattle.coordinator_kinds.specs.declared.Answered.{Answered}
-use Rattle.site_memory.specs.Records.{noRecord}
+use Rattle.model.specs.Held.{noRecord}
 use Rattle.sending.specs.declared.Queue.{Queue}
 use Rattle.sending.specs.declared.Traffic.{Traffic}
 use Rattle.delivery.specs.declared.Underway.{Underway}
 use Rattle.delivery.specs.declared.Change.{Change}
 use Rattle.sending.specs.Sending.{SendAsks}
 use Rattle.delivery.specs.UnderwayParts.{trafficOf, underwayOf}
-use Rattle.delivery.specs.Holding.{state, answered, Holds, Delivering, goesOn}
+use Rattle.delivery.specs.Holding.{carrying, answered, Holds, Delivering, goesOn}
 
 abbrev pub siteOfHead : Queue → ℕ
 siteOfHead waiting =
@@ -65,14 +65,14 @@ pub record Handed
     (siteMemory coordinatorBefore coordinatorAfter : List ℕ)
     (by : Change) : Type 0 where
   pub sends : (log : List ℕ)
-      → Delivering settings (state underway siteMemory coordinatorBefore log)
+      → Delivering settings (carrying underway siteMemory coordinatorBefore log)
       → (by .count ≡ 0 → ⊥)
       → SendAsks (trafficOf (changed underway by)) log
   pub next : (log : List ℕ)
-      (u : Delivering settings (state underway siteMemory coordinatorBefore log))
+      (u : Delivering settings (carrying underway siteMemory coordinatorBefore log))
       → Holds settings (u .given) (u .earlier) (deliveryStep settings (u .now))
       (answered (by .count) (by .out)
-      (state (changed underway by) siteMemory coordinatorAfter log))
+      (carrying (changed underway by) siteMemory coordinatorAfter log))
 
 -- Some delivery goes on. The log is not looked at while a message is handed over, nor are the
 -- records of other sites than the one that the head is for.
@@ -87,7 +87,7 @@ pub record HandAsks
   pub log : List ℕ
   pub own-is : own ≡ getD records (siteOfHead waiting) noRecord
   pub delivering : Delivering settings
-      (state (underwayOf records coordinator (withQueue traffic waiting)) siteMemory
+      (carrying (underwayOf records coordinator (withQueue traffic waiting)) siteMemory
       coordinatorMemory log)
   pub goes-on : goesOn coordinator waiting ≡ true
 

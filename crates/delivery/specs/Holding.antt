@@ -1,13 +1,15 @@
 -- What a delivery requires and promises: records, lent memory and log hold the model's delivery,
 -- written over what was given before the first arrival; and where that delivery came from.
 --
---   Given                  records, count, lent memory and log before the first arrival
---   State                  a delivery under way with lent memory and log as they are
---   answered               the state when the answer of a step has gone out
---   Holds                  the state is the model's delivery, written over what was given
+--   WithLog                what is held, and a log: before the first arrival, what was given
+--   Carrying               a delivery under way with all that it is carried out on
+--   carrying, underwayIn   the same from what code has under way, and back
+--   withMessages           with other messages and another log
+--   answered               the same when the answer of a step has gone out
+--   Holds                  it is the model's delivery, written over what was given
 --   Fits                   what was given has room for the settings' network
 --   Going                  a delivery that was reached from an accepted arrival at a sound network
---   Delivering             some delivery goes on in a state: what a step of it requires
+--   Delivering             some delivery goes on: what a step of it requires
 --   StepSays               what a step of it comes to
 --   EndSays                all of it
 use mathlib.Core.Path.{_≡_}
@@ -18,7 +20,6 @@ use lib.ListN.{length}
 use Rattle.model.specs.declared.Settings.{Settings}
 use Rattle.model.specs.declared.Arrival.{Arrival}
 use Rattle.model.specs.declared.Message.{Message}
-use Rattle.model.specs.declared.SiteRecord.{SiteRecord}
 use Rattle.model.specs.declared.CoordinatorRecord.{CoordinatorRecord}
 use Rattle.model.specs.Choice.{isZero}
 use Rattle.model.specs.Refusals.{accepted}
@@ -29,12 +30,14 @@ use Rattle.model.specs.Coordinator.{isAnnouncing}
 use Rattle.model.specs.CoordinatorMemory.{coordinatorRecord, coordinatorMemory, coordinatorWords}
 use Rattle.model.specs.Network.{Network, Delivered, afterArrival}
 use Rattle.model.specs.NetworkMemory.{siteRecords, sitesMemory, sitesWords}
+use Rattle.model.specs.Held.{Held, heldBy}
 use Rattle.model.specs.Runs.{refusalIn}
 use Rattle.model.specs.SoundNetwork.{Sound}
 use Rattle.model.specs.NumberClaims.{Bounded}
 use Rattle.model.specs.DeliveryClaims.{Delivery, delivery, deliveryStep, deliveryOf}
 use Rattle.model.specs.SoundClaims.{Reached}
 use Rattle.sending.specs.declared.Queue.{Queue}
+use Rattle.sending.specs.declared.Traffic.{Traffic}
 use Rattle.delivery.specs.declared.Underway.{Underway}
 use Rattle.sending.specs.Log.{logRoom, messageNumbers}
 use Rattle.sending.specs.Sending.{queueOf, sentIf, loggedIf}
@@ -42,67 +45,80 @@ use Rattle.delivery.specs.UnderwayParts.{trafficOf, withTraffic}
 
 -- ---- What is held
 
-pub record Given : Type 0 where
-  pub records : List SiteRecord
-  pub messages : ℕ
-  pub siteMemory : List ℕ
-  pub coordinatorMemory : List ℕ
+-- What a call over arrivals is given: "with a run and a log of its own".
+pub record WithLog : Type 0 where
+  pub held : Held
   pub log : List ℕ
 
-pub record State : Type 0 where
-  pub underway : Underway
-  pub siteMemory : List ℕ
-  pub coordinatorMemory : List ℕ
+pub record Carrying : Type 0 where
+  pub held : Held
   pub log : List ℕ
+  -- the messages written to the log so far, and those that wait
+  pub written : ℕ
+  pub waiting : Queue
 
-abbrev pub state : Underway → List ℕ → List ℕ → List ℕ → State
-state underway siteMemory coordinatorMemory log = record {
-  underway = underway;
-  siteMemory = siteMemory;
-  coordinatorMemory = coordinatorMemory;
+abbrev pub carrying : Underway → List ℕ → List ℕ → List ℕ → Carrying
+carrying underway siteMemory coordinatorMemory log = record {
+  held = heldBy (underway .sites) (underway .coordinator) siteMemory coordinatorMemory;
   log = log;
+  written = underway .written;
+  waiting = underway .waiting;
 }
+
+-- The same without lent memory and log, as code has it.
+abbrev pub underwayIn : Carrying → Underway
+underwayIn carry = record {
+  sites = carry .held .sites;
+  coordinator = carry .held .coordinator;
+  written = carry .written;
+  waiting = carry .waiting;
+}
+
+-- The messages and the log as they are then.
+abbrev pub withMessages : Carrying → Traffic → List ℕ → Carrying
+withMessages carry traffic =
+    carrying (withTraffic (underwayIn carry) traffic) (carry .held .siteMemory)
+    (carry .held .coordinatorMemory)
 
 -- The answer of a step has gone out, if there is one.
-abbrev pub answered : ℕ → Message → State → State
-answered count m held = record {
-  underway = withTraffic (held .underway) (sentIf count (trafficOf (held .underway)) m);
-  siteMemory = held .siteMemory;
-  coordinatorMemory = held .coordinatorMemory;
-  log = loggedIf count (held .log) (held .underway .written) m;
-}
+abbrev pub answered : ℕ → Message → Carrying → Carrying
+answered count m carry =
+    withMessages carry (sentIf count (trafficOf (underwayIn carry)) m)
+    (loggedIf count (carry .log) (carry .written) m)
 
 -- The messages since the call began: those of earlier arrivals, then the delivery's own.
 pub record Holds
     (settings : Settings)
-    (given : Given)
+    (given : WithLog)
     (earlier : List Message)
     (d : Delivery)
-    (held : State) : Type 0 where
-  pub records : held .underway .sites .records ≡ siteRecords (d .network .sites) (given .records)
-  pub counted : held .underway .sites .messages ≡ given .messages + length (earlier ++ d .log)
-  pub coordinator : held .underway .coordinator ≡ coordinatorRecord (d .network .coordinator)
-  pub written : held .underway .written ≡ length (earlier ++ d .log)
-  pub waiting : held .underway .waiting ≡ queueOf (d .waiting)
-  pub site-memory : held .siteMemory
-      ≡ sitesMemory settings (d .network .sites) (given .siteMemory)
-  pub coordinator-memory : held .coordinatorMemory
-      ≡ coordinatorMemory (d .network .coordinator) (given .coordinatorMemory)
-  pub log : held .log ≡ overwrite (messageNumbers (earlier ++ d .log)) (given .log)
+    (carry : Carrying) : Type 0 where
+  pub records : carry .held .sites .records
+      ≡ siteRecords (d .network .sites) (given .held .sites .records)
+  pub counted : carry .held .sites .messages
+      ≡ given .held .sites .messages + length (earlier ++ d .log)
+  pub coordinator : carry .held .coordinator ≡ coordinatorRecord (d .network .coordinator)
+  pub written : carry .written ≡ length (earlier ++ d .log)
+  pub waiting : carry .waiting ≡ queueOf (d .waiting)
+  pub site-memory : carry .held .siteMemory
+      ≡ sitesMemory settings (d .network .sites) (given .held .siteMemory)
+  pub coordinator-memory : carry .held .coordinatorMemory
+      ≡ coordinatorMemory (d .network .coordinator) (given .held .coordinatorMemory)
+  pub log : carry .log ≡ overwrite (messageNumbers (earlier ++ d .log)) (given .log)
 
 -- ---- What a delivery requires
 
-pub record Fits (settings : Settings) (given : Given) : Type 0 where
+pub record Fits (settings : Settings) (given : WithLog) : Type 0 where
   pub settings-accepted : settingsRefusal settings ≡ accepted
-  pub all-records : settings .sites ≤ length (given .records)
-  pub site-memory-long : sitesWords settings ≤ length (given .siteMemory)
-  pub coordinator-memory-long : coordinatorWords settings ≤ length (given .coordinatorMemory)
-  pub count-within : given .messages ≤ messageLimit
+  pub all-records : settings .sites ≤ length (given .held .sites .records)
+  pub site-memory-long : sitesWords settings ≤ length (given .held .siteMemory)
+  pub coordinator-memory-long : coordinatorWords settings ≤ length (given .held .coordinatorMemory)
+  pub count-within : given .held .sites .messages ≤ messageLimit
 
 -- An arrival that a network at rest accepts, with a log that has place for all its messages.
 pub record Accepting
     (settings : Settings)
-    (given : Given)
+    (given : WithLog)
     (earlier : List Message)
     (network : Network)
     (arrival : Arrival) : Type 0 where
@@ -115,7 +131,7 @@ pub record Accepting
 -- A delivery that the arrival set off, after so many steps.
 pub record Going
     (settings : Settings)
-    (given : Given)
+    (given : WithLog)
     (earlier : List Message)
     (network : Network)
     (arrival : Arrival)
@@ -125,15 +141,15 @@ pub record Going
   pub reached : Reached settings (deliveryOf settings network arrival) steps d
   pub few-waiting : length (d .waiting) ≤ 2
 
-pub record Delivering (settings : Settings) (held : State) : Type 0 where
-  pub given : Given
+pub record Delivering (settings : Settings) (carry : Carrying) : Type 0 where
+  pub given : WithLog
   pub earlier : List Message
   pub network : Network
   pub arrival : Arrival
   pub steps : ℕ
   pub now : Delivery
   pub going : Going settings given earlier network arrival steps now
-  pub holds : Holds settings given earlier now held
+  pub holds : Holds settings given earlier now carry
 
 -- ---- What it promises
 
@@ -142,7 +158,7 @@ abbrev pub goesOn : CoordinatorRecord → Queue → Bool
 goesOn coordinator waiting = not (isZero (waiting .count)) || isAnnouncing (coordinator .phase)
 
 -- What a step of a delivery comes to, whatever delivery the state holds.
-pub record StepSays (settings : Settings) (before after : State) : Type 0 where
+pub record StepSays (settings : Settings) (before after : Carrying) : Type 0 where
   pub next : (u : Delivering settings before)
       → Holds settings (u .given) (u .earlier) (deliveryStep settings (u .now)) after
 
@@ -150,7 +166,7 @@ pub record StepSays (settings : Settings) (before after : State) : Type 0 where
 abbrev pub rested : Delivered → Delivery
 rested after = delivery (after .network) [] (after .messages)
 
-pub record EndSays (settings : Settings) (before after : State) : Type 0 where
+pub record EndSays (settings : Settings) (before after : Carrying) : Type 0 where
   pub ends : (u : Delivering settings before)
       → Holds settings (u .given) (u .earlier)
       (rested (afterArrival settings (u .network) (u .arrival))) after

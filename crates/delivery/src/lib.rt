@@ -8,9 +8,9 @@ ghost use mathlib.Core.Path.{_≡_};
 ghost use Prim.Native.Nat.{_<_};
 ghost use lib.ListN.{getD};
 ghost use Rattle.model.specs.Limits.{mostSites};
-ghost use Rattle.site_memory.specs.Records.{noRecord, withRecord};
+ghost use Rattle.model.specs.Held.{noRecord, withRecord};
 ghost use Rattle.delivery.specs.UnderwayParts.{resting, underwayOf};
-ghost use Rattle.delivery.specs.Holding.{state, Delivering, EndSays};
+ghost use Rattle.delivery.specs.Holding.{carrying, Delivering, EndSays};
 ghost use Rattle.delivery.specs.Arriving.{SiteAsks, SiteSays, MessagesAsk, MessagesSay};
 use crate::handing::goes_on;
 use crate::handing::hand_over;
@@ -97,12 +97,12 @@ fn deliver(
     log: &mut [u64],
 ) -> Underway
     requires { ⌜ Delivering settings
-        (state (underwayOf records coordinator traffic)
+        (carrying (underwayOf records coordinator traffic)
         (now «site_memory») (now «coordinator_memory») (now log)) ⌝ }
     ensures { λ r. ⌜ EndSays settings
-        (state (underwayOf records coordinator traffic) (now («site_memory» .entry))
+        (carrying (underwayOf records coordinator traffic) (now («site_memory» .entry))
         (now («coordinator_memory» .entry)) (now (log .entry)))
-        (state r (now («site_memory» .entry))
+        (carrying r (now («site_memory» .entry))
         (now («coordinator_memory» .exit)) (now (log .exit))) ⌝ }
 {
     while goes_on(coordinator, traffic.waiting) {
@@ -167,11 +167,11 @@ pub fn deliver_messages(
     log: &mut [u64],
 ) -> Underway
     requires { ⌜ MessagesAsk settings out
-        (state underway (now «site_memory») (now «coordinator_memory») (now log)) ⌝ }
+        (carrying underway (now «site_memory») (now «coordinator_memory») (now log)) ⌝ }
     ensures { λ r. ⌜ MessagesSay settings out
-        (state underway (now («site_memory» .entry))
+        (carrying underway (now («site_memory» .entry))
         (now («coordinator_memory» .entry)) (now (log .entry)))
-        (state r (now («site_memory» .entry))
+        (carrying r (now («site_memory» .entry))
         (now («coordinator_memory» .exit)) (now (log .exit))) ⌝ }
 {
     let waiting = underway.waiting;

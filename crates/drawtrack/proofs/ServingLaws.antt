@@ -10,8 +10,8 @@ use Prim.Native.Nat.{ℕ, suc, _+_, _≤_}
 use native.Mathlib.Omega.{arith}
 use lib.ListN.{take}
 use Rattle.session_steps.specs.declared.Session.{Session}
-use Rattle.session_steps.specs.declared.Turn.{Turn}
-use Rattle.session_steps.specs.Outcome.{Lent, lent}
+use Rattle.session_steps.specs.declared.Moved.{Moved}
+use Rattle.session_steps.specs.Outcome.{Buffers, buffers}
 use Rattle.session.specs.Limits.{inputRoom}
 use Rattle.session.specs.Begin.{BeginSays}
 use Rattle.session.specs.Advance.{AdvanceSays}
@@ -21,14 +21,14 @@ use Rattle.drawtrack.specs.Serving.{Lends, Situation, situation, begunWi
 
 -- ---- The first call, and the promise
 
-module _ (input : List ℕ) (given : Lent) (siteMemory coordinatorMemory out : List ℕ)
-    (answer : Turn)
-    (says : BeginSays input (withoutLists given) (lent siteMemory coordinatorMemory [] [] out)
+module _ (input : List ℕ) (given : Buffers) (siteMemory coordinatorMemory out : List ℕ)
+    (answer : Moved)
+    (says : BeginSays input (withoutLists given) (buffers siteMemory coordinatorMemory [] [] out)
     answer) where
   abbrev first : Situation
   first =
       situation (answer .session)
-      (lent siteMemory coordinatorMemory (given .log) (given .list) out)
+      (buffers siteMemory coordinatorMemory (given .log) (given .list) out)
 
   pub serving-begins : Lends input given → Serving input first first 0
   serving-begins lends = record {
@@ -50,7 +50,7 @@ module _ (input : List ℕ) (given : Lent) (siteMemory coordinatorMemory out : L
     };
     bytes = take (answer .written) out;
     course =
-        begun (withoutLists given) (lent siteMemory coordinatorMemory [] [] out) answer
+        begun (withoutLists given) (buffers siteMemory coordinatorMemory [] [] out) answer
         (lends .site-memory) (lends .coordinator-memory) (lends .out-long) says;
     now-is = refl;
   }
@@ -58,7 +58,7 @@ module _ (input : List ℕ) (given : Lent) (siteMemory coordinatorMemory out : L
   first-is : first ≡ afterBegin input given
   first-is = ap (begunWith (given .log) (given .list)) (says .is)
 
-  pub serves : (session : Session) (left : Lent) (turns : ℕ)
+  pub serves : (session : Session) (left : Buffers) (turns : ℕ)
       → Serving input first (situation session left) turns
       → session .going ≡ false
       → ServeSays input given left (session .going)
@@ -88,9 +88,9 @@ module _ (input : List ℕ) (given : Lent) (siteMemory coordinatorMemory out : L
 
 -- ---- A turn
 
-module _ (input : List ℕ) (first : Situation) (session : Session) (given : Lent) (turns : ℕ)
+module _ (input : List ℕ) (first : Situation) (session : Session) (given : Buffers) (turns : ℕ)
     (serving : Serving input first (situation session given) turns) where
-  pub serving-on : (left : Lent) (answer : Turn)
+  pub serving-on : (left : Buffers) (answer : Moved)
       → session .going ≡ true
       → AdvanceSays input session given left answer
       → Serving input first (situation (answer .session) left) (turns + 1)

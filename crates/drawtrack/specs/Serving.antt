@@ -15,7 +15,7 @@ use lib.ListN.{length, take}
 use Rattle.model.specs.Transcript.{transcript}
 use Rattle.reader.specs.Walk.{stepAt}
 use Rattle.session_steps.specs.declared.Session.{Session}
-use Rattle.session_steps.specs.Outcome.{Lent, lent, Outcome, SameLengths}
+use Rattle.session_steps.specs.Outcome.{Buffers, buffers, Outcome, SameLengths}
 use Rattle.session.specs.Limits.{siteRoom, coordinatorRoom, logRoom, listRoom, outRoom, inputRoom}
 use Rattle.session.specs.Begin.{beginOf}
 use Rattle.session.specs.Advance.{lineOf}
@@ -23,7 +23,7 @@ use Rattle.session.specs.Course.{Course}
 
 -- "Its memory serves k up to 4, c up to 100, u up to 1000 and a worklist up to 8192 bytes": of the
 -- input no more bytes than matter; log, list and output for the longest answer.
-pub record Lends (input : List ℕ) (given : Lent) : Type 0 where
+pub record Lends (input : List ℕ) (given : Buffers) : Type 0 where
   pub input-few : length input ≤ inputRoom
   pub site-memory : siteRoom ≤ length (given .siteMemory)
   pub coordinator-memory : coordinatorRoom ≤ length (given .coordinatorMemory)
@@ -35,27 +35,27 @@ pub record Lends (input : List ℕ) (given : Lent) : Type 0 where
 
 pub record Situation : Type 0 where
   pub session : Session
-  pub left : Lent
+  pub left : Buffers
 
-abbrev pub situation : Session → Lent → Situation
+abbrev pub situation : Session → Buffers → Situation
 situation session left = record { session = session; left = left }
 
 -- `begin` is lent no log and no list: these are as they were.
 abbrev pub begunWith : List ℕ → List ℕ → Outcome → Situation
 begunWith log list begun =
-    situation (begun .turn .session)
-    (lent (begun .left .siteMemory) (begun .left .coordinatorMemory) log list (begun .left .out))
+    situation (begun .moved .session)
+    (buffers (begun .left .siteMemory) (begun .left .coordinatorMemory) log list (begun .left .out))
 
-abbrev pub withoutLists : Lent → Lent
-withoutLists given = lent (given .siteMemory) (given .coordinatorMemory) [] [] (given .out)
+abbrev pub withoutLists : Buffers → Buffers
+withoutLists given = buffers (given .siteMemory) (given .coordinatorMemory) [] [] (given .out)
 
-abbrev pub afterBegin : List ℕ → Lent → Situation
+abbrev pub afterBegin : List ℕ → Buffers → Situation
 afterBegin input given =
     begunWith (given .log) (given .list) (beginOf input (withoutLists given))
 
 -- A call of `advance`: the line at the session's place.
 abbrev pub situationOf : Outcome → Situation
-situationOf line = situation (line .turn .session) (line .left)
+situationOf line = situation (line .moved .session) (line .left)
 
 abbrev pub afterCall : List ℕ → Situation → Situation
 afterCall input before =
@@ -84,7 +84,7 @@ pub record Serving (input : List ℕ) (first now : Situation) (turns : ℕ) : Ty
 -- What they leave in every place of lent memory follows from the input and from what was lent.
 -- Their bytes, one after the other, are the transcript of the input; also of a longer one, of which
 -- it is the first bytes.
-pub record ServeSays (input : List ℕ) (given left : Lent) (answer : Bool) : Type 0 where
+pub record ServeSays (input : List ℕ) (given left : Buffers) (answer : Bool) : Type 0 where
   pub answer-false : answer ≡ false
   pub turns : ℕ
   pub session : Session

@@ -2,7 +2,7 @@
 // each draw, and then the results or the line of a refusal, on standard output. Thin over crate
 // `session`: it lends the memory, reads once, and writes what each call wrote.
 
-ghost use Rattle.session_steps.specs.Outcome.{lent};
+ghost use Rattle.session_steps.specs.Outcome.{buffers};
 ghost use Rattle.drawtrack.specs.Serving.{Lends, ServeSays};
 use libc::STDIN_FILENO;
 use libc::STDOUT_FILENO;
@@ -35,11 +35,11 @@ fn serve(
     list: &mut [u32],
     out: &mut [u8],
 ) -> bool
-    requires { ⌜ Lends (now input) (lent (now «site_memory») (now «coordinator_memory») (now log)
+    requires { ⌜ Lends (now input) (buffers (now «site_memory») (now «coordinator_memory») (now log)
         (now list) (now out)) ⌝ }
     ensures { λ r. ⌜ ServeSays (now (input .entry))
-        (lent (now («site_memory» .entry)) (now («coordinator_memory» .entry)) (now (log .entry))
-        (now (list .entry)) (now (out .entry))) (lent (now («site_memory» .exit))
+        (buffers (now («site_memory» .entry)) (now («coordinator_memory» .entry)) (now (log .entry))
+        (now (list .entry)) (now (out .entry))) (buffers (now («site_memory» .exit))
         (now («coordinator_memory» .exit)) (now (log .exit)) (now (list .exit)) (now (out .exit)))
         r ⌝ }
 {
@@ -48,7 +48,7 @@ fn serve(
     let mut session = first.session;
     let mut turns: usize = 0;
     while session.going && turns < SESSION_INPUT_BYTES {
-        let turn = session::advance(
+        let moved = session::advance(
             session,
             input,
             site_memory,
@@ -57,8 +57,8 @@ fn serve(
             list,
             out,
         );
-        write_out(turn.written, out);
-        session = turn.session;
+        write_out(moved.written, out);
+        session = moved.session;
         turns += 1;
     }
     session.going

@@ -20,15 +20,14 @@ use Rattle.model.specs.Settings.{settingsRefusal}
 use Rattle.model.specs.Coordinator.{Coordinator, isAnnouncing, coordinatorRefusal, announcementRefusal}
 use Rattle.model.specs.CoordinatorMemory.{coordinatorWords, coordinatorIn, coordinatorMemoryRefusal}
 use Rattle.model.specs.Network.{Network}
-use Rattle.model.specs.NetworkMemory.{sitesWords, networkIn, networkRefusal}
+use Rattle.model.specs.NetworkMemory.{sitesWords}
 use Rattle.model.specs.Reading.{heavyHitters}
 use Rattle.model.specs.Runs.{batchOf}
 use Rattle.model.specs.SoundNetwork.{Sound}
 use Rattle.model.proofs.ConsistentCoordinator.{CoordinatorWithin}
 use Rattle.model.proofs.ConsistentNetwork.{network-consistent-of}
-use Rattle.tracker_steps.specs.declared.BatchAnswer.{BatchAnswer}
-use Rattle.tracker.specs.Batch.{BatchLent, BatchSays, logRoom}
-use Rattle.history.specs.State.{State, AtRest, networkOf, partOf, coordinatorPart, fronts, lending}
+use Rattle.tracker.specs.Batch.{BatchHeld, BatchSays, logRoom}
+use Rattle.history.specs.State.{Held, heldBy, State, AtRest, networkOf, heldRefusal, partOf, coordinatorPart, fronts, lending}
 use Rattle.history.specs.Histories.{batchCall}
 use Rattle.history.specs.First.{MemoryAccepted, RefusedByRules}
 use Rattle.history.proofs.Answers.{accepted-choice, or-accepted}
@@ -79,17 +78,18 @@ module _ {settings : Settings} (passes : settingsRefusal settings ≡ accepted)
         messages-within settings passes (state .accepted),
       )
 
+  -- The records that are held, with other memories.
+  abbrev memories : List ℕ → List ℕ → Held
+  memories = heldBy (state .held .sites) (state .held .coordinator)
+
   -- Memories that hold the network that is held, at rest.
   network-accepted-in : (siteMemory coordinatorMemory : List ℕ)
       → sitesWords settings ≤ length siteMemory
       → coordinatorWords settings ≤ length coordinatorMemory
-      → networkIn settings (state .held .sites) (state .held .coordinator) siteMemory
-      coordinatorMemory
+      → networkOf settings (memories siteMemory coordinatorMemory)
       ≡ networkOf settings (state .held)
       → AtRest state
-      → networkRefusal settings (state .held .sites) (state .held .coordinator) siteMemory
-      coordinatorMemory
-      ≡ accepted
+      → heldRefusal settings (memories siteMemory coordinatorMemory) ≡ accepted
   network-accepted-in siteMemory coordinatorMemory sites-long coordinator-long same at-rest =
       let sound = subst (Sound settings) (sym same) (sound-rest-of at-rest .sound) in
       let within = subst (λ (network : Network). CoordinatorWithin (network .coordinator))
@@ -104,9 +104,7 @@ module _ {settings : Settings} (passes : settingsRefusal settings ≡ accepted)
 
   -- All of both memories.
   pub network-accepted : AtRest state
-      → networkRefusal settings (state .held .sites) (state .held .coordinator)
-      (state .held .siteMemory) (state .held .coordinatorMemory)
-      ≡ accepted
+      → heldRefusal settings (state .held) ≡ accepted
   network-accepted =
       network-accepted-in (state .held .siteMemory) (state .held .coordinatorMemory)
       (ok .lengths .sites-long) (ok .lengths .coordinator-long) refl
@@ -135,8 +133,7 @@ module _ {settings : Settings} (passes : settingsRefusal settings ≡ accepted)
       → sitesWords settings ≤ siteCount
       → coordinatorWords settings ≤ coordinatorCount
       → AtRest state
-      → networkRefusal settings (state .held .sites) (state .held .coordinator)
-      (partOf (state .held) 0 siteCount) (coordinatorPart (state .held) 0 coordinatorCount)
+      → heldRefusal settings (lending (state .held) (fronts siteCount coordinatorCount))
       ≡ accepted
   network-accepted-front siteCount coordinatorCount sites-enough enough =
       let sites-long = front-long (sitesWords settings) siteCount (state .held .siteMemory)
@@ -161,24 +158,24 @@ module _ {settings : Settings} (passes : settingsRefusal settings ≡ accepted)
 
   -- All of both memories lent.
   pub batch-by-rules : AtRest state
-      → (arrivals : List Arrival) (log : List ℕ) (lent : BatchLent) (answer : BatchAnswer)
-      → BatchSays (batchCall settings (state .held) arrivals log) lent answer
+      → (arrivals : List Arrival) (log : List ℕ) (answer : BatchHeld)
+      → BatchSays (batchCall settings (state .held) arrivals log) answer
       → answer .refusal
       ≡ batchOf settings (logRoom log) (networkOf settings (state .held)) arrivals .refusal
-  batch-by-rules at-rest arrivals log lent answer says =
+  batch-by-rules at-rest arrivals log answer says =
       says .refusal ∙ rw (network-accepted at-rest)
 
   batch-front-by-rules : (siteCount coordinatorCount : ℕ)
       → sitesWords settings ≤ siteCount
       → coordinatorWords settings ≤ coordinatorCount
       → AtRest state
-      → (arrivals : List Arrival) (log : List ℕ) (lent : BatchLent) (answer : BatchAnswer)
+      → (arrivals : List Arrival) (log : List ℕ) (answer : BatchHeld)
       → BatchSays
       (batchCall settings (lending (state .held) (fronts siteCount coordinatorCount)) arrivals log)
-      lent answer
+      answer
       → answer .refusal
       ≡ batchOf settings (logRoom log) (networkOf settings (state .held)) arrivals .refusal
-  batch-front-by-rules siteCount coordinatorCount sites-enough enough at-rest arrivals log lent
+  batch-front-by-rules siteCount coordinatorCount sites-enough enough at-rest arrivals log
       answer says =
       says .refusal
       ∙ accepted-choice _ _ _

@@ -34,12 +34,12 @@ module _ {settings : Settings} (passes : settingsRefusal settings ≡ accepted) 
       → Step settings before after
       → Arisen settings after
   arisen-step before after there
-      (arrives (batch siteCount coordinatorCount arrivals log lent answer rest says)) =
-      of-lent-batch passes before (there .ok) rest siteCount coordinatorCount arrivals log lent
-      answer says (Arisen settings) there
+      (arrives (batch siteCount coordinatorCount arrivals log answer rest says)) =
+      of-lent-batch passes before (there .ok) rest siteCount coordinatorCount arrivals log answer
+      says (Arisen settings) there
       (λ all. record {
         steps = 0;
-        ok = batch-ok passes before (there .ok) rest arrivals log _ answer all;
+        ok = batch-ok passes before (there .ok) rest arrivals log _ all;
       })
   arisen-step before after there (arrives (single arrival words part answer rest says accepts)) =
       record {

@@ -137,9 +137,10 @@ pub not-of-arrival : (call : BatchCall)
     → (startRefusal call ≡ accepted → ⊥)
     → ofArrival (startRefusal call) ≡ false
 not-of-arrival call passes refused =
-    by-row (networkTooShort (call .settings) (call .siteMemory) (call .coordinatorMemory))
-    (not (networkConsistent (call .settings) (call .sites) (call .coordinator)
-    (call .siteMemory) (call .coordinatorMemory))) (rw passes)
+    by-row
+    (networkTooShort (call .settings) (call .held .siteMemory) (call .held .coordinatorMemory))
+    (not (networkConsistent (call .settings) (call .held .sites) (call .held .coordinator)
+    (call .held .siteMemory) (call .held .coordinatorMemory))) (rw passes)
   where
     by-row : (short inconsistent : Bool)
         → startRefusal call

@@ -25,8 +25,7 @@ use Rattle.model.proofs.RunLaws.{runFrom-append}
 use Rattle.site_memory.proofs.SitesMemoryLaws.{AllStorable, all-storable, length-siteRecords, length-sitesMemory}
 use Rattle.site_memory.proofs.SitesReading.{sitesIn-sitesMemory}
 use Rattle.coordinator_kinds.proofs.MemoryLaws.{written-coordinator}
-use Rattle.tracker_steps.specs.declared.BatchAnswer.{BatchAnswer}
-use Rattle.tracker.specs.Batch.{BatchCall, BatchLent, BatchSays, startRefusal, batchIn, unlessRefused, logRoom, messagesIn}
+use Rattle.tracker.specs.Batch.{BatchCall, BatchHeld, BatchSays, startRefusal, batchIn, unlessRefused, logRoom, messagesIn}
 use Rattle.history.specs.State.{Held, State, AtRest, networkOf, networkWritten}
 use Rattle.history.specs.Histories.{batchCall, afterBatch}
 use Rattle.history.proofs.RunSound.{sound-run}
@@ -183,21 +182,21 @@ module _ {settings : Settings} (passes : settingsRefusal settings ≡ accepted)
 
   -- ---- The state after the call
 
-  module _ (lent : BatchLent) (answer : BatchAnswer) (says : BatchSays call lent answer) where
+  module _ (answer : BatchHeld) (says : BatchSays call answer) where
     done : {A : Type 0} (x y z : A) → x ≡ unlessRefused call y z → x ≡ y
     done x y z is = is ∙ rw (eq-eqb (startRefusal call) 0 none)
 
     -- What the call answers and leaves is what its contract says of the model's batch.
-    pub after-is : afterBatch before arrivals lent answer ≡ after
+    pub after-is : afterBatch before arrivals answer ≡ after
     after-is =
-        let sites = done (answer .sites) _ _ (says .sites) in
-        let coordinator = done (answer .coordinator) _ _ (says .coordinator) in
-        let site-memory = done (lent .siteMemory) _ _ (says .site-memory) in
-        let memory = done (lent .coordinatorMemory) _ _ (says .coordinator-memory) in
+        let sites = done (answer .held .sites) _ _ (says .sites) in
+        let coordinator = done (answer .held .coordinator) _ _ (says .coordinator) in
+        let site-memory = done (answer .held .siteMemory) _ _ (says .site-memory) in
+        let memory = done (answer .held .coordinatorMemory) _ _ (says .coordinator-memory) in
         let taken = done (answer .accepted) _ _ (says .accepted) in
         let written = done (answer .written) _ _ (says .written) in
-        let read : messagesIn (answer .written) (lent .log) ≡ batch .messages =
-        (λ i. messagesIn (written i) (done (lent .log) _ _ (says .log) i))
+        let read : messagesIn (answer .written) (answer .log) ≡ batch .messages =
+        (λ i. messagesIn (written i) (done (answer .log) _ _ (says .log) i))
         ∙ messagesIn-written (batch .messages) _ in
         λ i. record {
           held = record {
@@ -213,8 +212,8 @@ module _ {settings : Settings} (passes : settingsRefusal settings ≡ accepted)
         }
 
     -- The invariant after a batch call at rest.
-    pub batch-ok : StateOk settings 0 (afterBatch before arrivals lent answer)
+    pub batch-ok : StateOk settings 0 (afterBatch before arrivals answer)
     batch-ok = subst (StateOk settings 0) (sym after-is) after-ok
 
-    pub batch-resting : Resting settings (afterBatch before arrivals lent answer)
+    pub batch-resting : Resting settings (afterBatch before arrivals answer)
     batch-resting = subst (Resting settings) (sym after-is) resting-then

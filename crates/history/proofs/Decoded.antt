@@ -19,7 +19,7 @@ use Rattle.model.specs.declared.Message.{Message}
 use Rattle.model.specs.Refusals.{accepted}
 use Rattle.model.specs.Limits.{mostSites}
 use Rattle.model.specs.Settings.{settingsRefusal}
-use Rattle.model.specs.Site.{Site, freshSite, siteReceives}
+use Rattle.model.specs.Site.{Site, siteReceives}
 use Rattle.model.specs.SiteMemory.{siteWords, siteIn, siteRecord, siteMemory, siteMemoryRefusal}
 use Rattle.model.specs.CoordinatorMemory.{coordinatorWords, coordinatorIn, coordinatorMemory}
 use Rattle.model.specs.Network.{siteAt, withSite}
@@ -31,7 +31,7 @@ use Rattle.site_memory.proofs.SiteMemoryLaws.{siteIn-siteMemory}
 use Rattle.site_memory.proofs.OneSite.{Storable}
 use Rattle.site_memory.proofs.SitesReading.{getD-sitesIn, length-sitesIn, used-within}
 use Rattle.site_steps.proofs.ReceiveLaws.{siteIn-received}
-use Rattle.history.specs.State.{Held, networkOf, recordAt, siteStart, sitePart, withPart, afterSiteCall}
+use Rattle.history.specs.State.{Held, networkOf, recordAt, siteStart, sitePart, withPart, afterSiteCall, noRecord}
 use Rattle.history.proofs.SiteParts.{siteIn-take, front-long}
 use Rattle.history.proofs.SitesMemory.{offset, offset-is, sitesIn-set, written, length-written, part-written, sitesIn-written}
 
@@ -86,7 +86,7 @@ module _ {settings : Settings} (passes : settingsRefusal settings ≡ accepted) 
 
   site-is : siteAt (networkOf settings held) j ≡ siteIn settings (recordAt held j) rest
   site-is =
-      getD-sitesIn (siteRecord freshSite) (settings .sites) settings (held .sites .records)
+      getD-sitesIn noRecord (settings .sites) settings (held .sites .records)
       (held .siteMemory) j known (enough passes held lengths)
 
   -- A part of at least the site's own numbers holds the site.
@@ -162,7 +162,7 @@ module _ {settings : Settings} (passes : settingsRefusal settings ≡ accepted) 
         ∙ ap (λ (from : ℕ). written settings from site (held .siteMemory))
         (sym (offset-is words j)))
         ∙ sitesIn-written settings site fits (settings .sites) j (held .sites .records)
-        (siteRecord site) (siteRecord freshSite) (held .siteMemory) in-memory-at
+        (siteRecord site) noRecord (held .siteMemory) in-memory-at
         (λ i i<j. used-at passes held lengths sound i (omega arith))
         ∙ ap (set (sitesIn (settings .sites) settings (held .sites .records) (held .siteMemory)) j)
         (ap (λ (from : ℕ).

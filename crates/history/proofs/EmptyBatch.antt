@@ -14,16 +14,13 @@ use Rattle.model.specs.declared.Settings.{Settings}
 use Rattle.model.specs.declared.Arrival.{Arrival}
 use Rattle.model.specs.Choice.{isZero}
 use Rattle.model.specs.Refusals.{accepted}
-use Rattle.model.specs.Site.{freshSite}
-use Rattle.model.specs.SiteMemory.{siteRecord}
 use Rattle.model.specs.Network.{Network, afterArrival}
 use Rattle.model.specs.Runs.{Batch, batchRefusal, batchFrom, batchOf}
 use Rattle.model.proofs.ConsistentNetwork.{Passes, passes-of}
 use Rattle.site_memory.proofs.SitesReading.{enough-records, used-within, siteRecords-sitesIn, sitesMemory-sitesIn}
 use Rattle.coordinator_kinds.proofs.MemoryLaws.{memory-kept}
-use Rattle.tracker_steps.specs.declared.BatchAnswer.{BatchAnswer}
-use Rattle.tracker.specs.Batch.{BatchCall, BatchLent, BatchSays, startRefusal, batchIn, unlessRefused}
-use Rattle.history.specs.State.{Held, State, networkOf}
+use Rattle.tracker.specs.Batch.{BatchCall, BatchSays, startRefusal, batchIn, unlessRefused, BatchHeld}
+use Rattle.history.specs.State.{Held, State, networkOf, heldRefusal, noRecord}
 use Rattle.history.specs.Histories.{batchCall, afterBatch}
 
 -- ---- A batch of the model that accepts nothing
@@ -86,8 +83,8 @@ nothing-done settings room network (arrival ∷ arrivals) none = by-refusal (isZ
 -- ---- The state after the call
 
 module _ (before : State) (given : Settings) (arrivals : List Arrival) (log : List ℕ)
-    (lent : BatchLent) (answer : BatchAnswer)
-    (says : BatchSays (batchCall given (before .held) arrivals log) lent answer)
+    (answer : BatchHeld)
+    (says : BatchSays (batchCall given (before .held) arrivals log) answer)
     (nothing : answer .accepted ≡ 0) where
   abbrev call : BatchCall
   call = batchCall given (before .held) arrivals log
@@ -119,9 +116,9 @@ module _ (before : State) (given : Settings) (arrivals : List Arrival) (log : Li
       passes-of given (held .sites) (held .coordinator) (held .siteMemory)
       (held .coordinatorMemory) none
 
-  sites-same : answer .sites ≡ held .sites
+  sites-same : answer .held .sites ≡ held .sites
   sites-same =
-      by-start _ _ (answer .sites) (says .sites)
+      by-start _ _ (answer .held .sites) (says .sites)
       (λ none.
       let done = idle-batch none in
       let records = siteRecords-sitesIn (given .sites) given (held .sites .records)
@@ -135,29 +132,29 @@ module _ (before : State) (given : Settings) (arrivals : List Arrival) (log : Li
       add-zero : (n : ℕ) → n + 0 ≡ n
       add-zero n = omega arith
 
-  coordinator-same : answer .coordinator ≡ held .coordinator
+  coordinator-same : answer .held .coordinator ≡ held .coordinator
   coordinator-same =
-      by-start _ _ (answer .coordinator) (says .coordinator)
+      by-start _ _ (answer .held .coordinator) (says .coordinator)
       (λ none. rw (idle-batch none .network-same))
 
-  site-memory-same : lent .siteMemory ≡ held .siteMemory
+  site-memory-same : answer .held .siteMemory ≡ held .siteMemory
   site-memory-same =
-      by-start _ _ (lent .siteMemory) (says .site-memory)
+      by-start _ _ (answer .held .siteMemory) (says .site-memory)
       (λ none.
       let ok = passes none in
       let k = given .sites in
       let records = held .sites .records in
       let all = ok .sound .all-sites in
       rw (idle-batch none .network-same)
-      (sitesMemory-sitesIn (siteRecord freshSite) k given records (held .siteMemory)
-      (λ j known. used-within (siteRecord freshSite) k given records (held .siteMemory) all j known
+      (sitesMemory-sitesIn noRecord k given records (held .siteMemory)
+      (λ j known. used-within noRecord k given records (held .siteMemory) all j known
       (ok .sound .sites-sound j known))
       (enough-records k given records (held .siteMemory) all)
       (ok .sites-long)))
 
-  coordinator-memory-same : lent .coordinatorMemory ≡ held .coordinatorMemory
+  coordinator-memory-same : answer .held .coordinatorMemory ≡ held .coordinatorMemory
   coordinator-memory-same =
-      by-start _ _ (lent .coordinatorMemory) (says .coordinator-memory)
+      by-start _ _ (answer .held .coordinatorMemory) (says .coordinator-memory)
       (λ none.
       rw (idle-batch none .network-same)
       (sym (memory-kept given (held .coordinator) (held .coordinatorMemory)
@@ -169,7 +166,7 @@ module _ (before : State) (given : Settings) (arrivals : List Arrival) (log : Li
       (λ none. ap length (idle-batch none .no-messages))
 
   -- Records, memory and bookkeeping are as they were.
-  pub batch-same : afterBatch before arrivals lent answer ≡ before
+  pub batch-same : afterBatch before arrivals answer ≡ before
   batch-same =
       rw (nothing, nothing-written)
       (λ i. record {

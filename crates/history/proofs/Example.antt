@@ -20,6 +20,7 @@ use Rattle.model.specs.Instances.{settingsA, arrivalWith, draw}
 use Rattle.site_steps.specs.declared.Observed.{Observed}
 use Rattle.tracker.specs.Batch.{messageNumbers}
 use Rattle.history.specs.Histories.{Arrives, batch, single, Delivers, to-coordinator, to-site, next-announcement, Refuses, arrival-refused, coordinator-message-refused, Reachable, started}
+use Rattle.history.specs.State.{fronts, lending}
 use Rattle.history.specs.Example.{siteAfter, siteNumbers, coordinatorWith, coordinatorNumbers, allMessages, startedState, afterDraw, afterItemReport, afterCountReport, afterPoll, afterPollAnswer, afterAnnouncement, atRestAgain, afterBatchOfTwo}
 
 -- A number that is no acceptance.
@@ -221,16 +222,11 @@ unfolding valueCount
 batch-stopped =
     batch 1048 1035 (draw ∷ (draw ∷ [])) (replicate 100 8)
     (record {
-      siteMemory = take 1048 (siteNumbers 2);
-      coordinatorMemory = take 1035 (coordinatorNumbers 2 2);
-      log = messageNumbers (allMessages 2) ++ replicate 80 8;
-    })
-    (record {
       refusal = 14;
       accepted = 1;
       written = 5;
-      sites = afterBatchOfTwo .held .sites;
-      coordinator = coordinatorWith 2 2 0 Idle;
+      held = lending (afterBatchOfTwo .held) (fronts 1048 1035);
+      log = messageNumbers (allMessages 2) ++ replicate 80 8;
     })
     (record { nothing-waits = refl; idle = refl })
     (record {

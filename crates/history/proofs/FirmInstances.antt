@@ -7,7 +7,7 @@ use mathlib.Core.Path.{_≡_, refl, ap}
 use mathlib.Core.List.{_++_}
 use Prim.Native.Nat.{ℕ, _+_, _-_, _*_}
 use native.Mathlib.Omega.{arith}
-use lib.ListN.{take, replicate}
+use lib.ListN.{replicate}
 use Rattle.model.specs.Limits.{valueCount}
 use Rattle.model.specs.Claims.{counted}
 use Rattle.model.specs.Instances.{settingsA}
@@ -15,6 +15,7 @@ use Rattle.model.proofs.SettingsLaws.{settled}
 use Rattle.tracker.specs.Batch.{messageNumbers}
 use Rattle.history.specs.Histories.{Arrives, batch, arrives, Reachable, stepped}
 use Rattle.history.specs.Reading.{ListRight}
+use Rattle.history.specs.State.{fronts, lending}
 use Rattle.history.specs.Example.{startedState}
 use Rattle.history.specs.FirmInstances.{sevenDraws, afterSeven, threeBefore, threeAfter, answerOfTwo, settings400, fortyFour, FirmInstances}
 use Rattle.history.proofs.FirmShares.{listed-firm}
@@ -27,16 +28,11 @@ unfolding valueCount
 seven-arrive =
     batch 1049 1035 sevenDraws (replicate 300 8)
     (record {
-      siteMemory = take 1049 (afterSeven .held .siteMemory);
-      coordinatorMemory = take 1035 (afterSeven .held .coordinatorMemory);
-      log = messageNumbers (afterSeven .messages) ++ replicate 100 8;
-    })
-    (record {
       refusal = 0;
       accepted = 7;
       written = 50;
-      sites = afterSeven .held .sites;
-      coordinator = afterSeven .held .coordinator;
+      held = lending (afterSeven .held) (fronts 1049 1035);
+      log = messageNumbers (afterSeven .messages) ++ replicate 100 8;
     })
     (record { nothing-waits = refl; idle = refl })
     (record {

@@ -17,8 +17,8 @@ use Rattle.model.specs.declared.SiteRecord.{SiteRecord}
 use Rattle.model.specs.Refusals.{accepted}
 use Rattle.model.specs.Limits.{mostSites}
 use Rattle.model.specs.Settings.{settingsRefusal}
-use Rattle.model.specs.Site.{freshSite, siteReceives}
-use Rattle.model.specs.SiteMemory.{siteWords, siteRecord, siteMemory}
+use Rattle.model.specs.Site.{siteReceives}
+use Rattle.model.specs.SiteMemory.{siteWords, siteMemory}
 use Rattle.model.specs.Network.{Network, siteAt}
 use Rattle.model.specs.NetworkMemory.{sitesWords, sitesMemory}
 use Rattle.model.specs.Runs.{runOf}
@@ -29,9 +29,8 @@ use Rattle.site_memory.proofs.SitesReading.{sitesMemory-sitesIn}
 use Rattle.site_memory.proofs.SitesFronts.{sitesMemory-again}
 use Rattle.site_steps.specs.declared.Observed.{Observed}
 use Rattle.site.specs.Calls.{ObserveSays}
-use Rattle.tracker_steps.specs.declared.BatchAnswer.{BatchAnswer}
-use Rattle.tracker.specs.Batch.{BatchLent, BatchSays, batchIn}
-use Rattle.history.specs.State.{Held, State, AtRest, networkOf, networkWritten, recordAt, siteStart, sitePart, afterSiteCall}
+use Rattle.tracker.specs.Batch.{BatchHeld, BatchSays, batchIn}
+use Rattle.history.specs.State.{Held, State, AtRest, networkOf, networkWritten, recordAt, siteStart, sitePart, afterSiteCall, noRecord}
 use Rattle.history.specs.Histories.{batchCall, afterBatch, afterSingle, batch, single, Delivers, to-coordinator, to-site, next-announcement, Step, arrives, delivers, refuses}
 use Rattle.history.specs.Frame.{TailsKept}
 use Rattle.history.proofs.WrittenAgain.{records-over, coordinator-over}
@@ -74,7 +73,7 @@ from-self {settings} passes held lengths sites-sound =
       start-long = lengths .sites-long;
       tails = kept-self settings held;
       site-memory =
-          sym (sitesMemory-sitesIn (siteRecord freshSite) (settings .sites) settings
+          sym (sitesMemory-sitesIn noRecord (settings .sites) settings
           (held .sites .records) (held .siteMemory)
           (λ j known. used-at passes held lengths sites-sound j known)
           enough (lengths .sites-long));
@@ -200,11 +199,11 @@ module _ {settings : Settings} (passes : settingsRefusal settings ≡ accepted)
     {n : ℕ} (state : State) (ok : StateOk settings n state)
     (start : Held) (from : FromStart settings start (state .held)) where
   -- A batch writes sites with no fewer counters over those that were there.
-  batch-over : (arrivals : List Arrival) (log : List ℕ) (lent : BatchLent) (answer : BatchAnswer)
+  batch-over : (arrivals : List Arrival) (log : List ℕ) (answer : BatchHeld)
       → AtRest state
-      → BatchSays (batchCall settings (state .held) arrivals log) lent answer
-      → WrittenOver settings (start .siteMemory) (afterBatch state arrivals lent answer .held)
-  batch-over arrivals log lent answer at-rest says =
+      → BatchSays (batchCall settings (state .held) arrivals log) answer
+      → WrittenOver settings (start .siteMemory) (afterBatch state arrivals answer .held)
+  batch-over arrivals log answer at-rest says =
       let rest = resting-of passes ok at-rest in
       let then = batchIn (batchCall settings (state .held) arrivals log) .network in
       let after = Batched.after passes state ok at-rest arrivals log in
@@ -226,7 +225,7 @@ module _ {settings : Settings} (passes : settingsRefusal settings ≡ accepted)
       let read = network-written passes (state .held) (ok .lengths) then new
       (after .held .sites .messages) in
       subst (λ (s : State). WrittenOver settings (start .siteMemory) (s .held))
-      (sym (Batched.after-is passes state ok at-rest arrivals log lent answer says))
+      (sym (Batched.after-is passes state ok at-rest arrivals log answer says))
       (ap (sitesMemory settings (then .sites)) (from .site-memory)
       ∙ sitesMemory-again settings (networkOf settings (state .held) .sites) (then .sites)
       (start .siteMemory)
@@ -238,14 +237,14 @@ module _ {settings : Settings} (passes : settingsRefusal settings ≡ accepted)
   pub from-step : (after : State) → Step settings state after
       → FromStart settings start (after .held)
   from-step after
-      (arrives (batch siteCount coordinatorCount arrivals log lent answer rest says)) =
+      (arrives (batch siteCount coordinatorCount arrivals log answer rest says)) =
       kept-from from
       (tails-kept passes state ok after
-      (arrives (batch siteCount coordinatorCount arrivals log lent answer rest says)))
-      (of-lent-batch passes state ok rest siteCount coordinatorCount arrivals log lent answer says
+      (arrives (batch siteCount coordinatorCount arrivals log answer rest says)))
+      (of-lent-batch passes state ok rest siteCount coordinatorCount arrivals log answer says
       (λ (after : State). WrittenOver settings (start .siteMemory) (after .held))
       (from .site-memory)
-      (batch-over arrivals log _ answer rest))
+      (batch-over arrivals log _ rest))
   from-step after (arrives (single arrival words part answer rest says accepts)) =
       from-single passes state start from (sound-rest-of passes ok rest) arrival words part answer
       says accepts

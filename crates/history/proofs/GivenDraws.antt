@@ -20,8 +20,7 @@ use Rattle.model.specs.Runs.{Run, runFrom, runOf}
 use Rattle.model.proofs.RunLaws.{runFrom-append}
 use Rattle.site_steps.specs.declared.Observed.{Observed}
 use Rattle.site.specs.Calls.{ObserveSays}
-use Rattle.tracker_steps.specs.declared.BatchAnswer.{BatchAnswer}
-use Rattle.tracker.specs.Batch.{BatchLent, BatchSays}
+use Rattle.tracker.specs.Batch.{BatchHeld, BatchSays}
 use Rattle.history.specs.State.{Held, State, recordAt, partOf, siteStart, Slices, fronts, lending}
 use Rattle.history.specs.Histories.{batchCall, batch, single, to-coordinator, to-site, next-announcement, Refuses, arrival-refused, site-message-refused, coordinator-message-refused, announcement-refused, batch-accepts-nothing, Step, arrives, delivers, refuses, Reachable, started, stepped}
 use Rattle.history.specs.Given.{ofArrival, decidedCount, Handed, noDraw, drawHanded, batchHanded, sameSettings, ownDraw, ownBatch, handedRefused, givenBy, givenIn, AsGiven}
@@ -113,12 +112,12 @@ module _ {settings : Settings} (passes : settingsRefusal settings ≡ accepted)
 
   -- A batch call that accepts nothing, if it is one of the list.
   refused-batch-given : (given : Settings) (slices : Slices) (arrivals : List Arrival)
-      (log : List ℕ) (lent : BatchLent) (answer : BatchAnswer)
-      → BatchSays (batchCall given (lending held slices) arrivals log) lent answer
+      (log : List ℕ) (answer : BatchHeld)
+      → BatchSays (batchCall given (lending held slices) arrivals log) answer
       → answer .accepted ≡ 0
       → ownBatch settings given slices ≡ true
       → runFrom settings run (take (decidedCount answer) arrivals) ≡ run
-  refused-batch-given given slices arrivals log lent answer says nothing own =
+  refused-batch-given given slices arrivals log answer says nothing own =
       let same = sameSettings given settings in
       let front = both-true (same && isZero (slices .siteFrom)) (isZero (slices .coordinatorFrom))
       own in
@@ -136,11 +135,11 @@ module _ {settings : Settings} (passes : settingsRefusal settings ≡ accepted)
       (λ of.
       ap (λ (m : ℕ). runFrom settings run (take (suc m) arrivals)) nothing
       ∙ refused-batch-no-trace passes before ok (slices .siteCount) (slices .coordinatorCount)
-      arrivals log lent answer
+      arrivals log answer
       (subst (λ (theirs : Slices).
-      BatchSays (batchCall settings (lending held theirs) arrivals log) lent answer) are-fronts
+      BatchSays (batchCall settings (lending held theirs) arrivals log) answer) are-fronts
       (subst (λ (theirs : Settings).
-      BatchSays (batchCall theirs (lending held slices) arrivals log) lent answer)
+      BatchSays (batchCall theirs (lending held slices) arrivals log) answer)
       (settings-same given settings (two .first-true)) says))
       nothing of
       ∙ sym none)
@@ -160,17 +159,17 @@ module _ {settings : Settings} (passes : settingsRefusal settings ≡ accepted)
   refused-given after (site-message-refused _ _ _ _ _ _ _ _ _) = refl
   refused-given after (coordinator-message-refused _ _ _ _ _ _ _ _) = refl
   refused-given after (announcement-refused _ _ _ _ _ _) = refl
-  refused-given after (batch-accepts-nothing given slices arrivals log lent answer says nothing) =
+  refused-given after (batch-accepts-nothing given slices arrivals log answer says nothing) =
       own-given settings run (ownBatch settings given slices) (batchHanded arrivals answer)
-      (refused-batch-given given slices arrivals log lent answer says nothing)
+      (refused-batch-given given slices arrivals log answer says nothing)
 
   -- The rules over what the step was given come to what they say of the arrivals accepted then.
   pub step-given : (after : State) (step : Step settings before after)
       → runFrom settings run (givenBy step) ≡ runOf settings (after .accepted)
   step-given after
-      (arrives (batch siteCount coordinatorCount arrivals log lent answer rest says)) =
+      (arrives (batch siteCount coordinatorCount arrivals log answer rest says)) =
       one-more settings run (ofArrival (answer .refusal)) (answer .accepted) arrivals
-      (batch-no-trace passes before ok siteCount coordinatorCount arrivals log lent answer rest
+      (batch-no-trace passes before ok siteCount coordinatorCount arrivals log answer rest
       says)
       ∙ sym (runFrom-append settings _ (before .accepted) (take (answer .accepted) arrivals))
   step-given after (arrives (single arrival words part answer rest says accepts)) =

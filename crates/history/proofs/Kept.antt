@@ -16,7 +16,7 @@ use Rattle.model.specs.declared.Arrival.{Arrival}
 use Rattle.model.specs.declared.Message.{Message}
 use Rattle.model.specs.Refusals.{accepted}
 use Rattle.model.specs.Settings.{settingsRefusal}
-use Rattle.model.specs.Site.{Site, freshSite}
+use Rattle.model.specs.Site.{Site}
 use Rattle.model.specs.SiteMemory.{siteWords, siteRecord}
 use Rattle.model.specs.Coordinator.{coordinatorReceives}
 use Rattle.model.specs.Network.{Network}
@@ -25,9 +25,8 @@ use Rattle.model.specs.SoundNetwork.{Sound}
 use Rattle.site_memory.proofs.SitesMemoryLaws.{all-storable}
 use Rattle.site_steps.specs.declared.Observed.{Observed}
 use Rattle.site.specs.Calls.{ObserveSays}
-use Rattle.tracker_steps.specs.declared.BatchAnswer.{BatchAnswer}
-use Rattle.tracker.specs.Batch.{BatchLent, BatchSays, batchIn}
-use Rattle.history.specs.State.{Held, State, AtRest, networkOf, networkWritten, recordAt, siteStart, sitePart, withPart}
+use Rattle.tracker.specs.Batch.{BatchHeld, BatchSays, batchIn}
+use Rattle.history.specs.State.{Held, State, AtRest, networkOf, networkWritten, recordAt, siteStart, sitePart, withPart, noRecord}
 use Rattle.history.specs.Histories.{batchCall, afterBatch, afterSingle, batch, single, Delivers, to-coordinator, to-site, next-announcement, Step, arrives, delivers, refuses}
 use Rattle.history.specs.Frame.{TailsKept, OthersKept}
 use Rattle.history.proofs.SitesMemory.{offset, offset-is, written}
@@ -135,7 +134,7 @@ module _ {settings : Settings} (passes : settingsRefusal settings ≡ accepted) 
           later-parts = behind;
           other-records = λ other elsewhere.
               getD-set-other (state .held .sites .records) j other (siteRecord site)
-              (siteRecord freshSite) elsewhere;
+              noRecord elsewhere;
           coordinator = refl;
           coordinator-memory = refl;
         }
@@ -208,16 +207,16 @@ module _ {settings : Settings} (passes : settingsRefusal settings ≡ accepted) 
 module _ {settings : Settings} (passes : settingsRefusal settings ≡ accepted)
     {n : ℕ} (state : State)
     (ok : StateOk settings n state) where
-  batch-kept : (arrivals : List Arrival) (log : List ℕ) (lent : BatchLent) (answer : BatchAnswer)
+  batch-kept : (arrivals : List Arrival) (log : List ℕ) (answer : BatchHeld)
       → AtRest state
-      → BatchSays (batchCall settings (state .held) arrivals log) lent answer
-      → TailsKept settings (state .held) (afterBatch state arrivals lent answer .held)
-  batch-kept arrivals log lent answer at-rest says =
+      → BatchSays (batchCall settings (state .held) arrivals log) answer
+      → TailsKept settings (state .held) (afterBatch state arrivals answer .held)
+  batch-kept arrivals log answer at-rest says =
       let after = Batched.after passes state ok at-rest arrivals log in
       let sound = Batched.sound-then passes state ok at-rest arrivals log in
       let network = batchIn (batchCall settings (state .held) arrivals log) .network in
       subst (λ (then : State). TailsKept settings (state .held) (then .held))
-      (sym (Batched.after-is passes state ok at-rest arrivals log lent answer says))
+      (sym (Batched.after-is passes state ok at-rest arrivals log answer says))
       (network-kept settings (state .held) (ok .lengths) network sound
       (after .held .sites .messages))
 
@@ -227,11 +226,11 @@ module _ {settings : Settings} (passes : settingsRefusal settings ≡ accepted)
   pub tails-kept : (after : State) → Step settings state after
       → TailsKept settings (state .held) (after .held)
   tails-kept after
-      (arrives (batch siteCount coordinatorCount arrivals log lent answer rest says)) =
-      of-lent-batch passes state ok rest siteCount coordinatorCount arrivals log lent answer says
+      (arrives (batch siteCount coordinatorCount arrivals log answer rest says)) =
+      of-lent-batch passes state ok rest siteCount coordinatorCount arrivals log answer says
       (λ (after : State). TailsKept settings (state .held) (after .held))
       (kept-self settings (state .held))
-      (batch-kept arrivals log _ answer rest)
+      (batch-kept arrivals log _ rest)
   tails-kept after (arrives (single arrival words part answer rest says accepts)) =
       single-kept passes state (sound-rest-of passes ok rest) arrival words part answer says
       accepts

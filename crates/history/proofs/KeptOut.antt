@@ -12,9 +12,8 @@ use borrow.Author.Tests.{eqb-true, eqb-false}
 use Rattle.model.specs.declared.Settings.{Settings}
 use Rattle.model.specs.Choice.{if_then_else_, isZero}
 use Rattle.model.specs.Refusals.{accepted}
-use Rattle.model.specs.NetworkMemory.{networkIn}
-use Rattle.tracker_steps.specs.declared.BatchAnswer.{BatchAnswer}
-use Rattle.tracker.specs.Batch.{BatchCall, BatchLent, BatchSays, startRefusal, logRoom}
+use Rattle.model.specs.Held.{networkOf}
+use Rattle.tracker.specs.Batch.{BatchCall, BatchHeld, BatchSays, startRefusal, logRoom}
 use Rattle.history.specs.State.{State}
 use Rattle.history.specs.Histories.{batch, single, Refuses, arrival-refused, site-message-refused, coordinator-message-refused, announcement-refused, batch-accepts-nothing, Step, arrives, delivers, refuses}
 use Rattle.history.specs.Given.{ofArrival, decidedCount, keptOut, Handed, noDraw, batchHanded, ownBatch, handedRefused, handedBy, refusalOfRefused, keptOutBy, refusalBy, NothingLost}
@@ -22,18 +21,17 @@ use Rattle.history.proofs.Answers.{accepted-choice, refused-choice}
 use Rattle.history.proofs.BatchStops.{runAt, batch-stops}
 
 -- A batch that is not refused accepts all its arrivals, and so keeps none out.
-batch-none-kept-out : (call : BatchCall) (lent : BatchLent) (answer : BatchAnswer)
-    → BatchSays call lent answer
+batch-none-kept-out : (call : BatchCall) (answer : BatchHeld)
+    → BatchSays call answer
     → answer .refusal ≡ accepted
     → keptOut (call .arrivals) answer ≡ []
-batch-none-kept-out call lent answer says none = by-start (isZero (startRefusal call)) refl
+batch-none-kept-out call answer says none = by-start (isZero (startRefusal call)) refl
   where
     by-start : (test : Bool) → isZero (startRefusal call) ≡ test
         → keptOut (call .arrivals) answer ≡ []
     by-start true started =
         let accepts = eqb-true (startRefusal call) 0 started in
-        let network = networkIn (call .settings) (call .sites) (call .coordinator)
-        (call .siteMemory) (call .coordinatorMemory) in
+        let network = networkOf (call .settings) (call .held) in
         let all : answer .accepted ≡ length (call .arrivals) =
         says .accepted
         ∙ accepted-choice _ _ _ accepts
@@ -65,15 +63,15 @@ refused-none-kept-out settings (site-message-refused _ _ _ _ _ _ _ _ _) none = r
 refused-none-kept-out settings (coordinator-message-refused _ _ _ _ _ _ _ _) none = refl
 refused-none-kept-out settings (announcement-refused _ _ _ _ _ _) none = refl
 refused-none-kept-out settings
-    (batch-accepts-nothing given slices arrivals log lent answer says nothing) none =
+    (batch-accepts-nothing given slices arrivals log answer says nothing) none =
     own-none-kept-out (ownBatch settings given slices) (batchHanded arrivals answer)
-    (batch-none-kept-out _ lent answer says none)
+    (batch-none-kept-out _ answer says none)
 
 none-kept-out : {settings : Settings} {before after : State} (step : Step settings before after)
     → refusalBy step ≡ accepted
     → keptOutBy step ≡ []
-none-kept-out (arrives (batch siteCount coordinatorCount arrivals log lent answer rest says)) none =
-    batch-none-kept-out _ lent answer says none
+none-kept-out (arrives (batch siteCount coordinatorCount arrivals log answer rest says)) none =
+    batch-none-kept-out _ answer says none
 none-kept-out (arrives (single arrival words part answer rest says accepts)) none = refl
 none-kept-out (delivers step) none = refl
 none-kept-out {settings} (refuses step) none = refused-none-kept-out settings step none

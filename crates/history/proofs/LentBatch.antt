@@ -22,8 +22,7 @@ use Rattle.model.specs.NetworkMemory.{siteRecords, sitesMemory}
 use Rattle.model.specs.Runs.{Batch, batchOf}
 use Rattle.model.specs.SoundNetwork.{Sound}
 use Rattle.model.proofs.ConsistentNetwork.{Passes, passes-of}
-use Rattle.tracker_steps.specs.declared.BatchAnswer.{BatchAnswer}
-use Rattle.tracker.specs.Batch.{BatchCall, BatchLent, BatchSays, startRefusal, batchIn, unlessRefused, logRoom, messageNumbers}
+use Rattle.tracker.specs.Batch.{BatchCall, BatchSays, startRefusal, batchIn, unlessRefused, logRoom, messageNumbers, BatchHeld}
 use Rattle.history.specs.State.{Held, State, AtRest, fronts, lending, withPart, putBack}
 use Rattle.history.specs.Histories.{batchCall, afterBatch, batch-accepts-nothing}
 use Rattle.history.proofs.Answers.{accepted-choice, refused-choice}
@@ -39,10 +38,10 @@ module _ {settings : Settings} (passes : settingsRefusal settings ≡ accepted)
     {n : ℕ} (before : State)
     (ok : StateOk settings n before) (at-rest : AtRest before)
     (siteCount coordinatorCount : ℕ) (arrivals : List Arrival) (log : List ℕ)
-    (lent : BatchLent) (answer : BatchAnswer)
+    (answer : BatchHeld)
     (says : BatchSays
     (batchCall settings (lending (before .held) (fronts siteCount coordinatorCount)) arrivals log)
-    lent answer) where
+    answer) where
   abbrev held : Held
   held = before .held
 
@@ -52,23 +51,23 @@ module _ {settings : Settings} (passes : settingsRefusal settings ≡ accepted)
   abbrev onAll : BatchCall
   onAll = batchCall settings held arrivals log
 
-  abbrev back : BatchLent
-  back = putBack held (fronts siteCount coordinatorCount) lent
+  abbrev back : BatchHeld
+  back = putBack held (fronts siteCount coordinatorCount) answer
 
   -- What the step comes to.
   pub data LentBatch : Type 0 where
     nothing-changed : (startRefusal onFronts ≡ accepted → ⊥)
-        → afterBatch before arrivals back answer ≡ before
+        → afterBatch before arrivals back ≡ before
         → LentBatch
-    as-all-lent : BatchSays onAll back answer → LentBatch
+    as-all-lent : BatchSays onAll back → LentBatch
 
   -- ---- Refused when it starts
 
   unchanged : (startRefusal onFronts ≡ accepted → ⊥)
-      → afterBatch before arrivals back answer ≡ before
+      → afterBatch before arrivals back ≡ before
   unchanged refused =
       refused-same before _
-      (batch-accepts-nothing settings (fronts siteCount coordinatorCount) arrivals log lent answer
+      (batch-accepts-nothing settings (fronts siteCount coordinatorCount) arrivals log answer
       says (says .accepted ∙ refused-choice (startRefusal onFronts) _ _ refused))
 
   -- ---- Accepted
@@ -105,7 +104,7 @@ module _ {settings : Settings} (passes : settingsRefusal settings ≡ accepted)
         ∙ sym (accepted-choice (startRefusal onAll) _ _
         (Batched.none passes before ok at-rest arrivals log))
 
-    sites-then : back .siteMemory
+    sites-then : back .held .siteMemory
         ≡ sitesMemory settings (batchIn onAll .network .sites) (held .siteMemory)
     sites-then =
         let sites = batchIn onAll .network .sites in
@@ -120,7 +119,7 @@ module _ {settings : Settings} (passes : settingsRefusal settings ≡ accepted)
         ∙ sym (sitesMemory-front settings sites sitesFront (drop siteCount (held .siteMemory)) room)
         ∙ ap (sitesMemory settings sites) (take-append-drop siteCount (held .siteMemory))
 
-    coordinator-then : back .coordinatorMemory
+    coordinator-then : back .held .coordinatorMemory
         ≡ coordinatorMemory (batchIn onAll .network .coordinator) (held .coordinatorMemory)
     coordinator-then =
         let c = batchIn onAll .network .coordinator in
@@ -141,7 +140,7 @@ module _ {settings : Settings} (passes : settingsRefusal settings ≡ accepted)
         ∙ overwrite-front (c .estimates ++ c .histogram) coordinatorCount
         (held .coordinatorMemory) room
 
-    whole : BatchSays onAll back answer
+    whole : BatchSays onAll back
     whole =
         let all-accepted = Batched.none passes before ok at-rest arrivals log in
         record {
@@ -151,19 +150,19 @@ module _ {settings : Settings} (passes : settingsRefusal settings ≡ accepted)
               (says .accepted);
           written = answered (answer .written) _ _ (λ (batch : Batch). length (batch .messages))
               (says .written);
-          sites = answered (answer .sites) _ _
+          sites = answered (answer .held .sites) _ _
               (λ (batch : Batch). record {
                 records = siteRecords (batch .network .sites) (held .sites .records);
                 messages = held .sites .messages + length (batch .messages);
               })
               (says .sites);
-          coordinator = answered (answer .coordinator) _ _
+          coordinator = answered (answer .held .coordinator) _ _
               (λ (batch : Batch). coordinatorRecord (batch .network .coordinator))
               (says .coordinator);
           site-memory = sites-then ∙ sym (accepted-choice (startRefusal onAll) _ _ all-accepted);
           coordinator-memory =
               coordinator-then ∙ sym (accepted-choice (startRefusal onAll) _ _ all-accepted);
-          log = answered (lent .log) _ _
+          log = answered (answer .log) _ _
               (λ (batch : Batch). overwrite (messageNumbers (batch .messages)) log)
               (says .log);
         }
@@ -181,10 +180,10 @@ module _ {settings : Settings} (passes : settingsRefusal settings ≡ accepted)
   -- What holds of the state before, and of the state after the call with all memory lent.
   pub of-lent-batch : (P : State → Type 0)
       → P before
-      → (BatchSays onAll back answer → P (afterBatch before arrivals back answer))
-      → P (afterBatch before arrivals back answer)
+      → (BatchSays onAll back → P (afterBatch before arrivals back))
+      → P (afterBatch before arrivals back)
   of-lent-batch P unmoved moved = by-case lent-batch
     where
-      by-case : LentBatch → P (afterBatch before arrivals back answer)
+      by-case : LentBatch → P (afterBatch before arrivals back)
       by-case (nothing-changed refused same) = subst P (sym same) unmoved
       by-case (as-all-lent all) = moved all

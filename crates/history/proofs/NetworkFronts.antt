@@ -7,11 +7,9 @@ use lib.ListN.{length, take, drop, take-append-drop}
 use Rattle.model.specs.declared.Settings.{Settings}
 use Rattle.model.specs.Refusals.{accepted}
 use Rattle.model.specs.Settings.{settingsRefusal}
-use Rattle.model.specs.Site.{freshSite}
-use Rattle.model.specs.SiteMemory.{siteRecord}
 use Rattle.model.specs.CoordinatorMemory.{coordinatorWords}
 use Rattle.model.specs.NetworkMemory.{sitesWords, sitesIn}
-use Rattle.history.specs.State.{Held, networkOf, fronts, lending}
+use Rattle.history.specs.State.{Held, networkOf, fronts, lending, heldRefusal, noRecord}
 use Rattle.history.proofs.CoordinatorFronts.{coordinatorIn-front}
 use Rattle.site_memory.proofs.SitesFronts.{sitesIn-front}
 use Rattle.history.proofs.Decoded.{Lengths, SitesSound, used-at}
@@ -30,7 +28,7 @@ network-front {settings} passes held lengths sound siteCount coordinatorCount si
     let memory = held .siteMemory in
     let sites : sitesIn (settings .sites) settings records (take siteCount memory)
     ≡ sitesIn (settings .sites) settings records memory =
-    sym (sitesIn-front settings (siteRecord freshSite) (settings .sites) records
+    sym (sitesIn-front settings noRecord (settings .sites) records
     (take siteCount memory) (drop siteCount memory)
     (λ j known. used-at passes held lengths sound j known) sites-long)
     ∙ ap (sitesIn (settings .sites) settings records) (take-append-drop siteCount memory) in

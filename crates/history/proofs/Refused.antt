@@ -12,11 +12,9 @@ use lib.Seq.{set-getD, drop-drop}
 use Rattle.model.specs.declared.SiteRecord.{SiteRecord}
 use Rattle.model.specs.declared.CoordinatorRecord.{CoordinatorRecord}
 use Rattle.model.specs.Refusals.{accepted}
-use Rattle.model.specs.Site.{freshSite}
-use Rattle.model.specs.SiteMemory.{siteRecord}
 use Rattle.site.specs.Calls as SiteCalls
 use Rattle.coordinator.specs.Calls as CoordinatorCalls
-use Rattle.history.specs.State.{Held, State, recordAt, partOf, coordinatorPart, lending, withPart, afterSiteCall, afterCoordinatorCall, holding}
+use Rattle.history.specs.State.{Held, State, recordAt, partOf, coordinatorPart, lending, withPart, afterSiteCall, afterCoordinatorCall, holding, noRecord}
 use Rattle.history.specs.Histories.{afterBatch, Refuses, arrival-refused, site-message-refused, coordinator-message-refused, announcement-refused, batch-accepts-nothing}
 use Rattle.history.proofs.Answers.{refused-choice}
 use Rattle.history.proofs.EmptyBatch.{batch-same}
@@ -40,7 +38,7 @@ module _ (held : Held) where
   site-same which numbers memory same-record same-memory =
       let records : set (held .sites .records) which numbers ≡ held .sites .records =
       ap (set (held .sites .records) which) same-record
-      ∙ set-getD (held .sites .records) which (siteRecord freshSite) in
+      ∙ set-getD (held .sites .records) which noRecord in
       λ i. record {
         sites = record { records = records i; messages = held .sites .messages };
         coordinator = held .coordinator;
@@ -103,12 +101,12 @@ refused-same before after (announcement-refused given start words answer says re
     (coordinator-same (before .held) (answer .coordinator) (before .held .coordinatorMemory)
     (says .answer .coordinator ∙ refused-choice refusal _ _ no) refl)
 refused-same before after
-    (batch-accepts-nothing given slices arrivals log lent answer says nothing) =
+    (batch-accepts-nothing given slices arrivals log answer says nothing) =
     let held = before .held in
     -- the law of a whole network lent, of a state that holds the slices alone
-    let same : afterBatch (holding before (lending held slices)) arrivals lent answer
+    let same : afterBatch (holding before (lending held slices)) arrivals answer
     ≡ holding before (lending held slices) =
-    batch-same (holding before (lending held slices)) given arrivals log lent answer says
+    batch-same (holding before (lending held slices)) given arrivals log answer says
     nothing in
     let site-memory =
     ap (withPart (held .siteMemory) (slices .siteFrom) (slices .siteCount))

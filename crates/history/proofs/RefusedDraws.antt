@@ -25,8 +25,7 @@ use Rattle.model.specs.Runs.{Run, withArrival, refusalIn, runOne, runFrom, runO
 use Rattle.model.proofs.ConsistentNetwork.{passes-of}
 use Rattle.site_steps.specs.declared.Observed.{Observed}
 use Rattle.site.specs.Calls as SiteCalls
-use Rattle.tracker_steps.specs.declared.BatchAnswer.{BatchAnswer}
-use Rattle.tracker.specs.Batch.{BatchCall, BatchLent, BatchSays, startRefusal, batchIn, logRoom}
+use Rattle.tracker.specs.Batch.{BatchCall, BatchHeld, BatchSays, startRefusal, batchIn, logRoom}
 use Rattle.history.specs.State.{Held, State, AtRest, networkOf, recordAt, siteStart, sitePart, fronts, lending}
 use Rattle.history.specs.Histories.{batchCall}
 use Rattle.history.specs.Given.{ofArrival}
@@ -123,19 +122,18 @@ module _ {settings : Settings} (passes : settingsRefusal settings ≡ accepted)
 
   -- A batch call on so much of both memories, at rest: the arrival that stops it leaves no trace.
   pub batch-no-trace : (siteCount coordinatorCount : ℕ) (arrivals : List Arrival) (log : List ℕ)
-      (lent : BatchLent) (answer : BatchAnswer)
+      (answer : BatchHeld)
       → AtRest before
       → BatchSays
-      (batchCall settings (lending held (fronts siteCount coordinatorCount)) arrivals log) lent
-      answer
+      (batchCall settings (lending held (fronts siteCount coordinatorCount)) arrivals log) answer
       → ofArrival (answer .refusal) ≡ true
       → runFrom settings run (take (suc (answer .accepted)) arrivals)
       ≡ runFrom settings run (take (answer .accepted) arrivals)
-  batch-no-trace siteCount coordinatorCount arrivals log lent answer rest says of =
+  batch-no-trace siteCount coordinatorCount arrivals log answer rest says of =
       by-case
-      (lent-batch passes before ok rest siteCount coordinatorCount arrivals log lent answer says)
+      (lent-batch passes before ok rest siteCount coordinatorCount arrivals log answer says)
     where
-      by-case : LentBatch passes before ok rest siteCount coordinatorCount arrivals log lent answer
+      by-case : LentBatch passes before ok rest siteCount coordinatorCount arrivals log answer
           says
           → runFrom settings run (take (suc (answer .accepted)) arrivals)
           ≡ runFrom settings run (take (answer .accepted) arrivals)
@@ -189,14 +187,13 @@ module _ {settings : Settings} (passes : settingsRefusal settings ≡ accepted)
 
   -- A batch call that accepts nothing.
   pub refused-batch-no-trace : (siteCount coordinatorCount : ℕ) (arrivals : List Arrival)
-      (log : List ℕ) (lent : BatchLent) (answer : BatchAnswer)
+      (log : List ℕ) (answer : BatchHeld)
       → BatchSays
-      (batchCall settings (lending held (fronts siteCount coordinatorCount)) arrivals log) lent
-      answer
+      (batchCall settings (lending held (fronts siteCount coordinatorCount)) arrivals log) answer
       → answer .accepted ≡ 0
       → ofArrival (answer .refusal) ≡ true
       → runFrom settings run (take 1 arrivals) ≡ run
-  refused-batch-no-trace siteCount coordinatorCount arrivals log lent answer says nothing of =
+  refused-batch-no-trace siteCount coordinatorCount arrivals log answer says nothing of =
       by-start (isZero (startRefusal call)) refl
     where
       call : BatchCall

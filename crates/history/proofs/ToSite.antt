@@ -22,7 +22,7 @@ use Rattle.model.specs.DeliveryClaims.{joining, deliveryOf}
 use Rattle.model.specs.SoundClaims.{Reached}
 use Rattle.model.proofs.RefusalLaws.{BothAccepted, both-accepted}
 use Rattle.model.proofs.SettingsLaws.{site-known}
-use Rattle.site_steps.specs.declared.Answered.{Answered}
+use Rattle.site_steps.specs.declared.Replied.{Replied}
 use Rattle.site.specs.Calls as SiteCalls
 use Rattle.history.specs.State.{Held, State, networkOf, recordAt, siteStart, sitePart, afterSiteCall, sending}
 use Rattle.history.specs.Histories.{answeredOut}
@@ -48,7 +48,7 @@ module _ {settings : Settings} (passes : settingsRefusal settings ≡ accepted)
   sites-sound = in-mid passes mid .sites-sound
 
   module _ (m : Message) (later : List Message)
-      (words : ℕ) (answer : Answered)
+      (words : ℕ) (answer : Replied)
       (waits : before .waiting ≡ m ∷ later)
       (way : toCoordinator m ≡ false)
       (says : SiteCalls.ReceiveSays settings (recordAt held (m .site)) (m .site) m

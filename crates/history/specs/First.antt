@@ -25,16 +25,15 @@ use Rattle.model.specs.SiteMemory.{siteWords, siteMemoryRefusal}
 use Rattle.model.specs.Coordinator.{isAnnouncing, coordinatorRefusal, announcementRefusal}
 use Rattle.model.specs.CoordinatorMemory.{coordinatorWords, coordinatorMemoryRefusal}
 use Rattle.model.specs.Network.{siteAt, deliveryFuel}
-use Rattle.model.specs.NetworkMemory.{sitesWords, networkRefusal}
+use Rattle.model.specs.NetworkMemory.{sitesWords}
 use Rattle.model.specs.Reading.{heavyHitters}
 use Rattle.model.specs.Runs.{batchOf}
 use Rattle.site.specs.Calls as SiteCalls
 use Rattle.coordinator.specs.Calls as CoordinatorCalls
 use Rattle.reading.specs.Contracts.{marginRefusal}
 use Rattle.listing.specs.Contracts.{listRefusal}
-use Rattle.tracker_steps.specs.declared.BatchAnswer.{BatchAnswer}
-use Rattle.tracker.specs.Batch.{BatchLent, BatchSays, logRoom}
-use Rattle.history.specs.State.{State, AtRest, networkOf, recordAt, partOf, sitePart, coordinatorPart, fronts, lending}
+use Rattle.tracker.specs.Batch.{BatchHeld, BatchSays, logRoom}
+use Rattle.history.specs.State.{State, AtRest, networkOf, heldRefusal, recordAt, sitePart, coordinatorPart, fronts, lending}
 use Rattle.history.specs.Histories.{batchCall, Refuses, Deliveries}
 
 -- Memory that arose is never refused: neither 4 nor 11, nor 1, 2 or 3.
@@ -57,8 +56,7 @@ pub record MemoryAccepted (settings : Settings) (state : State) : Type 0 where
       → sitesWords settings ≤ siteCount
       → coordinatorWords settings ≤ coordinatorCount
       → AtRest state
-      → networkRefusal settings (state .held .sites) (state .held .coordinator)
-      (partOf (state .held) 0 siteCount) (coordinatorPart (state .held) 0 coordinatorCount)
+      → heldRefusal settings (lending (state .held) (fronts siteCount coordinatorCount))
       ≡ accepted
 
 -- So each call is refused by the number that the rules give its arrival or message, and is accepted
@@ -109,10 +107,10 @@ pub record RefusedByRules (settings : Settings) (state : State) : Type 0 where
       → sitesWords settings ≤ siteCount
       → coordinatorWords settings ≤ coordinatorCount
       → AtRest state
-      → (arrivals : List Arrival) (log : List ℕ) (lent : BatchLent) (answer : BatchAnswer)
+      → (arrivals : List Arrival) (log : List ℕ) (answer : BatchHeld)
       → BatchSays
       (batchCall settings (lending (state .held) (fronts siteCount coordinatorCount)) arrivals log)
-      lent answer
+      answer
       → answer .refusal
       ≡ batchOf settings (logRoom log) (networkOf settings (state .held)) arrivals .refusal
 

@@ -20,7 +20,7 @@ use Rattle.model.specs.declared.Arrival.{Arrival}
 use Rattle.model.specs.Choice.{if_then_else_, between, isZero}
 use Rattle.model.specs.Refusals.{accepted, unknownSite, siteFull}
 use Rattle.model.specs.Runs.{runOf}
-use Rattle.tracker_steps.specs.declared.BatchAnswer.{BatchAnswer}
+use Rattle.tracker_steps.specs.Steps.{BatchHeld}
 use Rattle.history.specs.State.{State, siteStart, Slices}
 use Rattle.history.specs.Histories.{batch, single, Refuses, arrival-refused, site-message-refused, coordinator-message-refused, announcement-refused, batch-accepts-nothing, Step, arrives, delivers, refuses, Reachable, started, stepped}
 
@@ -32,16 +32,16 @@ abbrev pub ofArrival : ℕ → Bool
 ofArrival refusal = between unknownSite refusal siteFull
 
 -- A batch decides on all that it accepts, and on the arrival that it refuses for its own sake.
-abbrev pub decidedCount : BatchAnswer → ℕ
+abbrev pub decidedCount : BatchHeld → ℕ
 decidedCount answer =
     if ofArrival (answer .refusal) then suc (answer .accepted) else answer .accepted
 
-abbrev pub decided : List Arrival → BatchAnswer → List Arrival
+abbrev pub decided : List Arrival → BatchHeld → List Arrival
 decided arrivals answer = take (decidedCount answer) arrivals
 
 -- What an earlier refusal or 14 kept out: the arrivals behind the one that stopped the batch, and
 -- the one that 14 stopped; all of them where the call was refused when it started.
-abbrev pub keptOut : List Arrival → BatchAnswer → List Arrival
+abbrev pub keptOut : List Arrival → BatchHeld → List Arrival
 keptOut arrivals answer = drop (decidedCount answer) arrivals
 
 -- ---- The draws that a call is handed
@@ -54,7 +54,7 @@ pub record Handed : Type 0 where
 abbrev pub noDraw : Handed
 noDraw = record { arrivals = []; count = 0 }
 
-abbrev pub batchHanded : List Arrival → BatchAnswer → Handed
+abbrev pub batchHanded : List Arrival → BatchHeld → Handed
 batchHanded arrivals answer = record { arrivals = arrivals; count = decidedCount answer }
 
 -- A single draw that was refused.
@@ -95,13 +95,13 @@ handedRefused settings (arrival-refused given which arrival start words part ans
 handedRefused settings (site-message-refused _ _ _ _ _ _ _ _ _) = noDraw
 handedRefused settings (coordinator-message-refused _ _ _ _ _ _ _ _) = noDraw
 handedRefused settings (announcement-refused _ _ _ _ _ _) = noDraw
-handedRefused settings (batch-accepts-nothing given slices arrivals log lent answer _ _) =
+handedRefused settings (batch-accepts-nothing given slices arrivals log answer _ _) =
     if ownBatch settings given slices then batchHanded arrivals answer else noDraw
 
 abbrev pub handedBy : {settings : Settings} {before after : State}
     → Step settings before after
     → Handed
-handedBy (arrives (batch _ _ arrivals log lent answer _ _)) = batchHanded arrivals answer
+handedBy (arrives (batch _ _ arrivals log answer _ _)) = batchHanded arrivals answer
 handedBy (arrives (single arrival words part answer _ _ _)) =
     record { arrivals = arrival ∷ []; count = 1 }
 handedBy (delivers step) = noDraw
@@ -114,13 +114,13 @@ refusalOfRefused (arrival-refused given which arrival start words part answer _ 
 refusalOfRefused (site-message-refused _ _ _ _ _ _ _ _ _) = accepted
 refusalOfRefused (coordinator-message-refused _ _ _ _ _ _ _ _) = accepted
 refusalOfRefused (announcement-refused _ _ _ _ _ _) = accepted
-refusalOfRefused (batch-accepts-nothing given slices arrivals log lent answer _ _) =
+refusalOfRefused (batch-accepts-nothing given slices arrivals log answer _ _) =
     answer .refusal
 
 abbrev pub refusalBy : {settings : Settings} {before after : State}
     → Step settings before after
     → ℕ
-refusalBy (arrives (batch _ _ arrivals log lent answer _ _)) = answer .refusal
+refusalBy (arrives (batch _ _ arrivals log answer _ _)) = answer .refusal
 refusalBy (arrives (single arrival words part answer _ _ _)) = answer .refusal
 refusalBy (delivers step) = accepted
 refusalBy (refuses step) = refusalOfRefused step

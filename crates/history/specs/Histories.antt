@@ -23,15 +23,14 @@ use Rattle.model.specs.declared.CoordinatorRecord.{CoordinatorRecord}
 use Rattle.model.specs.Refusals.{accepted}
 use Rattle.model.specs.Messages.{toCoordinator}
 use Rattle.site_steps.specs.declared.Observed.{Observed}
-use Rattle.site_steps.specs.declared.Answered.{Answered}
+use Rattle.site_steps.specs.declared.Replied.{Replied}
 use Rattle.site.specs.declared.StartedSites.{StartedSites}
 use Rattle.site.specs.Calls.{StartSays, ObserveSays, ReceiveSays}
 use Rattle.coordinator.specs.declared.StartedCoordinator.{StartedCoordinator}
 use Rattle.coordinator.specs.declared.Received.{Received}
 use Rattle.coordinator.specs.Calls.{Starts, Receives, Announces}
-use Rattle.tracker_steps.specs.declared.BatchAnswer.{BatchAnswer}
-use Rattle.tracker.specs.Batch.{BatchCall, BatchLent, BatchSays, messagesIn}
-use Rattle.history.specs.State.{Held, State, AtRest, recordAt, partOf, siteStart, sitePart, coordinatorPart, Slices, fronts, lending, withPart, putBack, afterSiteCall, afterCoordinatorCall, holding, sending}
+use Rattle.tracker.specs.Batch.{BatchCall, BatchHeld, BatchSays, messagesIn}
+use Rattle.history.specs.State.{Held, heldBy, State, AtRest, recordAt, partOf, siteStart, sitePart, coordinatorPart, Slices, fronts, lending, withPart, putBack, afterSiteCall, afterCoordinatorCall, holding, sending}
 
 -- ---- Arrivals
 
@@ -39,27 +38,19 @@ use Rattle.history.specs.State.{Held, State, AtRest, recordAt, partOf, s
 abbrev pub batchCall : Settings → Held → List Arrival → List ℕ → BatchCall
 batchCall settings held arrivals log = record {
   settings = settings;
-  sites = held .sites;
-  coordinator = held .coordinator;
+  held = held;
   arrivals = arrivals;
-  siteMemory = held .siteMemory;
-  coordinatorMemory = held .coordinatorMemory;
   log = log;
 }
 
 -- Records from the answer, memory as it was left; as many of the arrivals as it accepted, and as
 -- many messages of the log as it wrote.
-abbrev pub afterBatch : State → List Arrival → BatchLent → BatchAnswer → State
-afterBatch before arrivals lent answer = record {
-  held = record {
-    sites = answer .sites;
-    coordinator = answer .coordinator;
-    siteMemory = lent .siteMemory;
-    coordinatorMemory = lent .coordinatorMemory;
-  };
+abbrev pub afterBatch : State → List Arrival → BatchHeld → State
+afterBatch before arrivals answer = record {
+  held = answer .held;
   waiting = before .waiting;
   accepted = before .accepted ++ take (answer .accepted) arrivals;
-  messages = before .messages ++ messagesIn (answer .written) (lent .log);
+  messages = before .messages ++ messagesIn (answer .written) (answer .log);
   logged = before .logged + answer .written;
 }
 
@@ -82,14 +73,14 @@ afterSingle settings before arrival words part answer = record {
 pub data Arrives (settings : Settings) (before : State) : State → Type 0 where
   -- a batch call, whatever stops it, and however much of the memories it is lent
   batch : (siteCount coordinatorCount : ℕ) (arrivals : List Arrival) (log : List ℕ)
-      (lent : BatchLent) (answer : BatchAnswer)
+      (answer : BatchHeld)
       → AtRest before
       → BatchSays
       (batchCall settings (lending (before .held) (fronts siteCount coordinatorCount)) arrivals log)
-      lent answer
+      answer
       → Arrives settings before
       (afterBatch before arrivals
-      (putBack (before .held) (fronts siteCount coordinatorCount) lent) answer)
+      (putBack (before .held) (fronts siteCount coordinatorCount) answer))
   -- a single arrival that is accepted, at the site that it names
   single : (arrival : Arrival) (words : ℕ) (part : List ℕ) (answer : Observed)
       → AtRest before
@@ -101,7 +92,7 @@ pub data Arrives (settings : Settings) (before : State) : State → Type 0 where
 -- ---- Delivery
 
 -- The message that an answer hands out, if its count is 1.
-abbrev pub answeredOut : Answered → List Message
+abbrev pub answeredOut : Replied → List Message
 answeredOut answer = take (answer .count) (answer .reply ∷ [])
 
 -- The same for the coordinator's answer.
@@ -125,7 +116,7 @@ pub data Delivers (settings : Settings) (before : State) : State → Type 0 wher
       (withPart (before .held .coordinatorMemory) 0 words part)) later
       (receivedOut answer))
   -- the head of the queue is for the site that it names, which accepts it
-  to-site : (m : Message) (later : List Message) (words : ℕ) (answer : Answered)
+  to-site : (m : Message) (later : List Message) (words : ℕ) (answer : Replied)
       → before .waiting ≡ m ∷ later
       → toCoordinator m ≡ false
       → ReceiveSays settings (recordAt (before .held) (m .site)) (m .site) m
@@ -161,7 +152,7 @@ pub data Refuses (before : State) : State → Type 0 where
       (afterSiteCall (before .held) which (answer .site)
       (withPart (before .held .siteMemory) start words part)))
   site-message-refused : (given : Settings) (which number : ℕ) (m : Message) (start words : ℕ)
-      (answer : Answered)
+      (answer : Replied)
       → ReceiveSays given (recordAt (before .held) which) number m
       (partOf (before .held) start words) answer
       → (answer .refusal ≡ accepted → ⊥)
@@ -185,11 +176,11 @@ pub data Refuses (before : State) : State → Type 0 where
       (afterCoordinatorCall (before .held) (answer .coordinator)
       (before .held .coordinatorMemory)))
   batch-accepts-nothing : (given : Settings) (slices : Slices) (arrivals : List Arrival)
-      (log : List ℕ) (lent : BatchLent) (answer : BatchAnswer)
-      → BatchSays (batchCall given (lending (before .held) slices) arrivals log) lent answer
+      (log : List ℕ) (answer : BatchHeld)
+      → BatchSays (batchCall given (lending (before .held) slices) arrivals log) answer
       → answer .accepted ≡ 0
       → Refuses before
-      (afterBatch before arrivals (putBack (before .held) slices lent) answer)
+      (afterBatch before arrivals (putBack (before .held) slices answer))
 
 -- ---- Histories
 
@@ -203,12 +194,7 @@ pub data Step (settings : Settings) (before after : State) : Type 0 where
 -- Both started: no message and no arrival yet.
 abbrev pub startState : Sites → CoordinatorRecord → List ℕ → List ℕ → State
 startState sites coordinator siteMemory coordinatorMemory = record {
-  held = record {
-    sites = sites;
-    coordinator = coordinator;
-    siteMemory = siteMemory;
-    coordinatorMemory = coordinatorMemory;
-  };
+  held = heldBy sites coordinator siteMemory coordinatorMemory;
   waiting = [];
   accepted = [];
   messages = [];

@@ -16,6 +16,7 @@ pub mod CoordinatorMemory
 pub mod Reading
 pub mod Network
 pub mod NetworkMemory
+pub mod Held
 pub mod Runs
 pub mod Cuts
 pub mod Claims

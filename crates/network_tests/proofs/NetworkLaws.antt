@@ -25,8 +25,8 @@ use Rattle.model.specs.NetworkMemory.{sitesWords, networkIn, sitesConsistent, a
 use Rattle.model.specs.SoundNetwork.{SoundSite}
 use Rattle.model.proofs.ConsistentCoordinator.{coordinator-within-of}
 use Rattle.model.proofs.ConsistentNetwork.{sites-sound-of}
-use Rattle.site_memory.specs.Records.{noRecord}
 use Rattle.site_memory.proofs.SitesReading.{getD-sitesIn, enough-records}
+use Rattle.model.specs.Held.{noRecord}
 use Rattle.network_tests.specs.Contracts.{SitesFit, NetworkFits, CountsFit}
 
 pub counts-fit : {settings : Settings} {siteMemory : List ℕ}

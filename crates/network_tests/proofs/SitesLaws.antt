@@ -22,7 +22,7 @@ use Rattle.model.specs.declared.SiteRecord.{SiteRecord}
 use Rattle.model.specs.Site.{Site}
 use Rattle.model.specs.SiteMemory.{siteWords, siteIn, siteConsistent}
 use Rattle.model.specs.NetworkMemory.{sitesIn, sitesConsistent, sameThreshold, allPending, allArrivals}
-use Rattle.site_memory.specs.Records.{noRecord}
+use Rattle.model.specs.Held.{noRecord}
 
 -- ---- The sites from one on
 

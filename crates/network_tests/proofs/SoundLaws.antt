@@ -17,8 +17,8 @@ use Rattle.model.specs.NumberClaims.{Bounded}
 use Rattle.model.proofs.SettingsLaws.{settled}
 use Rattle.model.proofs.NumberBounds.{bounded-start}
 use Rattle.model.proofs.ConsistentNetwork.{passes-of}
-use Rattle.site_memory.specs.Records.{noRecord}
 use Rattle.site_memory.proofs.SitesReading.{enough-records, used-within}
+use Rattle.model.specs.Held.{noRecord}
 use Rattle.network_tests.specs.Contracts.{NetworkFits}
 
 pub record Passing (settings : Settings) (sites : Sites) (coordinator : CoordinatorRecord)

@@ -20,7 +20,7 @@ use Rattle.model.specs.Limits.{siteLimit, coordinatorLimit}
 use Rattle.model.specs.Settings.{settingsRefusal}
 use Rattle.model.specs.CoordinatorMemory.{coordinatorWords}
 use Rattle.model.specs.NetworkMemory.{sitesWords, sitesIn, networkIn, sameThreshold, allPending, allArrivals, atRestTogether, networkTooShort}
-use Rattle.site_memory.specs.Records.{noRecord}
+use Rattle.model.specs.Held.{noRecord}
 
 -- ---- What is required
 

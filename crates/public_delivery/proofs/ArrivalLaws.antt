@@ -15,7 +15,7 @@ use Rattle.model.specs.declared.CoordinatorRecord.{CoordinatorRecord}
 use Rattle.model.specs.Refusals.{_orElse_, accepted}
 use Rattle.model.specs.Network.{Network}
 use Rattle.model.specs.Runs.{refusalIn, runOf}
-use Rattle.history.specs.State.{Held, State, AtRest, networkOf, networkWritten}
+use Rattle.history.specs.State.{heldRefusal, Held, State, AtRest, networkOf, networkWritten, heldBy}
 use Rattle.history.specs.Histories.{afterSingle, Reachable, stepped, arrives, single}
 use Rattle.history.proofs.Answers.{accepted-choice, refused-choice}
 use Rattle.history.proofs.SingleState.{begins}
@@ -23,14 +23,13 @@ use Rattle.history.proofs.Theorem.{demands}
 use Rattle.history.proofs.Underway.{SoundRest}
 use Rattle.public_delivery.specs.declared.Progress.{Progress}
 use Rattle.public_delivery.specs.declared.DeliveryAnswer.{DeliveryAnswer}
-use Rattle.public_delivery.specs.Progress.{heldBy}
 use Rattle.public_delivery.specs.Steps.{Came, DeliverSays}
 use Rattle.public_delivery.specs.Arriving.{Begun, BeginSays}
 use Rattle.public_delivery.specs.Delivery.{deliveryRefusal, deliveryIn, HistoryGoesOn, ArrivalDelivered, DeliverySays}
 use Rattle.public_delivery.proofs.EndLaws.{AtEnd, at-end}
 use Rattle.public_delivery.proofs.RestLaws.{Ended}
 use Rattle.public_delivery.proofs.OutcomeLaws.{outcome-of}
-use Rattle.public_delivery.proofs.PassedLaws.{Passed, startRefusal, rest-of}
+use Rattle.public_delivery.proofs.PassedLaws.{Passed, rest-of}
 use Rattle.public_delivery.proofs.HeldLaws.{kept-after, held-after}
 use Rattle.public_delivery.proofs.HistoryLaws.{passes-of-reachable, reachable-after, start-accepted, never-stopped}
 
@@ -45,8 +44,8 @@ by-rules-of : {settings : Settings} (arrival : Arrival) (given : Held) (refusal 
     → Reachable settings before
     → refusal ≡ refusalIn settings (networkOf settings given) arrival
 by-rules-of {settings} arrival given refusal refusal-is before held-is at-rest reachable =
-    let none : startRefusal settings given ≡ accepted =
-    subst (λ (held : Held). startRefusal settings held ≡ accepted) held-is
+    let none : heldRefusal settings given ≡ accepted =
+    subst (λ (held : Held). heldRefusal settings held ≡ accepted) held-is
     (start-accepted before reachable at-rest) in
     refusal-is
     ∙ ap (λ (start : ℕ). start orElse refusalIn settings (networkOf settings given) arrival) none

@@ -20,12 +20,12 @@ use Rattle.model.specs.SiteMemory.{siteWords}
 use Rattle.sending.specs.declared.Queue.{Queue}
 use Rattle.site_steps.specs.declared.Observed.{Observed}
 use Rattle.site.specs.Calls.{ObserveSays, observeRefusal}
-use Rattle.history.specs.State.{Held, State, recordAt, siteStart, sitePart, withPart, withRecord, afterSiteCall}
+use Rattle.history.specs.State.{Held, State, recordAt, siteStart, sitePart, withPart, withRecord, afterSiteCall, recordIn, heldBy}
 use Rattle.history.specs.Histories.{observedOut}
 use Rattle.history.proofs.Answers.{refused-choice}
 use Rattle.history.proofs.Refused.{part-same}
 use Rattle.public_delivery.specs.declared.Progress.{Progress}
-use Rattle.public_delivery.specs.Progress.{recordIn, heldBy, QueueSays}
+use Rattle.public_delivery.specs.Progress.{QueueSays}
 use Rattle.public_delivery.specs.Arriving.{restFrom, mostCalls, BeginSays}
 use Rattle.public_delivery.proofs.QueueLaws.{length-queued}
 

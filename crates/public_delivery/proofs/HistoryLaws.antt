@@ -15,12 +15,11 @@ use Rattle.model.specs.Refusals.{accepted}
 use Rattle.model.specs.Settings.{settingsRefusal}
 use Rattle.model.specs.Network.{Network}
 use Rattle.model.proofs.RefusalLaws.{both-accepted}
-use Rattle.history.specs.State.{State, AtRest}
+use Rattle.history.specs.State.{heldRefusal, State, AtRest}
 use Rattle.history.specs.Histories.{Reachable, started, stepped, delivers, refuses, Deliveries, no-step, delivered, refused-between}
 use Rattle.history.proofs.Accepted.{held-sound, network-accepted}
 use Rattle.history.proofs.Theorem.{arisen}
 use Rattle.public_delivery.proofs.EndLaws.{AtEnd, not-blocked, by-end}
-use Rattle.public_delivery.proofs.PassedLaws.{startRefusal}
 
 -- The start call on the sites is accepted.
 pub passes-of-reachable : {settings : Settings} (state : State)
@@ -50,7 +49,7 @@ reachable-after first reachable n after (refused-between m before after′ earli
 pub start-accepted : {settings : Settings} (state : State)
     → Reachable settings state
     → AtRest state
-    → startRefusal settings (state .held) ≡ accepted
+    → heldRefusal settings (state .held) ≡ accepted
 start-accepted state reachable =
     let passes = passes-of-reachable state reachable in
     network-accepted passes (arisen passes state reachable .ok)

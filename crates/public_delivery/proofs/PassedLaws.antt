@@ -17,7 +17,6 @@ use Rattle.model.specs.Refusals.{accepted, unknownSite}
 use Rattle.model.specs.Limits.{mostSites}
 use Rattle.model.specs.Settings.{settingsRefusal}
 use Rattle.model.specs.SiteMemory.{siteWords}
-use Rattle.model.specs.NetworkMemory.{networkRefusal}
 use Rattle.model.specs.Runs.{refusalIn}
 use Rattle.model.specs.SoundNetwork.{Sound}
 use Rattle.model.proofs.RefusalLaws.{begin, pass-part, refuse-part, end}
@@ -25,18 +24,12 @@ use Rattle.model.proofs.ConsistentCoordinator.{CoordinatorWithin}
 use Rattle.model.proofs.ConsistentNetwork.{passes-of}
 use Rattle.network_tests.specs.Contracts.{SitesFit}
 use Rattle.site.specs.Calls.{observeRefusal}
-use Rattle.history.specs.State.{Held, State, networkOf, recordAt, siteStart}
+use Rattle.history.specs.State.{heldRefusal, Held, State, networkOf, recordAt, siteStart}
 use Rattle.history.proofs.Decoded.{Lengths}
 use Rattle.history.proofs.Underway.{SoundRest, SoundParts}
 use Rattle.history.proofs.SoundMemory.{arrival-by-rules}
 use Rattle.public_delivery.specs.Arriving.{restFrom}
 use Rattle.public_delivery.specs.Delivery.{deliveryRefusal}
-
--- The start test of what is held.
-abbrev pub startRefusal : Settings → Held → ℕ
-startRefusal settings held =
-    networkRefusal settings (held .sites) (held .coordinator) (held .siteMemory)
-    (held .coordinatorMemory)
 
 pub record Passed (settings : Settings) (held : Held) : Type 0 where
   pub passes : settingsRefusal settings ≡ accepted
@@ -48,7 +41,7 @@ pub record Passed (settings : Settings) (held : Held) : Type 0 where
 -- Records that fill their array, and a start test that passes.
 pub passed-of : (settings : Settings) (held : Held)
     → length (held .sites .records) ≡ mostSites
-    → startRefusal settings held ≡ accepted
+    → heldRefusal settings held ≡ accepted
     → Passed settings held
 passed-of settings held all none =
     let holds = passes-of settings (held .sites) (held .coordinator) (held .siteMemory)
@@ -86,14 +79,14 @@ rest-of {settings} ok state held-is nothing-waits = record {
 
 -- 1, 2, 3, 4, 11.
 pub refused-start : (settings : Settings) (held : Held) (arrival : Arrival) (refusal : ℕ)
-    → refusal ≡ startRefusal settings held
+    → refusal ≡ heldRefusal settings held
     → (refusal ≡ accepted → ⊥)
     → refusal ≡ deliveryRefusal settings held arrival
 refused-start settings held arrival refusal is refused =
     refuse-part _ _ (begin _) refl is refused
 
 module _ (settings : Settings) (held : Held) (arrival : Arrival)
-    (none : startRefusal settings held ≡ accepted) where
+    (none : heldRefusal settings held ≡ accepted) where
   -- Past the start test, the rules' number.
   by-rules : refusalIn settings (networkOf settings held) arrival
       ≡ deliveryRefusal settings held arrival

@@ -20,12 +20,12 @@ use Rattle.sending.specs.Sending.{withoutHead}
 use Rattle.model.proofs.RefusalLaws.{both-accepted}
 use Rattle.model.proofs.SettingsLaws.{site-known}
 use Rattle.network_tests.specs.Contracts.{SitesFit}
-use Rattle.site_steps.specs.declared.Answered.{Answered}
+use Rattle.site_steps.specs.declared.Replied.{Replied}
 use Rattle.site.specs.Calls as SiteCalls
-use Rattle.history.specs.State.{Held, State, recordAt, sitePart, withRecord, afterSiteCall}
+use Rattle.history.specs.State.{Held, State, recordAt, sitePart, withRecord, afterSiteCall, recordIn, heldBy}
 use Rattle.history.specs.Histories.{to-site}
 use Rattle.public_delivery.specs.declared.Progress.{Progress}
-use Rattle.public_delivery.specs.Progress.{sent, refusedWith, recordIn, heldBy, queued, Stands}
+use Rattle.public_delivery.specs.Progress.{sent, refusedWith, queued, Stands}
 use Rattle.public_delivery.specs.Steps.{site-refuses, HandAsks, StepSays}
 use Rattle.public_delivery.proofs.QueueLaws.{queued-head, few-without-head}
 use Rattle.public_delivery.proofs.StepLaws.{movedOn, went, stopped}
@@ -67,7 +67,7 @@ module _ {settings : Settings} {siteMemory : List ℕ} {progress : Progress}
   module _ (known : j < settings .sites) (numbers : SiteRecord) (words : ℕ)
       (numbers-are : numbers ≡ recordIn (progress .sites) j)
       (words-are : words ≡ siteWords settings)
-      (answer : Answered)
+      (answer : Replied)
       (says : SiteCalls.ReceiveSays settings numbers j message
       (take (length siteMemory - j * words) (drop (j * words) siteMemory)) answer) where
     abbrev rest : ℕ

@@ -16,10 +16,10 @@ use Rattle.model.specs.declared.Sites.{Sites}
 use Rattle.model.specs.declared.CoordinatorRecord.{CoordinatorRecord}
 use Rattle.model.specs.Refusals.{accepted}
 use Rattle.sending.specs.declared.Queue.{Queue}
-use Rattle.history.specs.State.{Held, State, sending}
+use Rattle.history.specs.State.{Held, State, sending, heldBy}
 use Rattle.history.specs.Histories.{Delivers}
 use Rattle.public_delivery.specs.declared.Progress.{Progress}
-use Rattle.public_delivery.specs.Progress.{sent, refusedWith, heldBy, queued, Stands}
+use Rattle.public_delivery.specs.Progress.{sent, refusedWith, queued, Stands}
 use Rattle.public_delivery.specs.Steps.{Blocked, goes, stops, StepSays}
 use Rattle.public_delivery.proofs.QueueLaws.{sends}
 

@@ -17,10 +17,10 @@ use Rattle.model.specs.SiteMemory.{siteWords}
 use Rattle.network_tests.specs.Contracts.{SitesFit}
 use Rattle.site_steps.specs.declared.Observed.{Observed}
 use Rattle.site.specs.Calls.{ObserveSays, observeRefusal}
-use Rattle.history.specs.State.{State, recordAt, sitePart}
+use Rattle.history.specs.State.{State, recordAt, sitePart, recordIn, heldBy}
 use Rattle.history.specs.Histories.{afterSingle}
 use Rattle.public_delivery.specs.declared.Progress.{Progress}
-use Rattle.public_delivery.specs.Progress.{recordIn, heldBy, Stands}
+use Rattle.public_delivery.specs.Progress.{Stands}
 
 -- As many numbers as are left of it.
 abbrev pub restFrom : Settings → List ℕ → ℕ → List ℕ

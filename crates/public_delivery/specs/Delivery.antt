@@ -27,13 +27,12 @@ use Rattle.model.specs.Refusals.{when, _orElse_, accepted, memoryInconsistent}
 use Rattle.model.specs.Limits.{coordinatorLimit}
 use Rattle.model.specs.Site.{reportsItem, reportsCount}
 use Rattle.model.specs.Network.{Network, Delivered, siteAt, afterArrival}
-use Rattle.model.specs.NetworkMemory.{networkRefusal}
 use Rattle.model.specs.Runs.{refusalIn, runOf}
 use Rattle.model.specs.SoundNetwork.{estimateOf}
 use Rattle.model.specs.DeliveryClaims.{deliveryOf, deliveryStep, outcome}
 use Rattle.site_steps.specs.declared.Observed.{Observed}
 use Rattle.site.specs.Calls.{ObserveSays}
-use Rattle.history.specs.State.{Held, State, AtRest, networkOf, networkWritten, recordAt, sitePart}
+use Rattle.history.specs.State.{Held, State, AtRest, heldRefusal, networkOf, networkWritten, recordAt, sitePart}
 use Rattle.history.specs.Histories.{afterSingle, Reachable, Deliveries}
 use Rattle.history.specs.Frame.{TailsKept}
 use Rattle.public_delivery.specs.declared.DeliveryAnswer.{DeliveryAnswer}
@@ -44,9 +43,7 @@ use Rattle.public_delivery.specs.declared.DeliveryAnswer.{DeliveryAnswer
 -- as the batch call tests it when it starts.
 abbrev pub deliveryRefusal : Settings → Held → Arrival → ℕ
 deliveryRefusal settings held arrival =
-    networkRefusal settings (held .sites) (held .coordinator) (held .siteMemory)
-    (held .coordinatorMemory)
-    orElse refusalIn settings (networkOf settings held) arrival
+    heldRefusal settings held orElse refusalIn settings (networkOf settings held) arrival
 
 -- ---- What the delivery comes to
 

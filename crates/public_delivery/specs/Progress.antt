@@ -1,7 +1,5 @@
 -- A delivery in progress, as code carries it, and the state of a history that it stands for.
 --
---   heldBy ..                      records and memory as a history has them
---   recordIn sites which           a site's record; a fresh one past the array's end
 --   queued queue                   the messages that wait, in order; never more than two
 --   QueueSays                      the messages of an arrival's answer wait
 --   carriedLimit                   what the count of messages stays below
@@ -13,32 +11,14 @@ use mathlib.Core.Path.{_≡_}
 use mathlib.Core.Bool.{Bool, not, _&&_, _||_}
 use mathlib.Core.List.{List, [], _∷_}
 use Prim.Native.Nat.{ℕ, _+_, _≤_}
-use lib.ListN.{length, getD, take}
+use lib.ListN.{length, take}
 use Rattle.model.specs.declared.Message.{Message}
-use Rattle.model.specs.declared.SiteRecord.{SiteRecord}
-use Rattle.model.specs.declared.Sites.{Sites}
-use Rattle.model.specs.declared.CoordinatorRecord.{CoordinatorRecord}
 use Rattle.model.specs.Choice.{if_then_else_, isZero}
-use Rattle.model.specs.Site.{freshSite}
-use Rattle.model.specs.SiteMemory.{siteRecord}
 use Rattle.model.specs.Coordinator.{isAnnouncing}
 use Rattle.sending.specs.declared.Queue.{Queue}
 use Rattle.sending.specs.Sending.{joined}
-use Rattle.history.specs.State.{Held, State}
+use Rattle.history.specs.State.{State, heldBy}
 use Rattle.public_delivery.specs.declared.Progress.{Progress}
-
--- ---- Records and memory
-
-abbrev pub heldBy : Sites → CoordinatorRecord → List ℕ → List ℕ → Held
-heldBy sites coordinator siteMemory coordinatorMemory = record {
-  sites = sites;
-  coordinator = coordinator;
-  siteMemory = siteMemory;
-  coordinatorMemory = coordinatorMemory;
-}
-
-abbrev pub recordIn : Sites → ℕ → SiteRecord
-recordIn sites which = getD (sites .records) which (siteRecord freshSite)
 
 -- ---- The messages that wait
 

@@ -8,7 +8,8 @@
 
 ghost use mathlib.Core.Path.{_≡_};
 ghost use Rattle.model.specs.Coordinator.{isAnnouncing};
-ghost use Rattle.public_delivery.specs.Progress.{isDue, heldBy};
+ghost use Rattle.model.specs.Held.{heldBy};
+ghost use Rattle.public_delivery.specs.Progress.{isDue};
 ghost use Rattle.public_delivery.specs.Steps.{DeliverAsks, DeliverSays};
 ghost use Rattle.public_delivery.specs.Delivery.{refusedBy, DeliverySays};
 use crate::arrivals::begin;

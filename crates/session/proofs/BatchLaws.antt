@@ -2,7 +2,7 @@
 --
 --   one-refusal, one-taken       with a log long enough: refused as the rules say, or taken
 --   length-messagesIn            how many messages a log's first records are
---   answerOf, leftOf, says-of    what the batch call answers and leaves, by its contract
+--   leftOf, says-of              what the batch call answers and leaves, by its contract
 use mathlib.Core.Path.{_≡_, refl, sym, ap}
 use mathlib.Core.Bool.{Bool, true, false}
 use mathlib.Core.List.{List, [], _∷_}
@@ -19,8 +19,7 @@ use Rattle.model.specs.CoordinatorMemory.{coordinatorRecord, coordinatorMemory}
 use Rattle.model.specs.NetworkMemory.{sitesMemory}
 use Rattle.model.specs.Network.{Network, afterArrival}
 use Rattle.model.specs.Runs.{refusalIn, Batch, batchRefusal, batchFrom, batchOf}
-use Rattle.tracker_steps.specs.declared.BatchAnswer.{BatchAnswer}
-use Rattle.tracker.specs.Batch.{BatchCall, BatchLent, BatchSays, batchIn, unlessRefused, sitesAfter, messageNumbers, messagesIn}
+use Rattle.tracker.specs.Batch.{BatchCall, BatchHeld, BatchSays, batchIn, unlessRefused, sitesAfter, messageNumbers, messagesIn}
 use Rattle.history.proofs.Answers.{or-accepted}
 use Rattle.session_steps.specs.Steps.{drawRefusal}
 
@@ -62,33 +61,31 @@ length-messagesIn (suc count) log = ap suc (length-messagesIn count (drop 4 log)
 
 -- ---- The batch call's answer, by its contract
 
-abbrev pub answerOf : BatchCall → BatchAnswer
-answerOf call = record {
+abbrev pub leftOf : BatchCall → BatchHeld
+leftOf call = record {
   refusal = drawRefusal call;
   accepted = unlessRefused call (batchIn call .accepted) 0;
   written = unlessRefused call (length (batchIn call .messages)) 0;
-  sites = unlessRefused call (sitesAfter call) (call .sites);
-  coordinator =
-      unlessRefused call (coordinatorRecord (batchIn call .network .coordinator))
-      (call .coordinator);
-}
-
-abbrev pub leftOf : BatchCall → BatchLent
-leftOf call = record {
-  siteMemory =
-      unlessRefused call
-      (sitesMemory (call .settings) (batchIn call .network .sites) (call .siteMemory))
-      (call .siteMemory);
-  coordinatorMemory =
-      unlessRefused call
-      (coordinatorMemory (batchIn call .network .coordinator) (call .coordinatorMemory))
-      (call .coordinatorMemory);
+  held = record {
+    sites = unlessRefused call (sitesAfter call) (call .held .sites);
+    coordinator =
+        unlessRefused call (coordinatorRecord (batchIn call .network .coordinator))
+        (call .held .coordinator);
+    siteMemory =
+        unlessRefused call
+        (sitesMemory (call .settings) (batchIn call .network .sites) (call .held .siteMemory))
+        (call .held .siteMemory);
+    coordinatorMemory =
+        unlessRefused call
+        (coordinatorMemory (batchIn call .network .coordinator) (call .held .coordinatorMemory))
+        (call .held .coordinatorMemory);
+  };
   log =
       unlessRefused call (overwrite (messageNumbers (batchIn call .messages)) (call .log))
       (call .log);
 }
 
-pub says-of : (call : BatchCall) → BatchSays call (leftOf call) (answerOf call)
+pub says-of : (call : BatchCall) → BatchSays call (leftOf call)
 says-of call = record {
   refusal = refl;
   accepted = refl;

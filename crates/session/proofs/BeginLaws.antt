@@ -30,8 +30,8 @@ use Rattle.site.specs.Calls as SiteCalls
 use Rattle.coordinator.specs.declared.StartedCoordinator.{StartedCoordinator}
 use Rattle.coordinator.specs.Calls as CoordinatorCalls
 use Rattle.session_steps.specs.declared.Session.{Session}
-use Rattle.session_steps.specs.declared.Turn.{Turn}
-use Rattle.session_steps.specs.Outcome.{Lent, lent, withOut, outcome, Refuses, refusedOf}
+use Rattle.session_steps.specs.declared.Moved.{Moved}
+use Rattle.session_steps.specs.Outcome.{Buffers, buffers, withOut, outcome, Refuses, refusedOf}
 use Rattle.session.specs.Limits.{programSites, programCapacity, programUniverse, siteRoom, coordinatorRoom}
 use Rattle.session.specs.Begin.{shorterThanLimits, startRefusalOf, beginRefusalOf, freshSession, firstSession, startedOf, beginOf}
 
@@ -97,7 +97,7 @@ module _ (settings : Settings) (siteMemory memory : List ℕ)
 
 -- ---- The two answers
 
-module _ (input : List ℕ) (given : Lent) (read : SettingsRead) (says : SettingsSays input read)
+module _ (input : List ℕ) (given : Buffers) (read : SettingsRead) (says : SettingsSays input read)
     (session : Session) (session-is : session ≡ freshSession (read .settings) (read .used))
     (refusal : ℕ)
     (refusal-says : refusal
@@ -118,11 +118,11 @@ module _ (input : List ℕ) (given : Lent) (read : SettingsRead) (says : Setting
   first-is : session ≡ firstSession input found
   first-is = session-is ∙ (λ i. freshSession (says .settings i) (says .used i))
 
-  pub begin-refused : (after : List ℕ) (turn : Turn)
-      → Refuses session refusal (given .out) after turn
+  pub begin-refused : (after : List ℕ) (moved : Moved)
+      → Refuses session refusal (given .out) after moved
       → (refusal ≡ accepted → ⊥)
-      → outcome turn (withOut given after) ≡ beginOf input given
-  begin-refused after turn refuses refused =
+      → outcome moved (withOut given after) ≡ beginOf input given
+  begin-refused after moved refuses refused =
       let rule = beginRefusalOf input found given in
       refuses .is given
       ∙ (λ i. refusedOf (first-is i) (refusal-is i) given)
@@ -135,7 +135,7 @@ module _ (input : List ℕ) (given : Lent) (read : SettingsRead) (says : Setting
       coordinator
       → refusal ≡ accepted
       → outcome (record { session = session; written = 0 })
-      (lent siteAfter coordinatorAfter (given .log) (given .list) (given .out))
+      (buffers siteAfter coordinatorAfter (given .log) (given .list) (given .out))
       ≡ beginOf input given
   begin-started siteAfter coordinatorAfter sites coordinator sites-say coordinator-says none =
       let settings = read .settings in
@@ -153,6 +153,6 @@ module _ (input : List ℕ) (given : Lent) (read : SettingsRead) (says : Setting
       (coordinator-start settings (given .siteMemory) (given .coordinatorMemory) fit)) in
       let rule = beginRefusalOf input found given in
       (λ i. outcome (record { session = session-is i; written = 0 })
-      (lent (sites-then i) (coordinator-then i) (given .log) (given .list) (given .out)))
+      (buffers (sites-then i) (coordinator-then i) (given .log) (given .list) (given .out)))
       ∙ (λ i. startedOf (freshSession (says .settings i) (says .used i)) given)
       ∙ sym (rw (eq-eqb rule 0 (sym refusal-is ∙ none)))

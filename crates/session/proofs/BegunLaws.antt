@@ -29,8 +29,8 @@ use Rattle.history.specs.State.{State}
 use Rattle.history.specs.Histories.{startState}
 use Rattle.history.proofs.Invariant.{StateOk, Resting, rest-of-standing}
 use Rattle.history.proofs.StartedState.{start-ok}
-use Rattle.session_steps.specs.declared.Turn.{Turn}
-use Rattle.session_steps.specs.Outcome.{Lent, Outcome, refusedOf}
+use Rattle.session_steps.specs.declared.Moved.{Moved}
+use Rattle.session_steps.specs.Outcome.{Buffers, Outcome, refusedOf}
 use Rattle.session.specs.Limits.{siteRoom, coordinatorRoom, outRoom}
 use Rattle.session.specs.Begin.{beginRefusalOf, freshSession, firstSession, startedOf, beginOf, BeginSays}
 use Rattle.session.specs.Course.{Represents, beginRefusal, BeginRight}
@@ -120,7 +120,7 @@ module _ (settings : Settings) (at : ℕ) (siteMemory memory : List ℕ)
 
 -- ---- The beginning
 
-module _ (input : List ℕ) (given : Lent)
+module _ (input : List ℕ) (given : Buffers)
     (sites-long : siteRoom ≤ length (given .siteMemory))
     (coordinator-long : coordinatorRoom ≤ length (given .coordinatorMemory))
     (out-long : outRoom ≤ length (given .out)) where
@@ -131,7 +131,7 @@ module _ (input : List ℕ) (given : Lent)
   rule = beginRefusal input found
 
   abbrev Right : Outcome → Type 0
-  Right there = BeginRight input (there .left) (there .turn)
+  Right there = BeginRight input (there .left) (there .moved)
 
   rule-is : beginRefusalOf input found given ≡ rule
   rule-is =
@@ -178,7 +178,7 @@ module _ (input : List ℕ) (given : Lent)
       by-rule false some =
           subst Right (sym (rw (ap isZero rule-is ∙ some))) (refused-right some)
 
-  pub begin-right : (left : Lent) (answer : Turn)
+  pub begin-right : (left : Buffers) (answer : Moved)
       → BeginSays input given left answer
       → BeginRight input left answer
   begin-right left answer says = subst Right (sym (says .is)) right-of

@@ -23,8 +23,8 @@ use Rattle.reader.specs.declared.Step.{Step}
 use Rattle.reader.specs.Walk.{lastLine, stepOf, stepAt, thenRead}
 use Rattle.reader.proofs.WalkLaws.{walk-claims}
 use Rattle.session_steps.specs.declared.Session.{Session}
-use Rattle.session_steps.specs.declared.Turn.{Turn}
-use Rattle.session_steps.specs.Outcome.{Lent}
+use Rattle.session_steps.specs.declared.Moved.{Moved}
+use Rattle.session_steps.specs.Outcome.{Buffers}
 use Rattle.session.specs.Course.{Represents, linePiece, accepts, beginRefusal, beginPiece, BeginRight, LineRight, Follows, Course, begun, advanced}
 use Rattle.session.proofs.BegunLaws.{begin-right}
 use Rattle.session.proofs.RefusalLaws.{malformed-refusal, step-small}
@@ -56,7 +56,7 @@ pub record Stands (input : List ℕ) (n : ℕ) (session : Session)
 
 -- ---- The beginning
 
-module _ (input : List ℕ) (left : Lent) (answer : Turn)
+module _ (input : List ℕ) (left : Buffers) (answer : Moved)
     (right : BeginRight input left answer) where
   abbrev at-start : List ℕ
   at-start = take (answer .written) (left .out)
@@ -107,7 +107,7 @@ module _ (input : List ℕ) (left : Lent) (answer : Turn)
 module _ (input : List ℕ) (n : ℕ) (session : Session)
     (siteMemory coordinatorMemory bytes : List ℕ)
     (there : Goes input n session siteMemory coordinatorMemory bytes)
-    (short : length input ≤ lastLine) (left : Lent) (answer : Turn)
+    (short : length input ≤ lastLine) (left : Buffers) (answer : Moved)
     (right : LineRight session (stepAt input (session .at) (session .line)) left (there .arrivals)
     answer) where
   abbrev step : Step

@@ -19,24 +19,23 @@ use Rattle.model.specs.Network.{Network, afterArrival}
 use Rattle.model.specs.Runs.{Run, runOf, refusalIn}
 use Rattle.model.proofs.DeliveryTheorem.{delivery-claims}
 use Rattle.reader.specs.declared.Step.{Step}
-use Rattle.tracker_steps.specs.declared.BatchAnswer.{BatchAnswer}
-use Rattle.tracker.specs.Batch.{BatchCall, BatchLent, BatchSays, batchIn, unlessRefused, logRoom, messagesIn}
+use Rattle.tracker.specs.Batch.{BatchCall, BatchHeld, BatchSays, batchIn, unlessRefused, logRoom, messagesIn}
 use Rattle.history.specs.State.{State, networkOf}
 use Rattle.history.specs.Histories.{afterBatch}
 use Rattle.history.proofs.Accepted.{batch-by-rules}
 use Rattle.history.proofs.Invariant.{StateOk, Resting}
 use Rattle.history.proofs.BatchedState.{batch-ok, batch-resting}
 use Rattle.session_steps.specs.declared.Session.{Session}
-use Rattle.session_steps.specs.Outcome.{Lent, lent, Outcome, outcome}
+use Rattle.session_steps.specs.Outcome.{Buffers, buffers, Outcome, outcome}
 use Rattle.session_steps.specs.Steps.{drawCall, drawRefusal, takenOf}
 use Rattle.session_steps.proofs.TakeLaws.{done}
 use Rattle.session.specs.Course.{Represents, Room}
 use Rattle.session.proofs.StateLaws.{runAfter, state, state-ok, state-at-rest}
-use Rattle.session.proofs.BatchLaws.{one-refusal, One, one-taken, length-messagesIn, answerOf, leftOf, says-of}
+use Rattle.session.proofs.BatchLaws.{one-refusal, One, one-taken, length-messagesIn, leftOf, says-of}
 
 -- ---- The draw of a line
 
-module _ {session : Session} {given : Lent} {arrivals : List Arrival}
+module _ {session : Session} {given : Buffers} {arrivals : List Arrival}
     (stands : Represents session (given .siteMemory) (given .coordinatorMemory) arrivals)
     (room : Room given) (step : Step) where
   abbrev settings : Settings
@@ -57,13 +56,10 @@ module _ {session : Session} {given : Lent} {arrivals : List Arrival}
   abbrev call : BatchCall
   call = drawCall session step given
 
-  abbrev answer : BatchAnswer
-  answer = answerOf call
+  abbrev answer : BatchHeld
+  answer = leftOf call
 
-  abbrev lentAfter : BatchLent
-  lentAfter = leftOf call
-
-  says : BatchSays call lentAfter answer
+  says : BatchSays call answer
   says = says-of call
 
   passes : settingsRefusal settings ≡ accepted
@@ -76,7 +72,7 @@ module _ {session : Session} {given : Lent} {arrivals : List Arrival}
   by-rules : drawRefusal call ≡ refusalIn settings held-network arrival
   by-rules =
       batch-by-rules passes (state-ok stands) (state-at-rest stands) (arrival ∷ [])
-      (given .log) lentAfter answer says
+      (given .log) answer says
       ∙ one-refusal settings (logRoom (given .log)) held-network arrival room-enough
 
   pub rule-is : drawRefusal call ≡ refusalIn settings (run .network) arrival
@@ -88,7 +84,7 @@ module _ {session : Session} {given : Lent} {arrivals : List Arrival}
 
   module _ (none : drawRefusal call ≡ accepted) where
     is : {A : Type 0} (x y z : A) → x ≡ unlessRefused call y z → x ≡ y
-    is = done session step given lentAfter answer says none
+    is = done session step given answer says none
 
     taken : One settings (logRoom (given .log)) held-network arrival room-enough
     taken =
@@ -114,15 +110,15 @@ module _ {session : Session} {given : Lent} {arrivals : List Arrival}
 
     -- ---- Where the session stands then
 
-    ok-then : StateOk settings 0 (afterBatch here (arrival ∷ []) lentAfter answer)
+    ok-then : StateOk settings 0 (afterBatch here (arrival ∷ []) answer)
     ok-then =
         batch-ok passes here (state-ok stands) (state-at-rest stands) (arrival ∷ []) (given .log)
-        lentAfter answer says
+        answer says
 
-    rest-then : Resting settings (afterBatch here (arrival ∷ []) lentAfter answer)
+    rest-then : Resting settings (afterBatch here (arrival ∷ []) answer)
     rest-then =
         batch-resting passes here (state-ok stands) (state-at-rest stands) (arrival ∷ [])
-        (given .log) lentAfter answer says
+        (given .log) answer says
 
     abbrev after-all : List Arrival
     after-all = arrivals ++ (arrival ∷ [])
@@ -132,28 +128,29 @@ module _ {session : Session} {given : Lent} {arrivals : List Arrival}
         ap (λ (n : ℕ). arrivals ++ take n (arrival ∷ []))
         (is (answer .accepted) _ _ refl ∙ taken .accepted-is)
 
-    count-then : answer .sites .messages ≡ length (runOf settings after-all .messages)
+    count-then : answer .held .sites .messages ≡ length (runOf settings after-all .messages)
     count-then =
         omega (
           arith,
           ok-then .count-is-sum,
           ap length (rest-then .messages-are
               ∙ ap (λ (xs : List Arrival). runOf settings xs .messages) accepted-then),
-          length-append (run .messages) (messagesIn (answer .written) (lentAfter .log)),
-          length-messagesIn (answer .written) (lentAfter .log),
+          length-append (run .messages) (messagesIn (answer .written) (answer .log)),
+          length-messagesIn (answer .written) (answer .log),
         )
 
     abbrev next : Session
     next = record {
       going = true;
       settings = session .settings;
-      sites = answer .sites;
-      coordinator = answer .coordinator;
+      sites = answer .held .sites;
+      coordinator = answer .held .coordinator;
       at = step .at;
       line = step .line;
     }
 
-    answer-stands : Represents next (lentAfter .siteMemory) (lentAfter .coordinatorMemory) after-all
+    answer-stands :
+        Represents next (answer .held .siteMemory) (answer .held .coordinatorMemory) after-all
     answer-stands = record {
       settings-accepted = passes;
       few-sites = stands .few-sites;
@@ -172,15 +169,15 @@ module _ {session : Session} {given : Lent} {arrivals : List Arrival}
 
     -- The same, with records and memory as the definition of the draw has them.
     pub stands-then : let there = takenOf session step given in
-        Represents (there .turn .session) (there .left .siteMemory)
+        Represents (there .moved .session) (there .left .siteMemory)
         (there .left .coordinatorMemory) after-all
     stands-then =
-        let sites = is (answer .sites) _ _ refl in
-        let coordinator = is (answer .coordinator) _ _ refl in
-        let site-memory = is (lentAfter .siteMemory) _ _ refl in
-        let memory = is (lentAfter .coordinatorMemory) _ _ refl in
+        let sites = is (answer .held .sites) _ _ refl in
+        let coordinator = is (answer .held .coordinator) _ _ refl in
+        let site-memory = is (answer .held .siteMemory) _ _ refl in
+        let memory = is (answer .held .coordinatorMemory) _ _ refl in
         subst (λ (there : Outcome).
-        Represents (there .turn .session) (there .left .siteMemory)
+        Represents (there .moved .session) (there .left .siteMemory)
         (there .left .coordinatorMemory) after-all)
         (λ i. outcome
         (record {
@@ -194,5 +191,5 @@ module _ {session : Session} {given : Lent} {arrivals : List Arrival}
           };
           written = 0;
         })
-        (lent (site-memory i) (memory i) [] [] []))
+        (buffers (site-memory i) (memory i) [] [] []))
         answer-stands

@@ -17,23 +17,23 @@ use Rattle.listing.specs.Contracts.{listRefusal}
 use Rattle.session_steps.specs.declared.Session.{Session}
 use Rattle.lines.specs.Contracts.{atStart, linesAfter}
 use Rattle.session_steps.specs.Output.{linesOf}
-use Rattle.session_steps.specs.Outcome.{Lent, Outcome, refusedOf}
+use Rattle.session_steps.specs.Outcome.{Outcome, refusedOf, Buffers}
 use Rattle.session_steps.specs.Steps.{drawCall, drawRefusal, takenOf, drawOf, sessionCoordinator, resultLinesOf, listedOf, resultsOf}
 use Rattle.lines.proofs.OutputLaws.{lines-kept}
 use Rattle.session.specs.Begin.{beginRefusalOf, firstSession, startedOf, beginOf}
 use Rattle.session.specs.Advance.{lineOf}
 use Rattle.session.specs.Claims.{LastKept, Keeps}
 
-module _ (given : Lent) (session : Session) where
+module _ (given : Buffers) (session : Session) where
   abbrev pub Kept : Outcome → Type 0
-  Kept there = Keeps session given (there .left) (there .turn)
+  Kept there = Keeps session given (there .left) (there .moved)
 
   -- Whatever lines a call writes.
   keeps-lines : (lines : List (List ℕ)) (there : Outcome)
-      → there .turn .written ≡ linesAfter (atStart (given .out)) lines .place
+      → there .moved .written ≡ linesAfter (atStart (given .out)) lines .place
       → there .left .out ≡ linesAfter (atStart (given .out)) lines .out
-      → (there .turn .session .going ≡ false
-      → LastKept session given (there .left) (there .turn))
+      → (there .moved .session .going ≡ false
+      → LastKept session given (there .left) (there .moved))
       → Kept there
   keeps-lines lines there place out last =
       let kept = lines-kept lines (atStart (given .out)) (omega arith) in
@@ -101,7 +101,7 @@ module _ (given : Lent) (session : Session) where
 
 -- ---- The beginning
 
-module _ (given : Lent) (input : List ℕ) where
+module _ (given : Buffers) (input : List ℕ) where
   abbrev first : Session
   first = firstSession input (readFields 6 input)
 

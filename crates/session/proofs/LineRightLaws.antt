@@ -18,11 +18,11 @@ use Rattle.model.specs.Transcript.{messageLines, refusedLine}
 use Rattle.reader.specs.declared.Step.{Step}
 use Rattle.tracker.specs.Batch.{BatchCall, batchIn}
 use Rattle.session_steps.specs.declared.Session.{Session}
-use Rattle.session_steps.specs.declared.Turn.{Turn}
 use Rattle.lines.specs.Contracts.{atStart}
 use Rattle.lines.proofs.OutputLaws.{fits-all}
 use Rattle.session_steps.specs.Output.{linesOf}
-use Rattle.session_steps.specs.Outcome.{Lent, Outcome, refusedOf}
+use Rattle.session_steps.specs.Outcome.{Outcome, refusedOf, Buffers}
+use Rattle.session_steps.specs.declared.Moved.{Moved}
 use Rattle.session_steps.specs.Steps.{FewBytes, drawCall, drawRefusal, takenOf, drawOf, resultsOf}
 use Rattle.session_steps.proofs.OutputLaws.{joined-messages}
 use Rattle.session.specs.Advance.{lineOf, LineSays}
@@ -32,7 +32,7 @@ use Rattle.session.proofs.StateLaws.{runAfter}
 use Rattle.session.proofs.DrawLaws.{rule-is, sent-are, few-sent, stands-then}
 use Rattle.session.proofs.ResultLaws.{results-fine, results-right}
 
-module _ {session : Session} {given : Lent} {arrivals : List Arrival}
+module _ {session : Session} {given : Buffers} {arrivals : List Arrival}
     (stands : Represents session (given .siteMemory) (given .coordinatorMemory) arrivals)
     (room : Room given) (step : Step) where
   abbrev settings : Settings
@@ -45,7 +45,7 @@ module _ {session : Session} {given : Lent} {arrivals : List Arrival}
   call = drawCall session step given
 
   abbrev Right : Outcome → Type 0
-  Right there = LineRight session step (there .left) arrivals (there .turn)
+  Right there = LineRight session step (there .left) arrivals (there .moved)
 
   abbrev rule : ℕ
   rule = refusalIn settings (run .network) (step .arrival)
@@ -144,7 +144,7 @@ module _ {session : Session} {given : Lent} {arrivals : List Arrival}
       by-found false none false some =
           subst Right (sym (rw (none, some))) (malformed-right none small some)
 
-  pub line-right : (left : Lent) (answer : Turn)
+  pub line-right : (left : Buffers) (answer : Moved)
       → step .refusal ≤ 99
       → LineSays session step given left answer
       → LineRight session step left arrivals answer

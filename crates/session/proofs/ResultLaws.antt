@@ -29,7 +29,7 @@ use Rattle.history.proofs.RunSound.{sound-run, messages-within}
 use Rattle.history.proofs.Accepted.{coordinator-accepted}
 use Rattle.session_steps.specs.declared.Session.{Session}
 use Rattle.lines.specs.Contracts.{atStart, linesAfter}
-use Rattle.session_steps.specs.Outcome.{Lent}
+use Rattle.session_steps.specs.Outcome.{Buffers}
 use Rattle.session_steps.specs.Steps.{sessionCoordinator, resultLinesOf, listedOf, resultsOf}
 use Rattle.laws.proofs.Writing.{joined}
 use Rattle.lines.proofs.OutputLaws.{Fitted, fits-all}
@@ -109,7 +109,7 @@ class-few settings c values within = by-threshold (eqb (c .threshold) 1) refl
 
 -- ---- The three lines
 
-module _ {session : Session} {given : Lent} {arrivals : List Arrival}
+module _ {session : Session} {given : Buffers} {arrivals : List Arrival}
     (stands : Represents session (given .siteMemory) (given .coordinatorMemory) arrivals)
     (room : Room given) where
   abbrev settings : Settings
@@ -211,7 +211,7 @@ module _ {session : Session} {given : Lent} {arrivals : List Arrival}
       ))
 
   pub results-right : let there = listedOf session given in
-      take (there .turn .written) (there .left .out) ≡ resultLines settings run
+      take (there .moved .written) (there .left .out) ≡ resultLines settings run
   results-right =
       (λ i.
       let written = linesAfter (atStart (given .out)) (lines-are i) in

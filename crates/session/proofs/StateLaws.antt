@@ -14,6 +14,7 @@ use Rattle.history.specs.State.{State, AtRest}
 use Rattle.history.proofs.RunSound.{sound-run}
 use Rattle.history.proofs.Invariant.{StateOk, Resting, resting}
 use Rattle.session_steps.specs.declared.Session.{Session}
+use Rattle.session_steps.specs.Outcome.{heldOf}
 use Rattle.session.specs.Course.{Represents}
 
 abbrev pub runAfter : Session → List Arrival → Run
@@ -21,12 +22,7 @@ runAfter session arrivals = runOf (session .settings) arrivals
 
 abbrev pub state : Session → List ℕ → List ℕ → List Arrival → State
 state session siteMemory coordinatorMemory arrivals = record {
-  held = record {
-    sites = session .sites;
-    coordinator = session .coordinator;
-    siteMemory = siteMemory;
-    coordinatorMemory = coordinatorMemory;
-  };
+  held = heldOf session siteMemory coordinatorMemory;
   waiting = [];
   accepted = arrivals;
   messages = runAfter session arrivals .messages;

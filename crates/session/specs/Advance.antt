@@ -12,14 +12,14 @@ use Rattle.reader.specs.declared.Step.{Step}
 use Rattle.reader.specs.Walk.{stepAt}
 use Rattle.tracker.specs.Batch.{batchIn}
 use Rattle.session_steps.specs.declared.Session.{Session}
-use Rattle.session_steps.specs.declared.Turn.{Turn}
-use Rattle.session_steps.specs.Outcome.{Lent, Outcome, outcome, SameLengths, refusedOf}
+use Rattle.session_steps.specs.declared.Moved.{Moved}
+use Rattle.session_steps.specs.Outcome.{Buffers, Outcome, outcome, SameLengths, refusedOf}
 use Rattle.session_steps.specs.Steps.{drawCall, drawRefusal, drawOf, resultsOf, FewBytes}
 
 -- ---- A line
 
 -- By what is read at the session's place: a draw, the end, or a malformed line.
-abbrev pub lineOf : Session → Step → Lent → Outcome
+abbrev pub lineOf : Session → Step → Buffers → Outcome
 lineOf session step given =
     if step .found then drawOf session step given
     else if isZero (step .refusal) then resultsOf session given
@@ -27,14 +27,14 @@ lineOf session step given =
 
 -- ---- The promise
 
-pub record LineSays (session : Session) (step : Step) (given left : Lent) (answer : Turn) : Type 0
-  where
-    pub is : outcome answer left ≡ lineOf session step given
-    pub few-bytes : step .found ≡ true
-        → drawRefusal (drawCall session step given) ≡ accepted
-        → FewBytes (batchIn (drawCall session step given))
+pub record LineSays (session : Session) (step : Step) (given left : Buffers) (answer : Moved)
+    : Type 0 where
+  pub is : outcome answer left ≡ lineOf session step given
+  pub few-bytes : step .found ≡ true
+      → drawRefusal (drawCall session step given) ≡ accepted
+      → FewBytes (batchIn (drawCall session step given))
 
-pub record AdvanceSays (input : List ℕ) (session : Session) (given left : Lent) (answer : Turn)
+pub record AdvanceSays (input : List ℕ) (session : Session) (given left : Buffers) (answer : Moved)
     : Type 0 where
   pub line : LineSays session (stepAt input (session .at) (session .line)) given left answer
   pub lengths : SameLengths given left

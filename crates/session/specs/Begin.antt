@@ -23,8 +23,8 @@ use Rattle.model.specs.Transcript.{beyondProgram}
 use Rattle.reader.specs.Contracts.{lineRefusal, settingsIn, bytesAfter}
 use Rattle.site.specs.Calls.{cleared}
 use Rattle.session_steps.specs.declared.Session.{Session}
-use Rattle.session_steps.specs.declared.Turn.{Turn}
-use Rattle.session_steps.specs.Outcome.{Lent, lent, Outcome, outcome, SameLengths, refusedOf}
+use Rattle.session_steps.specs.declared.Moved.{Moved}
+use Rattle.session_steps.specs.Outcome.{Buffers, buffers, Outcome, outcome, SameLengths, refusedOf}
 use Rattle.session.specs.Limits.{siteRoom, coordinatorRoom}
 
 -- ---- Why a session does not start
@@ -44,7 +44,7 @@ startRefusalOf line settings bytes siteNumbers coordinatorNumbers =
     orElse when (shorterThanLimits siteNumbers coordinatorNumbers) memoryTooShort
     orElse accepted
 
-abbrev pub beginRefusalOf : List ℕ → Fields → Lent → ℕ
+abbrev pub beginRefusalOf : List ℕ → Fields → Buffers → ℕ
 beginRefusalOf input found given =
     startRefusalOf (lineRefusal found) (settingsIn found) (length (bytesAfter input found))
     (length (given .siteMemory)) (length (given .coordinatorMemory))
@@ -68,22 +68,22 @@ firstSession input found =
     freshSession (settingsIn found) (length input - length (bytesAfter input found))
 
 -- Both memories cleared for the settings; what lies past that is as it was, and so is the output.
-abbrev pub startedOf : Session → Lent → Outcome
+abbrev pub startedOf : Session → Buffers → Outcome
 startedOf session given =
     outcome (record { session = session; written = 0 })
-    (lent (cleared (session .settings) (given .siteMemory))
+    (buffers (cleared (session .settings) (given .siteMemory))
     (coordinatorMemory (freshCoordinator (session .settings)) (given .coordinatorMemory))
     (given .log) (given .list) (given .out))
 
-abbrev pub beginWith : List ℕ → Fields → Lent → Outcome
+abbrev pub beginWith : List ℕ → Fields → Buffers → Outcome
 beginWith input found given =
     let refusal = beginRefusalOf input found given in
     let session = firstSession input found in
     if isZero refusal then startedOf session given else refusedOf session refusal given
 
-abbrev pub beginOf : List ℕ → Lent → Outcome
+abbrev pub beginOf : List ℕ → Buffers → Outcome
 beginOf input given = beginWith input (readFields 6 input) given
 
-pub record BeginSays (input : List ℕ) (given left : Lent) (answer : Turn) : Type 0 where
+pub record BeginSays (input : List ℕ) (given left : Buffers) (answer : Moved) : Type 0 where
   pub is : outcome answer left ≡ beginOf input given
   pub lengths : SameLengths given left

@@ -10,8 +10,8 @@ use Rattle.model.specs.Lines.{readFields}
 use Rattle.model.specs.Transcript.{transcript}
 use Rattle.reader.specs.Walk.{lastLine, stepAt}
 use Rattle.session_steps.specs.declared.Session.{Session}
-use Rattle.session_steps.specs.declared.Turn.{Turn}
-use Rattle.session_steps.specs.Outcome.{Lent, stopped}
+use Rattle.session_steps.specs.declared.Moved.{Moved}
+use Rattle.session_steps.specs.Outcome.{Buffers, stopped}
 use Rattle.session.specs.Limits.{siteRoom, coordinatorRoom, outRoom, inputRoom}
 use Rattle.session.specs.Begin.{firstSession, BeginSays}
 use Rattle.session.specs.Advance.{AdvanceSays}
@@ -19,14 +19,14 @@ use Rattle.session.specs.Course.{Represents, Room, BeginRight, LineRight
 
 -- The last call of a session, refused or not: the session stands where it stood, with its records,
 -- and both memories and the log are as they were.
-pub record LastKept (session : Session) (given left : Lent) (answer : Turn) : Type 0 where
+pub record LastKept (session : Session) (given left : Buffers) (answer : Moved) : Type 0 where
   pub session-stopped : answer .session ≡ stopped session
   pub site-memory : left .siteMemory ≡ given .siteMemory
   pub coordinator-memory : left .coordinatorMemory ≡ given .coordinatorMemory
   pub log : left .log ≡ given .log
 
 -- What a call keeps. It writes the first bytes of the output; those after them are as they were.
-pub record Keeps (session : Session) (given left : Lent) (answer : Turn) : Type 0 where
+pub record Keeps (session : Session) (given left : Buffers) (answer : Moved) : Type 0 where
   pub within : answer .written ≤ length (left .out)
   pub out-rest : drop (answer .written) (left .out) ≡ drop (answer .written) (given .out)
   pub last : answer .session .going ≡ false → LastKept session given left answer
@@ -34,21 +34,21 @@ pub record Keeps (session : Session) (given left : Lent) (answer : Turn) : Type 
 pub record SessionClaims : Type 0 where
   -- ---- One call
 
-  pub begin-keeps : (input : List ℕ) (given left : Lent) (answer : Turn)
+  pub begin-keeps : (input : List ℕ) (given left : Buffers) (answer : Moved)
       → BeginSays input given left answer
       → Keeps (firstSession input (readFields 6 input)) given left answer
-  pub advance-keeps : (input : List ℕ) (session : Session) (given left : Lent) (answer : Turn)
+  pub advance-keeps : (input : List ℕ) (session : Session) (given left : Buffers) (answer : Moved)
       → AdvanceSays input session given left answer
       → Keeps session given left answer
   -- With memory for the program's limits: the piece before the first line.
-  pub begins : (input : List ℕ) (given left : Lent) (answer : Turn)
+  pub begins : (input : List ℕ) (given left : Buffers) (answer : Moved)
       → siteRoom ≤ length (given .siteMemory)
       → coordinatorRoom ≤ length (given .coordinatorMemory)
       → outRoom ≤ length (given .out)
       → BeginSays input given left answer
       → BeginRight input left answer
   -- On a session that stands for a run: the piece of the next line.
-  pub advances : (input : List ℕ) (session : Session) (given left : Lent) (answer : Turn)
+  pub advances : (input : List ℕ) (session : Session) (given left : Buffers) (answer : Moved)
       (arrivals : List Arrival)
       → Represents session (given .siteMemory) (given .coordinatorMemory) arrivals
       → Room given

@@ -21,15 +21,16 @@ use Rattle.model.specs.Limits.{mostSites}
 use Rattle.model.specs.Settings.{settingsRefusal}
 use Rattle.model.specs.CoordinatorMemory.{coordinatorWords}
 use Rattle.model.specs.Network.{afterArrival}
-use Rattle.model.specs.NetworkMemory.{sitesWords, networkIn}
+use Rattle.model.specs.NetworkMemory.{sitesWords}
+use Rattle.model.specs.Held.{networkOf}
 use Rattle.model.specs.Lines.{Fields, readFields}
 use Rattle.model.specs.Runs.{Run, runOf, refusalIn}
 use Rattle.model.specs.Transcript.{messageLines, refusedLine, resultLines, programRefusal}
 use Rattle.reader.specs.declared.Step.{Step}
 use Rattle.reader.specs.Contracts.{lineRefusal, settingsIn, bytesAfter}
 use Rattle.session_steps.specs.declared.Session.{Session}
-use Rattle.session_steps.specs.declared.Turn.{Turn}
-use Rattle.session_steps.specs.Outcome.{Lent}
+use Rattle.session_steps.specs.declared.Moved.{Moved}
+use Rattle.session_steps.specs.Outcome.{Buffers, heldOf}
 use Rattle.session.specs.Limits.{programSites, programUniverse, siteRoom, coordinatorRoom, logRoom, listRoom, outRoom}
 use Rattle.session.specs.Begin.{BeginSays}
 use Rattle.session.specs.Advance.{AdvanceSays}
@@ -47,15 +48,14 @@ pub record Represents (session : Session) (siteMemory coordinatorMemory : List �
   pub sites-long : sitesWords (session .settings) ≤ length siteMemory
   pub coordinator-long : coordinatorWords (session .settings) ≤ length coordinatorMemory
   pub network-is :
-      networkIn (session .settings) (session .sites) (session .coordinator) siteMemory
-      coordinatorMemory
+      networkOf (session .settings) (heldOf session siteMemory coordinatorMemory)
       ≡ runOf (session .settings) arrivals .network
   pub accepted-are : runOf (session .settings) arrivals .accepted ≡ arrivals
   pub count-is : session .sites .messages ≡ length (runOf (session .settings) arrivals .messages)
 
 -- Room for the messages of one draw in the log, for a list of all items, and for the lines of
 -- either.
-pub record Room (given : Lent) : Type 0 where
+pub record Room (given : Buffers) : Type 0 where
   pub log-long : logRoom ≤ length (given .log)
   pub list-long : listRoom ≤ length (given .list)
   pub out-long : outRoom ≤ length (given .out)
@@ -80,7 +80,7 @@ pub record Begun (input siteMemory coordinatorMemory : List ℕ) (session : Sess
   pub first-line : session .line ≡ 0
 
 -- The piece before the first line, and where the session stands.
-pub record BeginRight (input : List ℕ) (left : Lent) (answer : Turn) : Type 0 where
+pub record BeginRight (input : List ℕ) (left : Buffers) (answer : Moved) : Type 0 where
   pub bytes : take (answer .written) (left .out) ≡ beginPiece input (readFields 6 input)
   pub going : answer .session .going ≡ isZero (beginRefusal input (readFields 6 input))
   pub begun : isZero (beginRefusal input (readFields 6 input)) ≡ true
@@ -108,7 +108,7 @@ accepts settings run step =
     step .found && isZero (refusalIn settings (run .network) (step .arrival))
 
 -- After an accepted draw the session stands behind its line, after one arrival more.
-pub record Follows (session : Session) (step : Step) (left : Lent) (arrivals : List Arrival)
+pub record Follows (session : Session) (step : Step) (left : Buffers) (arrivals : List Arrival)
     (after : Session) : Type 0 where
   pub settings-same : after .settings ≡ session .settings
   pub at-after : after .at ≡ step .at
@@ -117,8 +117,8 @@ pub record Follows (session : Session) (step : Step) (left : Lent) (arrivals : L
       (arrivals ++ (step .arrival ∷ []))
 
 -- The piece of a line of the worklist, or of its end, and where the session stands.
-pub record LineRight (session : Session) (step : Step) (left : Lent) (arrivals : List Arrival)
-    (answer : Turn) : Type 0 where
+pub record LineRight (session : Session) (step : Step) (left : Buffers) (arrivals : List Arrival)
+    (answer : Moved) : Type 0 where
   pub bytes : take (answer .written) (left .out)
       ≡ linePiece (session .settings) (runOf (session .settings) arrivals) step
   pub going : answer .session .going
@@ -131,14 +131,14 @@ pub record LineRight (session : Session) (step : Step) (left : Lent) (arrivals :
 -- A call is known by its contract alone. Log, list and output may be others at each call, and hold
 -- anything; the two memories are those that the call before left.
 pub data Course (input : List ℕ) : ℕ → Session → List ℕ → List ℕ → List ℕ → Type 0 where
-  begun : (given left : Lent) (answer : Turn)
+  begun : (given left : Buffers) (answer : Moved)
       → siteRoom ≤ length (given .siteMemory)
       → coordinatorRoom ≤ length (given .coordinatorMemory)
       → outRoom ≤ length (given .out)
       → BeginSays input given left answer
       → Course input 0 (answer .session) (left .siteMemory) (left .coordinatorMemory)
       (take (answer .written) (left .out))
-  advanced : (n : ℕ) (session : Session) (bytes : List ℕ) (given left : Lent) (answer : Turn)
+  advanced : (n : ℕ) (session : Session) (bytes : List ℕ) (given left : Buffers) (answer : Moved)
       → Course input n session (given .siteMemory) (given .coordinatorMemory) bytes
       → session .going ≡ true
       → Room given

@@ -6,7 +6,7 @@
 ghost use mathlib.Core.Path.{_≡_};
 ghost use mathlib.Core.List.{[]};
 ghost use Rattle.model.specs.Transcript.{beyondProgram};
-ghost use Rattle.session_steps.specs.Outcome.{lent};
+ghost use Rattle.session_steps.specs.Outcome.{buffers};
 ghost use Rattle.session.specs.Begin.{shorterThanLimits, startRefusalOf, freshSession, BeginSays};
 ghost use Rattle.session.specs.Advance.{AdvanceSays};
 use model::ACCEPTED;
@@ -22,8 +22,8 @@ use model::SiteRecord;
 use model::Sites;
 use model::Word;
 use reader::SettingsRead;
+use session_steps::Moved;
 use session_steps::Session;
-use session_steps::Turn;
 
 // The program's limits: "Its memory serves k up to 4, c up to 100, u up to 1000 and a worklist up
 // to 8192 bytes".
@@ -145,10 +145,10 @@ pub fn begin(
     site_memory: &mut [Word],
     coordinator_memory: &mut [u64],
     out: &mut [u8],
-) -> Turn
-    ensures { λ r. ⌜ BeginSays (now (input .entry)) (lent (now («site_memory» .entry))
+) -> Moved
+    ensures { λ r. ⌜ BeginSays (now (input .entry)) (buffers (now («site_memory» .entry))
         (now («coordinator_memory» .entry)) [] [] (now (out .entry)))
-        (lent (now («site_memory» .exit)) (now («coordinator_memory» .exit)) [] []
+        (buffers (now («site_memory» .exit)) (now («coordinator_memory» .exit)) [] []
         (now (out .exit))) r ⌝ }
 {
     let read = reader::read_settings(input);
@@ -165,7 +165,7 @@ pub fn begin(
     }
     site::start_sites(settings, site_memory);
     coordinator::start_coordinator(settings, coordinator_memory);
-    Turn {
+    Moved {
         session: session,
         written: 0,
     }
@@ -182,10 +182,10 @@ pub fn advance(
     log: &mut [u64],
     list: &mut [u32],
     out: &mut [u8],
-) -> Turn
+) -> Moved
     ensures { λ r. ⌜ AdvanceSays (now (input .entry)) session
-        (lent (now («site_memory» .entry)) (now («coordinator_memory» .entry)) (now (log .entry))
-        (now (list .entry)) (now (out .entry))) (lent (now («site_memory» .exit))
+        (buffers (now («site_memory» .entry)) (now («coordinator_memory» .entry)) (now (log .entry))
+        (now (list .entry)) (now (out .entry))) (buffers (now («site_memory» .exit))
         (now («coordinator_memory» .exit)) (now (log .exit)) (now (list .exit)) (now (out .exit)))
         r ⌝ }
 {

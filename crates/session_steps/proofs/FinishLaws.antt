@@ -21,13 +21,13 @@ use Rattle.reading.specs.declared.QuantileRead.{QuantileRead}
 use Rattle.reading.specs.Contracts.{ReadsQuantile}
 use Rattle.listing.specs.Contracts.{listRefusal, Lists}
 use Rattle.session_steps.specs.declared.Session.{Session}
-use Rattle.session_steps.specs.declared.Turn.{Turn}
-use Rattle.session_steps.specs.Outcome.{lent, outcome, ended, Refuses, refusedOf}
+use Rattle.session_steps.specs.Outcome.{outcome, ended, Refuses, refusedOf, buffers}
+use Rattle.session_steps.specs.declared.Moved.{Moved}
 use Rattle.session_steps.specs.Steps.{resultLinesOf, Finishes}
 
 module _ (session : Session) (memory listBefore listAfter : List ℕ) (listed : Listed)
     (lists : Lists (session .settings) (session .coordinator) memory listBefore listAfter listed)
-    (before after : List ℕ) (turn : Turn) where
+    (before after : List ℕ) (moved : Moved) where
   abbrev settings : Settings
   settings = session .settings
 
@@ -37,17 +37,17 @@ module _ (session : Session) (memory listBefore listAfter : List ℕ) (listed : 
   abbrev c : Coordinator
   c = coordinatorIn settings (session .coordinator) memory
 
-  pub finish-refused : Refuses session (listed .refusal) before after turn
+  pub finish-refused : Refuses session (listed .refusal) before after moved
       → (listed .refusal ≡ accepted → ⊥)
-      → Finishes session memory listBefore before listAfter after turn
+      → Finishes session memory listBefore before listAfter after moved
   finish-refused refuses refused =
       let some = ne-eqb rule 0 (λ none. refused (lists .refusal ∙ none)) in
       let same : listAfter ≡ listBefore = rw some at (lists .list) in
       record {
         is = λ siteMemory log.
-            refuses .is (lent siteMemory memory log listAfter [])
+            refuses .is (buffers siteMemory memory log listAfter [])
             ∙ (λ i. refusedOf session (lists .refusal i)
-            (lent siteMemory memory log (same i) before))
+            (buffers siteMemory memory log (same i) before))
             ∙ sym (rw some);
       }
 
@@ -77,9 +77,9 @@ module _ (session : Session) (memory listBefore listAfter : List ℕ) (listed : 
         → LineWritten (listedLine (take (listed .count) listAfter)) 0 before out₁ p₁
         → LineWritten (endLine (classWord ++ quantileWord (read .quantile))) p₁ out₁ out₂ p₂
         → LineWritten (countedLine messagesWord (session .sites .messages)) p₂ out₂ after p₃
-        → turn ≡ ended session p₃
-        → Finishes session memory listBefore before listAfter after turn
-    finish-listed out₁ out₂ p₁ p₂ p₃ first second third turn-is =
+        → moved ≡ ended session p₃
+        → Finishes session memory listBefore before listAfter after moved
+    finish-listed out₁ out₂ p₁ p₂ p₃ first second third moved-is =
         let classLine = endLine (classWord ++ quantileWord (read .quantile)) in
         let countLine = countedLine messagesWord (session .sites .messages) in
         let two = second .is ∙ ap (λ (w : Written). lineAfter w classLine) (first .is) in
@@ -89,9 +89,9 @@ module _ (session : Session) (memory listBefore listAfter : List ℕ) (listed : 
         ∙ (λ i. linesAfter (atStart before)
         (listedLine (items-are i)
         ∷ (endLine (classWord ++ quantileWord (quantile-is i)) ∷ (countLine ∷ [])))) in
-        let ends = turn-is ∙ ap (λ (w : Written). ended session (w .place)) all in
+        let ends = moved-is ∙ ap (λ (w : Written). ended session (w .place)) all in
         record {
           is = λ siteMemory log.
-              (λ i. outcome (ends i) (lent siteMemory memory log (list-is i) (all i .out)))
+              (λ i. outcome (ends i) (buffers siteMemory memory log (list-is i) (all i .out)))
               ∙ sym (rw (eq-eqb rule 0 fine));
         }

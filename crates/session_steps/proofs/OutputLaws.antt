@@ -10,20 +10,20 @@ use Rattle.model.specs.declared.Message.{Message}
 use Rattle.model.specs.Transcript.{messageLine, messageLines, refusedLine}
 use Rattle.lines.specs.Contracts.{Written, writtenTo, atStart, lineAfter}
 use Rattle.session_steps.specs.declared.Session.{Session}
-use Rattle.session_steps.specs.declared.Turn.{Turn}
 use Rattle.session_steps.specs.Output.{linesOf}
-use Rattle.session_steps.specs.Outcome.{Lent, withOut, outcome, ended, refusedOf}
+use Rattle.session_steps.specs.Outcome.{withOut, outcome, ended, refusedOf, Buffers}
+use Rattle.session_steps.specs.declared.Moved.{Moved}
 
 pub joined-messages : (messages : List Message) → joined (linesOf messages) ≡ messageLines messages
 joined-messages [] = refl
 joined-messages (message ∷ messages) =
     ap (λ (later : List ℕ). messageLine message ++ later) (joined-messages messages)
 
-pub refused-of : (session : Session) (refusal place : ℕ) (before after : List ℕ) (turn : Turn)
-    → turn ≡ ended session place
+pub refused-of : (session : Session) (refusal place : ℕ) (before after : List ℕ) (moved : Moved)
+    → moved ≡ ended session place
     → writtenTo place after ≡ lineAfter (atStart before) (refusedLine refusal)
-    → (given : Lent)
-    → outcome turn (withOut given after) ≡ refusedOf session refusal (withOut given before)
-refused-of session refusal place before after turn is line given =
-    let turn-is = is ∙ ap (λ (written : Written). ended session (written .place)) line in
-    (λ i. outcome (turn-is i) (withOut given (line i .out)))
+    → (given : Buffers)
+    → outcome moved (withOut given after) ≡ refusedOf session refusal (withOut given before)
+refused-of session refusal place before after moved is line given =
+    let moved-is = is ∙ ap (λ (written : Written). ended session (written .place)) line in
+    (λ i. outcome (moved-is i) (withOut given (line i .out)))

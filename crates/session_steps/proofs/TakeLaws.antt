@@ -17,23 +17,22 @@ use Rattle.model.specs.Refusals.{accepted}
 use Rattle.model.specs.Messages.{messageWidth}
 use Rattle.model.specs.SiteMemory.{overwrite}
 use Rattle.model.specs.CoordinatorMemory.{coordinatorMemory}
-use Rattle.model.specs.NetworkMemory.{networkIn}
+use Rattle.model.specs.Held.{networkOf}
 use Rattle.model.specs.Network.{Network}
 use Rattle.model.specs.Runs.{Batch, batchRefusal, batchFrom, batchOf}
 use Rattle.model.specs.Transcript.{messageLines}
 use Rattle.reader.specs.declared.Step.{Step}
 use Rattle.sending.proofs.LogLaws.{length-messageNumbers}
-use Rattle.tracker_steps.specs.declared.BatchAnswer.{BatchAnswer}
-use Rattle.tracker.specs.Batch.{BatchCall, BatchLent, BatchSays, startRefusal, batchIn, unlessRefused, logRoom, messageNumbers, messagesIn}
+use Rattle.tracker.specs.Batch.{BatchCall, BatchSays, startRefusal, batchIn, unlessRefused, logRoom, messageNumbers, messagesIn, BatchHeld}
 use Rattle.history.specs.State.{State}
 use Rattle.history.specs.Histories.{startState, afterBatch}
 use Rattle.history.proofs.EmptyBatch.{nothing-done, batch-same}
 use Rattle.history.proofs.HandedOut.{messagesIn-written}
 use Rattle.session_steps.specs.declared.Session.{Session}
-use Rattle.session_steps.specs.declared.Turn.{Turn}
 use Rattle.lines.specs.Contracts.{atStart, linesAfter}
 use Rattle.session_steps.specs.Output.{linesOf, MessagesWritten}
-use Rattle.session_steps.specs.Outcome.{Lent, lent, outcome, Refuses, refusedOf}
+use Rattle.session_steps.specs.Outcome.{outcome, Refuses, refusedOf, Buffers, buffers}
+use Rattle.session_steps.specs.declared.Moved.{Moved}
 use Rattle.session_steps.specs.Steps.{drawCall, drawRefusal, DrawSays}
 
 -- A batch of one arrival that refuses it accepts nothing.
@@ -48,8 +47,8 @@ none-accepted settings room network arrival refused =
     by-test true fine = absurd (refused (rw (fine, batchFrom)))
     by-test false some = rw (some, batchFrom)
 
-module _ (session : Session) (step : Step) (given : Lent) (lentAfter : BatchLent)
-    (answer : BatchAnswer) (says : BatchSays (drawCall session step given) lentAfter answer) where
+module _ (session : Session) (step : Step) (given : Buffers) (answer : BatchHeld)
+    (says : BatchSays (drawCall session step given) answer) where
   abbrev call : BatchCall
   call = drawCall session step given
 
@@ -57,9 +56,11 @@ module _ (session : Session) (step : Step) (given : Lent) (lentAfter : BatchLent
   batch = batchIn call
 
   abbrev network : Network
-  network =
-      networkIn (session .settings) (session .sites) (session .coordinator) (given .siteMemory)
-      (given .coordinatorMemory)
+  network = networkOf (session .settings) (call .held)
+
+  -- What the batch leaves, with a list and an output.
+  abbrev leaving : List ℕ → List ℕ → Buffers
+  leaving = buffers (answer .held .siteMemory) (answer .held .coordinatorMemory) (answer .log)
 
   -- ---- A draw that is refused
 
@@ -80,21 +81,21 @@ module _ (session : Session) (step : Step) (given : Lent) (lentAfter : BatchLent
         startState (session .sites) (session .coordinator) (given .siteMemory)
         (given .coordinatorMemory)
 
-    same : afterBatch before (step .arrival ∷ []) lentAfter answer ≡ before
+    same : afterBatch before (step .arrival ∷ []) answer ≡ before
     same =
-        batch-same before (session .settings) (step .arrival ∷ []) (given .log) lentAfter answer
+        batch-same before (session .settings) (step .arrival ∷ []) (given .log) answer
         says accepts-none
 
-    site-memory-same : lentAfter .siteMemory ≡ given .siteMemory
+    site-memory-same : answer .held .siteMemory ≡ given .siteMemory
     site-memory-same = ap (λ (state : State). state .held .siteMemory) same
 
-    coordinator-memory-same : lentAfter .coordinatorMemory ≡ given .coordinatorMemory
+    coordinator-memory-same : answer .held .coordinatorMemory ≡ given .coordinatorMemory
     coordinator-memory-same = ap (λ (state : State). state .held .coordinatorMemory) same
 
-    log-same : lentAfter .log ≡ given .log
+    log-same : answer .log ≡ given .log
     log-same = by-start (isZero (startRefusal call)) refl
       where
-        by-start : (fine : Bool) → isZero (startRefusal call) ≡ fine → lentAfter .log ≡ given .log
+        by-start : (fine : Bool) → isZero (startRefusal call) ≡ fine → answer .log ≡ given .log
         by-start true fine =
             let none = nothing-done (session .settings) (logRoom (given .log)) network
             (step .arrival ∷ []) (sym (rw fine at (says .accepted)) ∙ accepts-none) in
@@ -104,19 +105,18 @@ module _ (session : Session) (step : Step) (given : Lent) (lentAfter : BatchLent
             (none .no-messages))
         by-start false some = says .log ∙ rw some
 
-    pub draw-refused : (list after : List ℕ) (turn : Turn)
-        → Refuses session (answer .refusal) (given .out) after turn
-        → DrawSays session step given
-        (lent (lentAfter .siteMemory) (lentAfter .coordinatorMemory) (lentAfter .log) list after)
-        turn
-    draw-refused list after turn refuses =
+    pub draw-refused : (list after : List ℕ) (moved : Moved)
+        → Refuses session (answer .refusal) (given .out) after moved
+        → DrawSays session step given (leaving list after) moved
+    draw-refused list after moved refuses =
         let is-rule : drawRefusal call ≡ accepted → ⊥ = λ none. refused (says .refusal ∙ none) in
         record {
           is = λ any.
               refuses .is
-              (lent (lentAfter .siteMemory) (lentAfter .coordinatorMemory) (lentAfter .log) any [])
+              (leaving any [])
               ∙ (λ i. refusedOf session (says .refusal i)
-              (lent (site-memory-same i) (coordinator-memory-same i) (log-same i) any (given .out)))
+              (buffers (site-memory-same i) (coordinator-memory-same i) (log-same i) any
+              (given .out)))
               ∙ sym (rw (ne-eqb (drawRefusal call) 0 is-rule));
           few-bytes = λ none. absurd (is-rule none);
         }
@@ -141,10 +141,10 @@ module _ (session : Session) (step : Step) (given : Lent) (lentAfter : BatchLent
     written-is : answer .written ≡ length (batch .messages)
     written-is = done (answer .written) _ _ (says .written)
 
-    log-is : lentAfter .log ≡ overwrite (messageNumbers (batch .messages)) (given .log)
-    log-is = done (lentAfter .log) _ _ (says .log)
+    log-is : answer .log ≡ overwrite (messageNumbers (batch .messages)) (given .log)
+    log-is = done (answer .log) _ _ (says .log)
 
-    pub log-holds : messageWidth * answer .written ≤ length (lentAfter .log)
+    pub log-holds : messageWidth * answer .written ≤ length (answer .log)
     log-holds =
         let numbers = messageNumbers (batch .messages) in
         omega (
@@ -155,17 +155,17 @@ module _ (session : Session) (step : Step) (given : Lent) (lentAfter : BatchLent
           length-append numbers (drop (length numbers) (given .log)),
         )
 
-    pub messages-are : messagesIn (answer .written) (lentAfter .log) ≡ batch .messages
+    pub messages-are : messagesIn (answer .written) (answer .log) ≡ batch .messages
     messages-are =
         (λ i. messagesIn (written-is i) (log-is i)) ∙ messagesIn-written (batch .messages) _
 
-    abbrev taken : ℕ → Turn
+    abbrev taken : ℕ → Moved
     taken written = record {
       session = record {
         going = true;
         settings = session .settings;
-        sites = answer .sites;
-        coordinator = answer .coordinator;
+        sites = answer .held .sites;
+        coordinator = answer .held .coordinator;
         at = step .at;
         line = step .line;
       };
@@ -173,18 +173,16 @@ module _ (session : Session) (step : Step) (given : Lent) (lentAfter : BatchLent
     }
 
     pub draw-taken : (list after : List ℕ) (written : ℕ)
-        → MessagesWritten (lentAfter .log) (answer .written) (given .out) after written
-        → DrawSays session step given
-        (lent (lentAfter .siteMemory) (lentAfter .coordinatorMemory) (lentAfter .log) list after)
-        (taken written)
+        → MessagesWritten (answer .log) (answer .written) (given .out) after written
+        → DrawSays session step given (leaving list after) (taken written)
     draw-taken list after written lines =
         let all = lines .is
         ∙ ap (λ (messages : List Message). linesAfter (atStart (given .out)) (linesOf messages))
         messages-are in
-        let sites = done (answer .sites) _ _ (says .sites) in
-        let coordinator = done (answer .coordinator) _ _ (says .coordinator) in
-        let site-memory = done (lentAfter .siteMemory) _ _ (says .site-memory) in
-        let memory = done (lentAfter .coordinatorMemory) _ _ (says .coordinator-memory) in
+        let sites = done (answer .held .sites) _ _ (says .sites) in
+        let coordinator = done (answer .held .coordinator) _ _ (says .coordinator) in
+        let site-memory = done (answer .held .siteMemory) _ _ (says .site-memory) in
+        let memory = done (answer .held .coordinatorMemory) _ _ (says .coordinator-memory) in
         record {
           is = λ any.
               (λ i. outcome
@@ -199,7 +197,7 @@ module _ (session : Session) (step : Step) (given : Lent) (lentAfter : BatchLent
                 };
                 written = all i .place;
               })
-              (lent (site-memory i) (memory i) (log-is i) any (all i .out)))
+              (buffers (site-memory i) (memory i) (log-is i) any (all i .out)))
               ∙ sym (rw (eq-eqb (drawRefusal call) 0 (sym (says .refusal) ∙ none)));
           few-bytes = λ _.
               omega (

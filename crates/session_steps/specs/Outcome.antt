@@ -2,7 +2,8 @@
 -- A session that is refused writes the refusal's line and ends; all that it was lent but for the
 -- output is then as it was.
 --
---   Lent, Outcome                    what a call is lent; its answer, and what it leaves
+--   Buffers, Outcome                 what a call is lent; its answer, and what it leaves
+--   heldOf session ..                the session's records with both memories
 --   ended session written            the session goes on no more
 --   refusedOf session refusal given  the outcome of a refusal
 --   Refuses ..                       the promise of the call that makes it
@@ -11,23 +12,24 @@ use mathlib.Core.Bool.{false}
 use mathlib.Core.List.{List}
 use Prim.Native.Nat.{ℕ}
 use lib.ListN.{length}
+use Rattle.model.specs.Held.{Held, heldBy}
 use Rattle.model.specs.Transcript.{refusedLine}
 use Rattle.session_steps.specs.declared.Session.{Session}
-use Rattle.session_steps.specs.declared.Turn.{Turn}
 use Rattle.lines.specs.Contracts.{atStart, lineAfter}
+use Rattle.session_steps.specs.declared.Moved.{Moved}
 
 -- ---- What a call is lent, and what comes of it
 
--- `begin` is lent no log and no list: these are empty.
-pub record Lent : Type 0 where
+-- Both memories, log, list and output. `begin` is lent no log and no list: these are empty.
+pub record Buffers : Type 0 where
   pub siteMemory : List ℕ
   pub coordinatorMemory : List ℕ
   pub log : List ℕ
   pub list : List ℕ
   pub out : List ℕ
 
-abbrev pub lent : List ℕ → List ℕ → List ℕ → List ℕ → List ℕ → Lent
-lent siteMemory coordinatorMemory log list out = record {
+abbrev pub buffers : List ℕ → List ℕ → List ℕ → List ℕ → List ℕ → Buffers
+buffers siteMemory coordinatorMemory log list out = record {
   siteMemory = siteMemory;
   coordinatorMemory = coordinatorMemory;
   log = log;
@@ -35,23 +37,27 @@ lent siteMemory coordinatorMemory log list out = record {
   out = out;
 }
 
-abbrev pub withOut : Lent → List ℕ → Lent
-withOut given out =
-    lent (given .siteMemory) (given .coordinatorMemory) (given .log) (given .list) out
+-- What is held: the session's records, with both memories.
+abbrev pub heldOf : Session → List ℕ → List ℕ → Held
+heldOf session = heldBy (session .sites) (session .coordinator)
 
-abbrev pub withList : Lent → List ℕ → Lent
+abbrev pub withOut : Buffers → List ℕ → Buffers
+withOut given out =
+    buffers (given .siteMemory) (given .coordinatorMemory) (given .log) (given .list) out
+
+abbrev pub withList : Buffers → List ℕ → Buffers
 withList given list =
-    lent (given .siteMemory) (given .coordinatorMemory) (given .log) list (given .out)
+    buffers (given .siteMemory) (given .coordinatorMemory) (given .log) list (given .out)
 
 pub record Outcome : Type 0 where
-  pub turn : Turn
-  pub left : Lent
+  pub moved : Moved
+  pub left : Buffers
 
-abbrev pub outcome : Turn → Lent → Outcome
-outcome turn left = record { turn = turn; left = left }
+abbrev pub outcome : Moved → Buffers → Outcome
+outcome moved left = record { moved = moved; left = left }
 
 -- A slice keeps its length.
-pub record SameLengths (given left : Lent) : Type 0 where
+pub record SameLengths (given left : Buffers) : Type 0 where
   pub site-memory : length (left .siteMemory) ≡ length (given .siteMemory)
   pub coordinator-memory : length (left .coordinatorMemory) ≡ length (given .coordinatorMemory)
   pub log : length (left .log) ≡ length (given .log)
@@ -71,17 +77,17 @@ stopped session = record {
   line = session .line;
 }
 
-abbrev pub ended : Session → ℕ → Turn
+abbrev pub ended : Session → ℕ → Moved
 ended session written = record { session = stopped session; written = written }
 
 -- "On a refusal it writes `refused` and the number .., and stops."
-abbrev pub refusedOf : Session → ℕ → Lent → Outcome
+abbrev pub refusedOf : Session → ℕ → Buffers → Outcome
 refusedOf session refusal given =
     let written = lineAfter (atStart (given .out)) (refusedLine refusal) in
     outcome (ended session (written .place)) (withOut given (written .out))
 
 -- For whatever the call is not lent.
-pub record Refuses (session : Session) (refusal : ℕ) (before after : List ℕ) (answer : Turn)
+pub record Refuses (session : Session) (refusal : ℕ) (before after : List ℕ) (answer : Moved)
     : Type 0 where
-  pub is : (given : Lent)
+  pub is : (given : Buffers)
       → outcome answer (withOut given after) ≡ refusedOf session refusal (withOut given before)

@@ -23,22 +23,19 @@ use Rattle.lines.specs.Contracts.{countedLine, listedLine}
 use Rattle.listing.specs.Contracts.{listRefusal}
 use Rattle.tracker.specs.Batch.{BatchCall, startRefusal, batchIn, unlessRefused, sitesAfter, messageNumbers}
 use Rattle.session_steps.specs.declared.Session.{Session}
-use Rattle.session_steps.specs.declared.Turn.{Turn}
 use Rattle.lines.specs.Contracts.{atStart, linesAfter}
 use Rattle.session_steps.specs.Output.{linesOf}
-use Rattle.session_steps.specs.Outcome.{Lent, lent, withList, Outcome, outcome, ended, refusedOf}
+use Rattle.session_steps.specs.Outcome.{withList, Outcome, outcome, ended, refusedOf, Buffers, buffers, heldOf}
+use Rattle.session_steps.specs.declared.Moved.{Moved}
 
 -- ---- A line's draw
 
 -- A batch of the one arrival, on the session's records.
-abbrev pub drawCall : Session → Step → Lent → BatchCall
+abbrev pub drawCall : Session → Step → Buffers → BatchCall
 drawCall session step given = record {
   settings = session .settings;
-  sites = session .sites;
-  coordinator = session .coordinator;
+  held = heldOf session (given .siteMemory) (given .coordinatorMemory);
   arrivals = step .arrival ∷ [];
-  siteMemory = given .siteMemory;
-  coordinatorMemory = given .coordinatorMemory;
   log = given .log;
 }
 
@@ -48,7 +45,7 @@ drawRefusal call = unlessRefused call (batchIn call .refusal) (startRefusal call
 
 -- Records, both memories and the log as the batch leaves them, the lines of its messages in the
 -- output; the session stands behind the line.
-abbrev pub takenOf : Session → Step → Lent → Outcome
+abbrev pub takenOf : Session → Step → Buffers → Outcome
 takenOf session step given =
     let call = drawCall session step given in
     let batch = batchIn call in
@@ -65,18 +62,18 @@ takenOf session step given =
       };
       written = written .place;
     })
-    (lent (sitesMemory (session .settings) (batch .network .sites) (given .siteMemory))
+    (buffers (sitesMemory (session .settings) (batch .network .sites) (given .siteMemory))
     (coordinatorMemory (batch .network .coordinator) (given .coordinatorMemory))
     (overwrite (messageNumbers (batch .messages)) (given .log)) (given .list) (written .out))
 
-abbrev pub drawOf : Session → Step → Lent → Outcome
+abbrev pub drawOf : Session → Step → Buffers → Outcome
 drawOf session step given =
     let refusal = drawRefusal (drawCall session step given) in
     if isZero refusal then takenOf session step given else refusedOf session refusal given
 
 -- ---- The end of the worklist
 
-abbrev pub sessionCoordinator : Session → Lent → Coordinator
+abbrev pub sessionCoordinator : Session → Buffers → Coordinator
 sessionCoordinator session given =
     coordinatorIn (session .settings) (session .coordinator) (given .coordinatorMemory)
 
@@ -88,16 +85,16 @@ resultLinesOf session coordinator =
     ∷ (countedLine messagesWord (session .sites .messages) ∷ []))
 
 -- The list holds the listed items in its first places, and the output their line and the others.
-abbrev pub listedOf : Session → Lent → Outcome
+abbrev pub listedOf : Session → Buffers → Outcome
 listedOf session given =
     let coordinator = sessionCoordinator session given in
     let written = linesAfter (atStart (given .out)) (resultLinesOf session coordinator) in
     outcome (ended session (written .place))
-    (lent (given .siteMemory) (given .coordinatorMemory) (given .log)
+    (buffers (given .siteMemory) (given .coordinatorMemory) (given .log)
     (overwrite (heavyHitters (session .settings) coordinator) (given .list)) (written .out))
 
 -- 1, 2, 3, 4, 11, 12 of the list call, or the results.
-abbrev pub resultsOf : Session → Lent → Outcome
+abbrev pub resultsOf : Session → Buffers → Outcome
 resultsOf session given =
     let refusal = listRefusal (session .settings) (session .coordinator)
     (given .coordinatorMemory) (length (given .list)) in
@@ -110,16 +107,16 @@ abbrev pub FewBytes : Batch → Type 0
 FewBytes batch = length (messageLines (batch .messages)) ≤ 84 * length (batch .messages)
 
 -- Whatever list there is.
-pub record DrawSays (session : Session) (step : Step) (given left : Lent) (answer : Turn) : Type 0
-  where
-    pub is : (list : List ℕ)
-        → outcome answer (withList left list) ≡ drawOf session step (withList given list)
-    pub few-bytes : drawRefusal (drawCall session step given) ≡ accepted
-        → FewBytes (batchIn (drawCall session step given))
+pub record DrawSays (session : Session) (step : Step) (given left : Buffers) (answer : Moved)
+    : Type 0 where
+  pub is : (list : List ℕ)
+      → outcome answer (withList left list) ≡ drawOf session step (withList given list)
+  pub few-bytes : drawRefusal (drawCall session step given) ≡ accepted
+      → FewBytes (batchIn (drawCall session step given))
 
 -- Whatever site memory and log there are.
 pub record Finishes (session : Session) (memory listBefore before listAfter after : List ℕ)
-    (answer : Turn) : Type 0 where
+    (answer : Moved) : Type 0 where
   pub is : (siteMemory log : List ℕ)
-      → outcome answer (lent siteMemory memory log listAfter after)
-      ≡ resultsOf session (lent siteMemory memory log listBefore before)
+      → outcome answer (buffers siteMemory memory log listAfter after)
+      ≡ resultsOf session (buffers siteMemory memory log listBefore before)

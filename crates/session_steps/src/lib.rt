@@ -8,7 +8,7 @@ ghost use Prim.Native.Nat.{_*_, _≤_};
 ghost use lib.ListN.{length};
 ghost use Rattle.model.specs.Messages.{messageWidth};
 ghost use Rattle.session_steps.specs.Output.{MessagesWritten};
-ghost use Rattle.session_steps.specs.Outcome.{lent, ended, Refuses};
+ghost use Rattle.session_steps.specs.Outcome.{buffers, ended, Refuses};
 ghost use Rattle.session_steps.specs.Steps.{DrawSays, Finishes};
 use model::ACCEPTED;
 use model::CoordinatorRecord;
@@ -30,7 +30,7 @@ pub struct Session {
 }
 
 // A session after a call, and how many bytes of the output the call wrote.
-pub struct Turn {
+pub struct Moved {
     pub session: Session,
     pub written: usize,
 }
@@ -52,19 +52,19 @@ fn put_messages(log: &[u64], count: usize, out: &mut [u8]) -> usize
 }
 
 // A session that has ended, after so many bytes.
-fn stop(session: Session, written: usize) -> Turn
+fn stop(session: Session, written: usize) -> Moved
     ensures { λ r. ⌜ r ≡ ended session written ⌝ }
 {
     let mut ended = session;
     ended.going = false;
-    Turn {
+    Moved {
         session: ended,
         written: written,
     }
 }
 
 // A refusal ends the session with its line.
-pub fn refuse(session: Session, refusal: u32, out: &mut [u8]) -> Turn
+pub fn refuse(session: Session, refusal: u32, out: &mut [u8]) -> Moved
     ensures { λ r. ⌜ Refuses session refusal (now (out .entry)) (now (out .exit)) r ⌝ }
 {
     let written = transcript::write_refused(refusal, out, 0);
@@ -79,10 +79,10 @@ pub fn take_draw(
     coordinator_memory: &mut [u64],
     log: &mut [u64],
     out: &mut [u8],
-) -> Turn
-    ensures { λ r. ⌜ DrawSays session step (lent (now («site_memory» .entry))
+) -> Moved
+    ensures { λ r. ⌜ DrawSays session step (buffers (now («site_memory» .entry))
         (now («coordinator_memory» .entry)) (now (log .entry)) [] (now (out .entry)))
-        (lent (now («site_memory» .exit)) (now («coordinator_memory» .exit)) (now (log .exit)) []
+        (buffers (now («site_memory» .exit)) (now («coordinator_memory» .exit)) (now (log .exit)) []
         (now (out .exit))) r ⌝ }
 {
     let settings = session.settings;
@@ -112,7 +112,7 @@ pub fn take_draw(
         at: step.at,
         line: step.line,
     };
-    Turn {
+    Moved {
         session: next,
         written: written,
     }
@@ -120,7 +120,7 @@ pub fn take_draw(
 
 // Writes the results and ends: the list, the class and the count of messages, or why there is no
 // list.
-pub fn finish(session: Session, memory: &[u64], list: &mut [u32], out: &mut [u8]) -> Turn
+pub fn finish(session: Session, memory: &[u64], list: &mut [u32], out: &mut [u8]) -> Moved
     ensures { λ r. ⌜ Finishes session (now (memory .entry)) (now (list .entry)) (now (out .entry))
         (now (list .exit)) (now (out .exit)) r ⌝ }
 {

@@ -19,7 +19,7 @@ use Rattle.model.specs.SiteMemory.{siteIn, siteMemoryRefusal}
 use Rattle.model.proofs.RefusalLaws.{both-accepted, passed}
 use Rattle.site_memory.proofs.ReadyLaws.{step-ready}
 use Rattle.site_steps.specs.declared.Observed.{Observed}
-use Rattle.site_steps.specs.declared.Answered.{Answered}
+use Rattle.site_steps.specs.declared.Replied.{Replied}
 use Rattle.site_steps.specs.Steps.{ObserveAsks, ObserveStepSays, ReceiveAsks, ReceiveStepSays}
 use Rattle.site_steps.proofs.ReceiveLaws.{message-due}
 use Rattle.site.specs.Calls.{observeRefusal, ObserveSays, receiveRefusal, ReceiveSays}
@@ -94,7 +94,7 @@ module _
         value-known = due .value-known;
       }
 
-  pub receive-accepted : (answer : Answered)
+  pub receive-accepted : (answer : Replied)
       → receiveRefusal settings numbers which m memory ≡ accepted
       → ReceiveStepSays settings numbers m memory answer
       → ReceiveSays settings numbers which m memory answer

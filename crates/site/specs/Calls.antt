@@ -23,7 +23,7 @@ use Rattle.model.specs.Site.{SiteStep, arrivalRefusal, observed, siteMessageRef
 use Rattle.model.specs.SiteMemory.{siteIn, siteRecord, siteMemory, siteMemoryRefusal, overwrite}
 use Rattle.model.specs.NetworkMemory.{sitesWords, freshSites}
 use Rattle.site_steps.specs.declared.Observed.{Observed}
-use Rattle.site_steps.specs.declared.Answered.{Answered}
+use Rattle.site_steps.specs.declared.Replied.{Replied}
 use Rattle.site.specs.declared.StartedSites.{StartedSites}
 
 -- ---- Starting all sites
@@ -112,7 +112,7 @@ pub record ReceiveSays
     (which : ℕ)
     (m : Message)
     (memory : List ℕ)
-    (answer : Answered) : Type 0 where
+    (answer : Replied) : Type 0 where
   pub refusal : answer .refusal ≡ receiveRefusal settings numbers which m memory
   pub site : answer .site
       ≡ (if isZero (receiveRefusal settings numbers which m memory)

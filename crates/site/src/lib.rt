@@ -20,8 +20,8 @@ use model::SiteRecord;
 use model::Sites;
 use model::UNKNOWN_SITE;
 use model::Word;
-use site_steps::Answered;
 use site_steps::Observed;
+use site_steps::Replied;
 
 // All sites started: why that was refused, if it was, and fresh records in every case.
 pub struct StartedSites {
@@ -90,13 +90,13 @@ pub fn receive(
     which: u32,
     message: Message,
     memory: &[Word],
-) -> Answered
+) -> Replied
     ensures { λ r. ⌜ ReceiveSays settings site which message (now (memory .entry)) r ⌝ }
 {
     let refusal = receive_refusal(settings, site, which, message, memory);
     if refusal != ACCEPTED {
         let none = no_message();
-        return Answered {
+        return Replied {
             refusal: refusal,
             site: site,
             count: 0,

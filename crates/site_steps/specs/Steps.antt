@@ -25,7 +25,7 @@ use Rattle.counters.specs.declared.StoredCounter.{StoredCounter}
 use Rattle.counters.specs.Stored.{counterOf}
 use Rattle.site_memory.specs.Ready.{StepReady}
 use Rattle.site_steps.specs.declared.Observed.{Observed}
-use Rattle.site_steps.specs.declared.Answered.{Answered}
+use Rattle.site_steps.specs.declared.Replied.{Replied}
 use Rattle.site_steps.specs.declared.StoredArrival.{StoredArrival}
 
 -- ---- Parts of an arrival
@@ -135,7 +135,7 @@ pub record ReceiveStepSays
     (numbers : SiteRecord)
     (m : Message)
     (memory : List ℕ)
-    (answer : Answered) : Type 0 where
+    (answer : Replied) : Type 0 where
   pub refusal : answer .refusal ≡ accepted
   pub site : answer .site ≡ siteRecord (receivedIn settings numbers m memory .site)
   pub count : answer .count ≡ length (receivedIn settings numbers m memory .messages)

@@ -37,7 +37,7 @@ pub struct Observed {
 }
 
 // What a message leads to: the site's record then, and the reply, if `count` is 1.
-pub struct Answered {
+pub struct Replied {
     pub refusal: u32,
     pub site: SiteRecord,
     pub count: u32,
@@ -200,7 +200,7 @@ pub fn receive_step(
     site: SiteRecord,
     message: Message,
     memory: &[Word],
-) -> Answered
+) -> Replied
     requires { ⌜ ReceiveAsks settings site message (now memory) ⌝ }
     ensures { λ r. ⌜ ReceiveStepSays settings site message (now (memory .entry)) r ⌝ }
 {
@@ -211,7 +211,7 @@ pub fn receive_step(
             threshold: site.threshold,
             used: site.used,
         };
-        return Answered {
+        return Replied {
             refusal: ACCEPTED,
             site: after,
             count: 1,
@@ -222,7 +222,7 @@ pub fn receive_step(
         let from = 4 * (settings.capacity as usize);
         let value = message.a as usize;
         let count = site_memory::count_up_to(memory, from, value);
-        return Answered {
+        return Replied {
             refusal: ACCEPTED,
             site: site,
             count: 1,
@@ -235,7 +235,7 @@ pub fn receive_step(
         threshold: message.a,
         used: site.used,
     };
-    Answered {
+    Replied {
         refusal: ACCEPTED,
         site: after,
         count: 0,

@@ -6,9 +6,8 @@ use Rattle.model.specs.declared.Settings.{Settings}
 use Rattle.model.specs.declared.Arrival.{Arrival}
 use Rattle.model.specs.declared.Sites.{Sites}
 use Rattle.model.specs.declared.CoordinatorRecord.{CoordinatorRecord}
-use Rattle.history.specs.State.{Held}
+use Rattle.model.specs.Held.{Held, heldBy}
 use Rattle.public_delivery.specs.declared.DeliveryAnswer.{DeliveryAnswer}
-use Rattle.public_delivery.specs.Progress.{heldBy}
 use Rattle.public_delivery.specs.Delivery.{DeliverySays}
 use Rattle.record_numbers.specs.Numbers.{settingsFrom, sitesFrom, coordinatorFrom}
 

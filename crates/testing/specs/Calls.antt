@@ -17,7 +17,7 @@ use Rattle.model.specs.Choice.{if_then_else_, isZero}
 use Rattle.model.specs.Reading.{margin}
 use Rattle.model.specs.CoordinatorMemory.{coordinatorIn, coordinatorMemoryRefusal}
 use Rattle.site_steps.specs.declared.Observed.{Observed}
-use Rattle.site_steps.specs.declared.Answered.{Answered}
+use Rattle.site_steps.specs.declared.Replied.{Replied}
 use Rattle.site.specs.declared.StartedSites.{StartedSites}
 use Rattle.site.specs.Calls.{startRefusal, observeRefusal, receiveRefusal, StartSays, ObserveSays, ReceiveSays}
 use Rattle.coordinator.specs.declared.StartedCoordinator.{StartedCoordinator}
@@ -83,19 +83,19 @@ ObserveExported settings arrival site memory out answer =
     (Kept (lent site ∷ (lent memory ∷ (lent out ∷ []))) answer)
 
 -- A message at a site: 5 numbers for the reply and how many there are.
-abbrev pub HandsAnswered : Settings → ℕ → Message → List ℕ → Lent → Lent → ℕ → Type 0
-HandsAnswered settings which m memory site out =
-    Hands Answered
+abbrev pub HandsReplied : Settings → ℕ → Message → List ℕ → Lent → Lent → ℕ → Type 0
+HandsReplied settings which m memory site out =
+    Hands Replied
     (receiveRefusal settings (siteFrom (site .before)) which m memory)
     (ReceiveSays settings (siteFrom (site .before)) which m memory)
-    (λ (answered : Answered). WritesBoth (siteNumbers (answered .site)) site
+    (λ (answered : Replied). WritesBoth (siteNumbers (answered .site)) site
     (oneMessage (answered .count) (answered .reply)) out)
 
 abbrev pub ReplyExported : Slice → ℕ → Message → Slice → Slice → Slice → ℕ → Type 0
 ReplyExported settings which m memory site out answer =
     Exported
     (siteLent (given settings) (given site) (length (given out)) 5)
-    (HandsAnswered (settingsFrom (given settings)) which m (given memory) (lent site) (lent out)
+    (HandsReplied (settingsFrom (given settings)) which m (given memory) (lent site) (lent out)
     answer)
     (Kept (lent site ∷ (lent out ∷ [])) answer)
 

@@ -2,16 +2,15 @@
 --
 --   DeliveryLends                 all that is lent to be changed
 --   DeliveryAsks                  what the call is told of it
---   heldBefore, heldAfter         records and memory, as a history has them
+--   heldBefore, heldLeft         records and memory, as a history has them
 --   DeliveryExported ..           the promise
 use mathlib.Core.Path.{_≡_}
 use mathlib.Core.List.{List, [], _∷_}
 use Prim.Native.Nat.{ℕ, _≤_}
 use lib.ListN.{length}
 use Rattle.model.specs.declared.Arrival.{Arrival}
-use Rattle.history.specs.State.{Held}
+use Rattle.model.specs.Held.{Held, heldBy}
 use Rattle.public_delivery.specs.declared.DeliveryAnswer.{DeliveryAnswer}
-use Rattle.public_delivery.specs.Progress.{heldBy}
 use Rattle.public_delivery.specs.Delivery.{deliveryRefusal, DeliverySays}
 use Rattle.record_numbers.specs.Numbers.{greatestNarrow, greatestHeld, settingsFrom, sitesFrom, sitesNumbers, coordinatorFrom, coordinatorNumbers}
 use Rattle.testing_numbers.specs.Openings.{Slice, Lent, lent, networkLent, Writes, Kept, Exported}
@@ -53,8 +52,8 @@ heldBefore lends =
     (lends .siteMemory .before) (lends .coordinatorMemory .before)
 
 -- The records of the answer, and the memory as it is left.
-abbrev pub heldAfter : DeliveryLends → DeliveryAnswer → Held
-heldAfter lends done =
+abbrev pub heldLeft : DeliveryLends → DeliveryAnswer → Held
+heldLeft lends done =
     heldBy (done .sites) (done .coordinator)
     (lends .siteMemory .after) (lends .coordinatorMemory .after)
 
@@ -64,7 +63,7 @@ pub record HandsDelivery (settings : List ℕ) (arrival : Arrival) (lends : Deli
   pub refusal : answer ≡ deliveryRefusal (settingsFrom settings) (heldBefore lends) arrival
   pub done : DeliveryAnswer
   pub says : DeliverySays (settingsFrom settings) arrival (heldBefore lends)
-      (heldAfter lends done) done
+      (heldLeft lends done) done
   pub sites-are : Writes (sitesNumbers (done .sites)) (lends .sites)
   pub coordinator-is : Writes (coordinatorNumbers (done .coordinator)) (lends .coordinator)
   pub out-is : Writes (done .carried ∷ (done .stopped ∷ [])) (lends .out)

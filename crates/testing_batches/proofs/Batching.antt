@@ -75,7 +75,7 @@ closes-ask {settings} {sites} {coordinator} {out} {opening} opens =
 
 -- Where what is lent does not fit, the tracker's call is refused and the numbers stay.
 kept-all : (arrivals : List Arrival) (lends : BatchLends) (done : BatchAnswer) (answer : ℕ)
-    → BatchSays (callOf noOpening arrivals lends) (leftBy lends) done
+    → BatchSays (callOf noOpening arrivals lends) (leftBy done lends)
     → Closes false done (lends .sites) (lends .coordinator) (lends .out) answer
     → Kept (allLent lends) answer
 kept-all arrivals lends done answer says closes =
@@ -94,7 +94,7 @@ pub batch-exported : (settings : List ℕ) (arrivals : List Arrival) (lends : Ba
     (sites coordinator : List ℕ) (opening : Opening) (done : BatchAnswer) (answer : ℕ)
     → Opens settings (change (lends .sites .before) sites)
     (change (lends .coordinator .before) coordinator) (length (lends .out .before)) opening
-    → BatchSays (callOf opening arrivals lends) (leftBy lends) done
+    → BatchSays (callOf opening arrivals lends) (leftBy done lends)
     → Closes (opening .fits) done (change sites (lends .sites .after))
     (change coordinator (lends .coordinator .after)) (lends .out) answer
     → BatchExports settings arrivals lends answer
@@ -104,14 +104,14 @@ batch-exported settings arrivals lends sites coordinator opening done answer ope
           let is : opening ≡ openingOf settings first second = rw fit at (opens .opening-is) in
           record {
             done = done;
-            says = subst (λ (o : Opening). BatchSays (callOf o arrivals lends) (leftBy lends) done)
+            says = subst (λ (o : Opening). BatchSays (callOf o arrivals lends) (leftBy done lends))
                 is says;
             hands = closed (openingOf settings first second) is .handed refl;
           };
       kept = λ unfit.
           let is : opening ≡ noOpening = rw unfit at (opens .opening-is) in
           kept-all arrivals lends done answer
-          (subst (λ (o : Opening). BatchSays (callOf o arrivals lends) (leftBy lends) done) is says)
+          (subst (λ (o : Opening). BatchSays (callOf o arrivals lends) (leftBy done lends)) is says)
           (closed noOpening is);
     }
   where

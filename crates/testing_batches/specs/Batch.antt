@@ -14,8 +14,9 @@ use denote.Ref.{RefT, now}
 use denote.Triple.Both.{Both}
 use Rattle.model.specs.declared.Arrival.{Arrival}
 use Rattle.model.specs.Choice.{if_then_else_}
+use Rattle.model.specs.Held.{heldBy}
 use Rattle.tracker_steps.specs.declared.BatchAnswer.{BatchAnswer}
-use Rattle.tracker.specs.Batch.{BatchCall, BatchLent, BatchSays}
+use Rattle.tracker.specs.Batch.{BatchCall, BatchHeld, batchHeld, BatchSays}
 use Rattle.testing_batches.specs.declared.Opening.{Opening}
 use Rattle.record_numbers.specs.Numbers.{settingsFrom, sitesFrom, sitesNumbers, coordinatorFrom, coordinatorNumbers}
 use Rattle.testing_numbers.specs.Answers.{zeroSettings, zeroSites, zeroCoordinator}
@@ -111,27 +112,23 @@ allLent lends =
 abbrev pub callOf : Opening → List Arrival → BatchLends → BatchCall
 callOf opening arrivals lends = record {
   settings = opening .settings;
-  sites = opening .sites;
-  coordinator = opening .coordinator;
+  held = heldBy (opening .sites) (opening .coordinator) (lends .siteMemory .before)
+      (lends .coordinatorMemory .before);
   arrivals = arrivals;
-  siteMemory = lends .siteMemory .before;
-  coordinatorMemory = lends .coordinatorMemory .before;
   log = lends .log .before;
 }
 
--- What it leaves in lent memory.
-abbrev pub leftBy : BatchLends → BatchLent
-leftBy lends = record {
-  siteMemory = lends .siteMemory .after;
-  coordinatorMemory = lends .coordinatorMemory .after;
-  log = lends .log .after;
-}
+-- What it answers, with what it leaves in lent memory.
+abbrev pub leftBy : BatchAnswer → BatchLends → BatchHeld
+leftBy done lends =
+    batchHeld done (lends .siteMemory .after) (lends .coordinatorMemory .after)
+    (lends .log .after)
 
 -- The records go back to their numbers, both counts to `out`.
 pub record HandsBatch (opening : Opening) (arrivals : List Arrival) (lends : BatchLends)
     (answer : ℕ) : Type 0 where
   pub done : BatchAnswer
-  pub says : BatchSays (callOf opening arrivals lends) (leftBy lends) done
+  pub says : BatchSays (callOf opening arrivals lends) (leftBy done lends)
   pub hands : HandsNumbers done (lends .sites) (lends .coordinator) (lends .out) answer
 
 abbrev pub BatchExports : List ℕ → List Arrival → BatchLends → ℕ → Type 0

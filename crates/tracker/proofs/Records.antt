@@ -28,7 +28,7 @@ use denote.Struct.Struct.{AreAll}
 use denote.Struct.Laws as LL
 use Rattle.model.specs.declared.SiteRecord.{SiteRecord}
 use Rattle.model.specs.Limits.{mostSites}
-use Rattle.site_memory.specs.Records.{noRecord}
+use Rattle.model.specs.Held.{noRecord}
 use Rattle.tracker_steps.specs.declared.BatchAnswer.{BatchAnswer}
 use Rattle.tracker_steps.specs.declared.Turn.{Turn}
 use Rattle.tracker_steps.specs.Turns.{counted}

@@ -1,13 +1,13 @@
--- The batch call arrival by arrival: what holds of answer and lent memory when some arrivals are
--- still to come, from the start of the call to its end.
+-- The batch call arrival by arrival: what is held when some arrivals are still to come, from the
+-- start of the call to its end.
 --
---   givenOf call                     what the call was given
+--   givenOf call, openedIn call      what the call was given, and what it holds before an arrival
 --   batchRest, batchRest-on          the batch with the arrivals still to come
 --   Walked                           either refused when it started, or a batch that goes on
---   walked-start, walked-open, walked-step   from the start on, arrival by arrival
+--   walked-open, walked-step         from the start on, arrival by arrival
 --   walked-asks                      what one arrival asks
 --   walked-done, walked-stopped      the end: no arrival is left, or one was refused
-use mathlib.Core.Path.{_≡_, refl, sym, ap, _∙_}
+use mathlib.Core.Path.{_≡_, refl, sym, ap, _∙_, subst⁻¹}
 use mathlib.Core.Bool.{Bool, true, false}
 use mathlib.Core.List.{List, [], _∷_, _++_, append-nil}
 use Prim.Native.Nat.{ℕ, _+_}
@@ -20,32 +20,28 @@ use Rattle.model.specs.declared.Arrival.{Arrival}
 use Rattle.model.specs.Choice.{if_then_else_, isZero}
 use Rattle.model.specs.Refusals.{accepted}
 use Rattle.model.specs.Network.{Network}
-use Rattle.model.specs.NetworkMemory.{networkIn}
 use Rattle.model.specs.Runs.{Batch, batchFrom, freshBatch}
 use Rattle.coordinator_kinds.proofs.MemoryLaws.{memory-kept}
-use Rattle.site_memory.specs.Records.{noRecord}
 use Rattle.site_memory.proofs.SitesReading.{siteRecords-sitesIn, sitesMemory-sitesIn}
+use Rattle.model.specs.Held.{Held, noRecord, networkOf}
 use Rattle.sending.specs.Log.{logRoom}
-use Rattle.delivery.specs.Holding.{Given}
+use Rattle.delivery.specs.Holding.{WithLog}
 use Rattle.network_tests.proofs.SoundLaws.{Passing, passing}
 use Rattle.tracker_steps.specs.declared.BatchAnswer.{BatchAnswer}
-use Rattle.tracker.specs.Batch.{BatchCall, BatchLent, startRefusal, batchIn, BatchSays}
-use Rattle.tracker_steps.specs.Steps.{opened, OpenSays, oneRefusal, batchOne, BatchHolds, BatchReady, OneAsks, OneSays, lentOf}
+use Rattle.tracker.specs.Batch.{BatchCall, BatchHeld, batchHeld, startRefusal, batchIn, BatchSays}
+use Rattle.tracker_steps.specs.Steps.{opened, OpenSays, oneRefusal, batchOne, BatchHolds, BatchReady, OneAsks, OneSays}
 use Rattle.tracker_steps.proofs.BatchLaws.{ready-next}
 
 -- ---- The batch with the arrivals still to come
 
-abbrev pub givenOf : BatchCall → Given
-givenOf call = record {
-  records = call .sites .records;
-  messages = call .sites .messages;
-  siteMemory = call .siteMemory;
-  coordinatorMemory = call .coordinatorMemory;
-  log = call .log;
-}
+abbrev pub givenOf : BatchCall → WithLog
+givenOf call = record { held = call .held; log = call .log }
 
-abbrev pub lentIn : BatchCall → BatchLent
-lentIn call = lentOf (call .siteMemory) (call .coordinatorMemory) (call .log)
+-- Before the first arrival.
+abbrev pub openedIn : BatchCall → ℕ → BatchHeld
+openedIn call refusal =
+    batchHeld (opened refusal (call .held .sites) (call .held .coordinator))
+    (call .held .siteMemory) (call .held .coordinatorMemory) (call .log)
 
 abbrev pub batchRest : Settings → ℕ → Batch → List Arrival → Batch
 batchRest settings room batch rest =
@@ -70,60 +66,57 @@ batchRest-on settings room batch arrival rest goes =
 
 -- ---- The call so far
 
-pub record Goes (call : BatchCall) (rest : List Arrival) (answer : BatchAnswer) (lent : BatchLent)
-    : Type 0 where
+pub record Goes (call : BatchCall) (rest : List Arrival) (now : BatchHeld) : Type 0 where
   pub start-accepted : startRefusal call ≡ accepted
   pub batch : Batch
-  pub holds : BatchHolds (call .settings) (givenOf call) batch answer lent
+  pub holds : BatchHolds (call .settings) (givenOf call) batch now
   pub ready : batch .refusal ≡ accepted → BatchReady (call .settings) (givenOf call) batch
   pub comes-to : batchRest (call .settings) (logRoom (call .log)) batch rest ≡ batchIn call
 
-pub record Refused (call : BatchCall) (answer : BatchAnswer) (lent : BatchLent) : Type 0 where
+pub record Refused (call : BatchCall) (now : BatchHeld) : Type 0 where
   pub start-refused : startRefusal call ≡ accepted → ⊥
-  pub answer-is : answer ≡ opened (startRefusal call) (call .sites) (call .coordinator)
-  pub lent-is : lent ≡ lentIn call
+  pub now-is : now ≡ openedIn call (startRefusal call)
 
-pub data Walked (call : BatchCall) (rest : List Arrival) (answer : BatchAnswer) (lent : BatchLent)
-    : Type 0 where
-  refused : Refused call answer lent → Walked call rest answer lent
-  goes : Goes call rest answer lent → Walked call rest answer lent
+pub data Walked (call : BatchCall) (rest : List Arrival) (now : BatchHeld) : Type 0 where
+  refused : Refused call now → Walked call rest now
+  goes : Goes call rest now → Walked call rest now
 
 -- ---- The start
 
 module _ (call : BatchCall) (none : startRefusal call ≡ accepted) where
-  abbrev network : Network
-  network =
-      networkIn (call .settings) (call .sites) (call .coordinator) (call .siteMemory)
-      (call .coordinatorMemory)
+  abbrev given : Held
+  given = call .held
 
-  pub passes : Passing (call .settings) (call .sites) (call .coordinator) (call .siteMemory)
-      (call .coordinatorMemory)
+  abbrev network : Network
+  network = networkOf (call .settings) given
+
+  pub passes : Passing (call .settings) (given .sites) (given .coordinator) (given .siteMemory)
+      (given .coordinatorMemory)
   passes =
-      passing (call .settings) (call .sites) (call .coordinator) (call .siteMemory)
-      (call .coordinatorMemory) none
+      passing (call .settings) (given .sites) (given .coordinator) (given .siteMemory)
+      (given .coordinatorMemory) none
 
   -- What was given, read and written again, is what was given.
-  holds-first : (answer : BatchAnswer)
-      → answer ≡ opened accepted (call .sites) (call .coordinator)
-      → BatchHolds (call .settings) (givenOf call) (freshBatch network) answer (lentIn call)
-  holds-first answer is = rw is (record {
+  holds-first : BatchHolds (call .settings) (givenOf call) (freshBatch network)
+      (openedIn call accepted)
+  holds-first = record {
     refusal = refl;
     accepted = refl;
     holds = record {
       records = sym (siteRecords-sitesIn (call .settings .sites) (call .settings)
-          (call .sites .records) (call .siteMemory));
+          (given .sites .records) (given .siteMemory));
       counted = omega arith;
       coordinator = refl;
       written = refl;
       waiting = refl;
       site-memory = sym (sitesMemory-sitesIn noRecord (call .settings .sites) (call .settings)
-          (call .sites .records) (call .siteMemory) (passes .few-counters) (passes .all-records)
-          (passes .fits .sites-fit .long-enough));
-      coordinator-memory = memory-kept (call .settings) (call .coordinator)
-          (call .coordinatorMemory) (passes .fits .coordinator-long);
+          (given .sites .records) (given .siteMemory) (passes .few-counters)
+          (passes .all-records) (passes .fits .sites-fit .long-enough));
+      coordinator-memory = memory-kept (call .settings) (given .coordinator)
+          (given .coordinatorMemory) (passes .fits .coordinator-long);
       log = refl;
     };
-  })
+  }
 
   ready-first : BatchReady (call .settings) (givenOf call) (freshBatch network)
   ready-first = record {
@@ -140,44 +133,43 @@ module _ (call : BatchCall) (none : startRefusal call ≡ accepted) where
     messages-within = omega arith;
   }
 
-pub walked-start : (call : BatchCall) (answer : BatchAnswer)
-    → answer ≡ opened (startRefusal call) (call .sites) (call .coordinator)
-    → Walked call (call .arrivals) answer (lentIn call)
-walked-start call answer is = by-refusal (ℕ-discrete (startRefusal call) 0)
+walked-start : (call : BatchCall)
+    → Walked call (call .arrivals) (openedIn call (startRefusal call))
+walked-start call = by-refusal (ℕ-discrete (startRefusal call) 0)
   where
-    by-refusal : Dec (startRefusal call ≡ 0) → Walked call (call .arrivals) answer (lentIn call)
+    by-refusal : Dec (startRefusal call ≡ 0)
+        → Walked call (call .arrivals) (openedIn call (startRefusal call))
     by-refusal (yes none) = goes (record {
       start-accepted = none;
       batch = freshBatch (network call none);
-      holds = holds-first call none answer
-          (is ∙ ap (λ (n : ℕ). opened n (call .sites) (call .coordinator)) none);
+      holds = subst⁻¹ (λ (n : ℕ).
+          BatchHolds (call .settings) (givenOf call) (freshBatch (network call none))
+          (openedIn call n)) none (holds-first call none);
       ready = λ _. ready-first call none;
       comes-to = refl;
     })
-    by-refusal (no some) =
-        refused (record { start-refused = some; answer-is = is; lent-is = refl })
+    by-refusal (no some) = refused (record { start-refused = some; now-is = refl })
 
 -- The memory as the start's tests left it, which only read it.
 pub walked-open : (call : BatchCall) (answer : BatchAnswer) (siteMemory coordinatorMemory : List ℕ)
-    → OpenSays (call .settings) (call .sites) (call .coordinator) (call .siteMemory)
-    (call .coordinatorMemory) answer siteMemory coordinatorMemory
-    → Walked call (call .arrivals) answer (lentOf siteMemory coordinatorMemory (call .log))
+    → OpenSays (call .settings) (call .held .sites) (call .held .coordinator)
+    (call .held .siteMemory) (call .held .coordinatorMemory) answer siteMemory coordinatorMemory
+    → Walked call (call .arrivals) (batchHeld answer siteMemory coordinatorMemory (call .log))
 walked-open call answer siteMemory coordinatorMemory says =
-    rw (says .site-memory-kept, says .coordinator-memory-kept)
-    (walked-start call answer (says .answered))
+    rw (says .site-memory-kept, says .coordinator-memory-kept, says .answered) (walked-start call)
 
 -- ---- Arrival by arrival
 
-module _ {call : BatchCall} {answer : BatchAnswer} {lent : BatchLent} where
+module _ {call : BatchCall} {now : BatchHeld} where
   -- A call that was refused when it started has that refusal.
-  not-refused : Refused call answer lent → answer .refusal ≡ accepted → ⊥
+  not-refused : Refused call now → now .refusal ≡ accepted → ⊥
   not-refused failed none =
       failed .start-refused
-      (sym (ap (λ (a : BatchAnswer). a .refusal) (failed .answer-is)) ∙ none)
+      (sym (ap (λ (n : BatchHeld). n .refusal) (failed .now-is)) ∙ none)
 
-  abbrev asks-of : {rest : List Arrival} (on : Goes call rest answer lent)
-      → answer .refusal ≡ accepted
-      → OneAsks (call .settings) answer lent
+  abbrev asks-of : {rest : List Arrival} (on : Goes call rest now)
+      → now .refusal ≡ accepted
+      → OneAsks (call .settings) now
   asks-of on none = record {
     given = givenOf call;
     batch = on .batch;
@@ -185,18 +177,17 @@ module _ {call : BatchCall} {answer : BatchAnswer} {lent : BatchLent} where
     holds = on .holds;
   }
 
-  pub walked-asks : {rest : List Arrival} → Walked call rest answer lent
-      → answer .refusal ≡ accepted
-      → OneAsks (call .settings) answer lent
+  pub walked-asks : {rest : List Arrival} → Walked call rest now
+      → now .refusal ≡ accepted
+      → OneAsks (call .settings) now
   walked-asks (refused failed) none = absurd (not-refused failed none)
   walked-asks (goes on) none = asks-of on none
 
-  pub walked-step : {arrival : Arrival} {rest : List Arrival} {next : BatchAnswer}
-      {lent-then : BatchLent}
-      → Walked call (arrival ∷ rest) answer lent
-      → answer .refusal ≡ accepted
-      → OneSays (call .settings) arrival answer lent next lent-then
-      → Walked call rest next lent-then
+  pub walked-step : {arrival : Arrival} {rest : List Arrival} {next : BatchHeld}
+      → Walked call (arrival ∷ rest) now
+      → now .refusal ≡ accepted
+      → OneSays (call .settings) arrival now next
+      → Walked call rest next
   walked-step (refused failed) none says = absurd (not-refused failed none)
   walked-step {arrival} {rest} (goes on) none says =
       let u = asks-of on none in
@@ -228,11 +219,11 @@ module _ {call : BatchCall} {answer : BatchAnswer} {lent : BatchLent} where
 
 -- ---- The end
 
-module _ {call : BatchCall} {answer : BatchAnswer} {lent : BatchLent} where
-  says-refused : Refused call answer lent → BatchSays call lent answer
+module _ {call : BatchCall} {now : BatchHeld} where
+  says-refused : Refused call now → BatchSays call now
   says-refused failed =
       let test = ne-eqb (startRefusal call) 0 (failed .start-refused) in
-      rw (failed .answer-is, failed .lent-is) (record {
+      rw (failed .now-is) (record {
         refusal = rw test;
         accepted = rw test;
         written = rw test;
@@ -245,16 +236,17 @@ module _ {call : BatchCall} {answer : BatchAnswer} {lent : BatchLent} where
 
   says-batch : startRefusal call ≡ accepted
       → (batch : Batch)
-      → BatchHolds (call .settings) (givenOf call) batch answer lent
+      → BatchHolds (call .settings) (givenOf call) batch now
       → batch ≡ batchIn call
-      → BatchSays call lent answer
+      → BatchSays call now
   says-batch none batch holds is =
       let test = eq-eqb (startRefusal call) 0 none in
       let all : batch .messages ++ [] ≡ batch .messages = append-nil (batch .messages) in
       let records = holds .holds .records in
-      let counted : answer .sites .messages ≡ call .sites .messages + length (batch .messages) =
+      let counted : now .held .sites .messages
+      ≡ call .held .sites .messages + length (batch .messages) =
       rw all at (holds .holds .counted) in
-      let written : answer .written ≡ length (batch .messages) =
+      let written : now .written ≡ length (batch .messages) =
       rw all at (holds .holds .written) in
       let log = rw all at (holds .holds .log) in
       record {
@@ -268,7 +260,7 @@ module _ {call : BatchCall} {answer : BatchAnswer} {lent : BatchLent} where
         log = rw (test, ← is) log;
       }
 
-  pub walked-done : Walked call [] answer lent → BatchSays call lent answer
+  pub walked-done : Walked call [] now → BatchSays call now
   walked-done (refused failed) = says-refused failed
   walked-done (goes on) =
       says-batch (on .start-accepted) (on .batch) (on .holds)
@@ -278,9 +270,9 @@ module _ {call : BatchCall} {answer : BatchAnswer} {lent : BatchLent} where
       rest-none true = refl
       rest-none false = refl
 
-  pub walked-stopped : {rest : List Arrival} → Walked call rest answer lent
-      → (answer .refusal ≡ accepted → ⊥)
-      → BatchSays call lent answer
+  pub walked-stopped : {rest : List Arrival} → Walked call rest now
+      → (now .refusal ≡ accepted → ⊥)
+      → BatchSays call now
   walked-stopped (refused failed) some = says-refused failed
   walked-stopped {rest} (goes on) some =
       let stopped = ne-eqb (on .batch .refusal) 0 (λ none. some (on .holds .refusal ∙ none)) in

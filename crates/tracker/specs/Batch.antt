@@ -3,7 +3,7 @@
 --
 --   BatchSays ..                  the promise
 -- Passed on: logRoom, messageNumbers and messagesIn, the log as crate `delivery` has it, and
--- BatchLent of crate `tracker_steps`.
+-- BatchHeld of crate `tracker_steps`.
 use mathlib.Core.Path.{_≡_}
 use mathlib.Core.List.{List}
 use Prim.Native.Nat.{ℕ, _+_}
@@ -11,40 +11,32 @@ use lib.ListN.{length}
 use Rattle.model.specs.declared.Settings.{Settings}
 use Rattle.model.specs.declared.Arrival.{Arrival}
 use Rattle.model.specs.declared.Sites.{Sites}
-use Rattle.model.specs.declared.CoordinatorRecord.{CoordinatorRecord}
 use Rattle.model.specs.Choice.{if_then_else_, isZero}
 use Rattle.model.specs.SiteMemory.{overwrite}
 use Rattle.model.specs.CoordinatorMemory.{coordinatorRecord, coordinatorMemory}
-use Rattle.model.specs.NetworkMemory.{siteRecords, sitesMemory, networkIn, networkRefusal}
+use Rattle.model.specs.NetworkMemory.{siteRecords, sitesMemory}
+use Rattle.model.specs.Held.{Held, networkOf, heldRefusal}
 use Rattle.model.specs.Runs.{Batch, batchOf}
 pub use Rattle.sending.specs.Log.{logRoom, messageNumbers, messagesIn}
-use Rattle.tracker_steps.specs.declared.BatchAnswer.{BatchAnswer}
-pub use Rattle.tracker_steps.specs.Steps.{BatchLent}
+pub use Rattle.tracker_steps.specs.Steps.{BatchHeld, batchHeld}
 
 -- ---- The call
 
 -- All that the call is given.
 pub record BatchCall : Type 0 where
   pub settings : Settings
-  pub sites : Sites
-  pub coordinator : CoordinatorRecord
+  pub held : Held
   pub arrivals : List Arrival
-  pub siteMemory : List ℕ
-  pub coordinatorMemory : List ℕ
   pub log : List ℕ
 
 -- "4 and 11 are tested once, when a call starts."
 abbrev pub startRefusal : BatchCall → ℕ
-startRefusal call =
-    networkRefusal (call .settings) (call .sites) (call .coordinator) (call .siteMemory)
-    (call .coordinatorMemory)
+startRefusal call = heldRefusal (call .settings) (call .held)
 
 -- The model's batch on the network that records and memory hold.
 abbrev pub batchIn : BatchCall → Batch
 batchIn call =
-    batchOf (call .settings) (logRoom (call .log))
-    (networkIn (call .settings) (call .sites) (call .coordinator) (call .siteMemory)
-    (call .coordinatorMemory))
+    batchOf (call .settings) (logRoom (call .log)) (networkOf (call .settings) (call .held))
     (call .arrivals)
 
 -- What a call hands back or leaves: something of the batch, or what it was given if it is refused
@@ -56,28 +48,28 @@ unlessRefused call done given = if isZero (startRefusal call) then done else giv
 -- writes".
 abbrev pub sitesAfter : BatchCall → Sites
 sitesAfter call = record {
-  records = siteRecords (batchIn call .network .sites) (call .sites .records);
-  messages = call .sites .messages + length (batchIn call .messages);
+  records = siteRecords (batchIn call .network .sites) (call .held .sites .records);
+  messages = call .held .sites .messages + length (batchIn call .messages);
 }
 
-pub record BatchSays (call : BatchCall) (lent : BatchLent) (answer : BatchAnswer) : Type 0 where
+pub record BatchSays (call : BatchCall) (left : BatchHeld) : Type 0 where
   -- 1, 2, 3, 4, 11 at the start; then 5, 6, 7, 8, 14 before an arrival
-  pub refusal : answer .refusal ≡ unlessRefused call (batchIn call .refusal) (startRefusal call)
-  pub accepted : answer .accepted ≡ unlessRefused call (batchIn call .accepted) 0
-  pub written : answer .written ≡ unlessRefused call (length (batchIn call .messages)) 0
-  pub sites : answer .sites ≡ unlessRefused call (sitesAfter call) (call .sites)
-  pub coordinator : answer .coordinator
+  pub refusal : left .refusal ≡ unlessRefused call (batchIn call .refusal) (startRefusal call)
+  pub accepted : left .accepted ≡ unlessRefused call (batchIn call .accepted) 0
+  pub written : left .written ≡ unlessRefused call (length (batchIn call .messages)) 0
+  pub sites : left .held .sites ≡ unlessRefused call (sitesAfter call) (call .held .sites)
+  pub coordinator : left .held .coordinator
       ≡ unlessRefused call (coordinatorRecord (batchIn call .network .coordinator))
-      (call .coordinator)
-  pub site-memory : lent .siteMemory
+      (call .held .coordinator)
+  pub site-memory : left .held .siteMemory
       ≡ unlessRefused call
-      (sitesMemory (call .settings) (batchIn call .network .sites) (call .siteMemory))
-      (call .siteMemory)
-  pub coordinator-memory : lent .coordinatorMemory
+      (sitesMemory (call .settings) (batchIn call .network .sites) (call .held .siteMemory))
+      (call .held .siteMemory)
+  pub coordinator-memory : left .held .coordinatorMemory
       ≡ unlessRefused call
-      (coordinatorMemory (batchIn call .network .coordinator) (call .coordinatorMemory))
-      (call .coordinatorMemory)
+      (coordinatorMemory (batchIn call .network .coordinator) (call .held .coordinatorMemory))
+      (call .held .coordinatorMemory)
   -- "Places of a list or log after the last one written keep what they held."
-  pub log : lent .log
+  pub log : left .log
       ≡ unlessRefused call (overwrite (messageNumbers (batchIn call .messages)) (call .log))
       (call .log)

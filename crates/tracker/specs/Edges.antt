@@ -8,6 +8,7 @@ use Rattle.model.specs.declared.Arrival.{Arrival}
 use Rattle.model.specs.declared.Phase.the-variants.{Announcing}
 use Rattle.model.specs.Settings.{settingsWith}
 use Rattle.model.specs.NetworkMemory.{freshSites}
+use Rattle.model.specs.Held.{heldBy}
 use Rattle.model.specs.Instances.{settingsA, draws}
 use Rattle.model.specs.Edges.Inputs.{coordinatorNumbers, freshNumbers}
 use Rattle.model.specs.Edges.Networks.{stoppedDraws}
@@ -18,11 +19,9 @@ use Rattle.tracker.specs.Batch.{BatchCall, logRoom, startRefusal, batchI
 abbrev pub callWith : List Arrival → ℕ → ℕ → BatchCall
 callWith arrivals numbers places = record {
   settings = settingsA;
-  sites = record { records = freshSites .records; messages = 7 };
-  coordinator = freshNumbers;
+  held = heldBy (record { records = freshSites .records; messages = 7 }) freshNumbers
+      (replicate numbers 0) (replicate 1034 0);
   arrivals = arrivals;
-  siteMemory = replicate numbers 0;
-  coordinatorMemory = replicate 1034 0;
   log = replicate places 0;
 }
 

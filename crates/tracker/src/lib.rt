@@ -3,7 +3,8 @@
 // those of crate `tracker_steps`.
 
 ghost use mathlib.Core.List.{[], _∷_};
-ghost use Rattle.tracker_steps.specs.Steps.{lentOf};
+ghost use Rattle.model.specs.Held.{heldBy};
+ghost use Rattle.tracker_steps.specs.Steps.{batchHeld};
 ghost use Rattle.tracker.specs.Batch.{BatchSays};
 use model::ACCEPTED;
 use model::Arrival;
@@ -30,15 +31,13 @@ pub fn run_one(
 ) -> BatchAnswer
     ensures { λ r. ⌜ BatchSays (record {
       settings = settings;
-      sites = sites;
-      coordinator = coordinator;
+      held = heldBy sites coordinator (now («site_memory» .entry))
+          (now («coordinator_memory» .entry));
       arrivals = arrival ∷ [];
-      siteMemory = now («site_memory» .entry);
-      coordinatorMemory = now («coordinator_memory» .entry);
       log = now (log .entry);
     })
-        (lentOf (now («site_memory» .exit)) (now («coordinator_memory» .exit)) (now (log .exit)))
-        r ⌝ }
+        (batchHeld r (now («site_memory» .exit)) (now («coordinator_memory» .exit))
+        (now (log .exit))) ⌝ }
 {
     let answer = open_batch(
         settings,
@@ -74,15 +73,13 @@ pub fn run_batch(
 ) -> BatchAnswer
     ensures { λ r. ⌜ BatchSays (record {
       settings = settings;
-      sites = sites;
-      coordinator = coordinator;
+      held = heldBy sites coordinator (now («site_memory» .entry))
+          (now («coordinator_memory» .entry));
       arrivals = now (arrivals .entry);
-      siteMemory = now («site_memory» .entry);
-      coordinatorMemory = now («coordinator_memory» .entry);
       log = now (log .entry);
     })
-        (lentOf (now («site_memory» .exit)) (now («coordinator_memory» .exit)) (now (log .exit)))
-        r ⌝ }
+        (batchHeld r (now («site_memory» .exit)) (now («coordinator_memory» .exit))
+        (now (log .exit))) ⌝ }
 {
     let mut answer = open_batch(
         settings,

@@ -3,7 +3,7 @@
 --
 --   one-places, refusal-is      what the refusal's test asks, and that it is the model's
 --   one-asks                    what an accepted arrival asks
---   holds-stopped, holds-delivered   answer and lent memory then
+--   holds-stopped, holds-delivered   what is held then
 --   ready-next                  a batch that took an arrival may take another
 use mathlib.Core.Path.{_≡_, refl, sym, ap, _∙_, subst}
 use mathlib.Core.List.{List, append-nil}
@@ -11,7 +11,7 @@ use Prim.Native.Nat.{ℕ, _+_, _-_, _*_, _≤_, _<_}
 use native.Mathlib.Nat.{mul-le-mul-right}
 use native.Mathlib.Omega.{arith}
 use lib.Dec.{ltb}
-use lib.ListN.{length, getD, length-append}
+use lib.ListN.{length, length-append}
 use borrow.Author.Tests.{eq-eqb, ne-eqb, ltb-false}
 use Rattle.model.specs.declared.Settings.{Settings}
 use Rattle.model.specs.declared.Arrival.{Arrival}
@@ -26,33 +26,28 @@ use Rattle.model.proofs.DeliveryTheorem.{delivery-claims}
 use Rattle.model.proofs.SitesInvariant.{arrivalsAt}
 use Rattle.model.proofs.ClosedSites.{sumBelow-allArrivals}
 use Rattle.laws.proofs.Sums.{sumBelow-le, sumBelow-const}
-use Rattle.site_memory.specs.Records.{noRecord}
-use Rattle.delivery.specs.declared.Underway.{Underway}
+use Rattle.model.specs.Held.{recordAt}
 use Rattle.sending.specs.Log.{logRoom}
-use Rattle.delivery.specs.UnderwayParts.{resting}
-use Rattle.delivery.specs.Holding.{Given, state, Holds, Accepting, rested}
+use Rattle.delivery.specs.Holding.{WithLog, Carrying, Holds, Accepting, rested}
 use Rattle.delivery.specs.Arriving.{ArrivalAsks}
 use Rattle.delivery.proofs.HoldingLaws.{Stored, record-read, log-length}
 use Rattle.delivery.proofs.GoingLaws.{stored-of-sound}
 use Rattle.delivery.proofs.RestLaws.{sound-then, bounded-then, arrivals-then, holds-rested}
-use Rattle.tracker_steps.specs.declared.BatchAnswer.{BatchAnswer}
-use Rattle.tracker_steps.specs.Steps.{BatchLent, placesRefusal, PlacesAsk, withOne, stoppedBy, oneRefusal, batchOne, underwayOf, BatchHolds, BatchReady, OneAsks, lentOf}
+use Rattle.tracker_steps.specs.Steps.{BatchHeld, placesRefusal, PlacesAsk, withOne, stoppedBy, oneRefusal, batchOne, restingOn, restingIn, BatchHolds, BatchReady, OneAsks}
 use Rattle.tracker_steps.specs.Turns.{ownOf}
 use Rattle.tracker_steps.proofs.RefusalLaws.{place-known, placesRefusal-is}
 
 -- ---- An arrival with full delivery
 
-pub holds-delivered : {settings : Settings} {given : Given} (batch : Batch) (arrival : Arrival)
-    (after : Underway) (next : BatchAnswer) (memory coordinator log : List ℕ)
+pub holds-delivered : {settings : Settings} {given : WithLog} (batch : Batch) (arrival : Arrival)
+    (next : BatchHeld) (after : Carrying)
     → Holds settings given (batch .messages)
-    (rested (afterArrival settings (batch .network) arrival)) (state after memory coordinator log)
+    (rested (afterArrival settings (batch .network) arrival)) after
     → next .refusal ≡ accepted
     → next .accepted ≡ batch .accepted + 1
-    → underwayOf next ≡ resting (after .sites) (after .coordinator) (after .written)
+    → restingIn next ≡ restingOn (after .held) (after .log) (after .written)
     → BatchHolds settings given (withOne settings batch arrival) next
-    (lentOf memory coordinator log)
-holds-delivered {settings} batch arrival after next memory coordinator log holds
-    refusal-none accepted-more same =
+holds-delivered {settings} batch arrival next after holds refusal-none accepted-more same =
     let done = afterArrival settings (batch .network) arrival in
     let held = holds-rested (done .network) (done .messages) holds in
     record {
@@ -72,8 +67,7 @@ holds-delivered {settings} batch arrival after next memory coordinator log holds
 
 -- ---- A batch that is held
 
-module _ {settings : Settings} {answer : BatchAnswer} {lent : BatchLent}
-    (u : OneAsks settings answer lent) where
+module _ {settings : Settings} {now : BatchHeld} (u : OneAsks settings now) where
   abbrev network : Network
   network = u .batch .network
 
@@ -85,17 +79,17 @@ module _ {settings : Settings} {answer : BatchAnswer} {lent : BatchLent}
       let sound = u .ready .sound in
       stored-of-sound (sound .all-sites) (sound .sites-sound) (sound .coordinator-sound .numbers)
 
-  written-is : answer .written ≡ length (u .batch .messages)
+  written-is : now .written ≡ length (u .batch .messages)
   written-is = rw (append-nil (u .batch .messages)) at (u .holds .holds .written)
 
-  log-same : length (lent .log) ≡ length (u .given .log)
+  log-same : length (now .log) ≡ length (u .given .log)
   log-same =
       log-length (u .holds .holds)
       (rw (append-nil (u .batch .messages)) (omega (arith, u .ready .messages-within)))
 
   -- ---- The refusal
 
-  pub one-places : PlacesAsk settings (answer .written) (length (lent .log))
+  pub one-places : PlacesAsk settings (now .written) (length (now .log))
   one-places = record {
     few-sites = settled settings (u .ready .fits .settings-accepted) .sites .at-most;
     written-within = rw (written-is, log-same) (u .ready .messages-within);
@@ -103,18 +97,18 @@ module _ {settings : Settings} {answer : BatchAnswer} {lent : BatchLent}
 
   -- The record that is looked at is the site's own, where the site is known.
   own-known : (arrival : Arrival) → arrival .site < settings .sites
-      → ownOf answer arrival ≡ getD (answer .sites .records) (arrival .site) noRecord
+      → ownOf (now .held .sites) arrival ≡ recordAt (now .held) (arrival .site)
   own-known arrival known =
-      ap (λ (which : ℕ). getD (answer .sites .records) which noRecord)
+      ap (recordAt (now .held))
       (place-known arrival (omega (arith, known, one-places .few-sites)))
 
   pub refusal-is : (arrival : Arrival)
-      → placesRefusal settings (ownOf answer arrival) arrival (length (lent .log))
-      (answer .written)
+      → placesRefusal settings (ownOf (now .held .sites) arrival) arrival (length (now .log))
+      (now .written)
       ≡ oneRefusal settings room (u .batch) arrival
   refusal-is arrival =
-      placesRefusal-is settings (ownOf answer arrival) arrival (length (lent .log))
-      (answer .written) network (room - length (u .batch .messages))
+      placesRefusal-is settings (ownOf (now .held .sites) arrival) arrival (length (now .log))
+      (now .written) network (room - length (u .batch .messages))
       (λ known. ap (λ (r : SiteRecord). r .arrivals)
       (own-known arrival known
       ∙ record-read (u .ready .fits) stored (u .holds .holds) (arrival .site) known))
@@ -156,8 +150,7 @@ module _ {settings : Settings} {answer : BatchAnswer} {lent : BatchLent}
           taken = chain .first-accepted;
         }
 
-    abbrev pub one-asks : ArrivalAsks settings arrival
-        (state (underwayOf answer) (lent .siteMemory) (lent .coordinatorMemory) (lent .log))
+    abbrev pub one-asks : ArrivalAsks settings arrival (restingIn now)
     one-asks = record {
       given = u .given;
       earlier = u .batch .messages;
@@ -191,17 +184,17 @@ module _ {settings : Settings} {answer : BatchAnswer} {lent : BatchLent}
 
   -- ---- A refused arrival
 
-  pub holds-stopped : (arrival : Arrival) (next : BatchAnswer)
+  pub holds-stopped : (arrival : Arrival) (next : BatchHeld)
       → (oneRefusal settings room (u .batch) arrival ≡ accepted → ⊥)
       → next .refusal ≡ oneRefusal settings room (u .batch) arrival
-      → next .accepted ≡ answer .accepted
-      → underwayOf next ≡ underwayOf answer
-      → BatchHolds settings (u .given) (batchOne settings room (u .batch) arrival) next lent
+      → next .accepted ≡ now .accepted
+      → restingIn next ≡ restingIn now
+      → BatchHolds settings (u .given) (batchOne settings room (u .batch) arrival) next
   holds-stopped arrival next refused refusal-then accepted-same same =
       let stops : batchOne settings room (u .batch) arrival
       ≡ stoppedBy (u .batch) (oneRefusal settings room (u .batch) arrival) =
       rw (ne-eqb (oneRefusal settings room (u .batch) arrival) 0 refused) in
-      subst (λ (b : Batch). BatchHolds settings (u .given) b next lent) (sym stops)
+      subst (λ (b : Batch). BatchHolds settings (u .given) b next) (sym stops)
       (record {
         refusal = refusal-then;
         accepted = accepted-same ∙ u .holds .accepted;

@@ -1,11 +1,13 @@
 -- The parts of the batch call: its start, and one arrival of it.
 --
---   BatchLent                          what the call leaves in lent memory
+--   BatchHeld                          an answer with what is held and the log
+--   batchHeld, batchAnswer             the same from the answer and lent memory; the answer of it
 --   opened refusal sites coordinator   the answer before the first arrival
 --   OpenSays                           the start's promise
 --   placesRefusal ..                   5, 6, 7, 8, 14 from a record and the log's length
 --   batchOne settings room batch a     one arrival of the model's batch
---   BatchHolds                         answer and lent memory hold a batch
+--   restingOn .., restingIn now        a delivery at rest; what is held as such
+--   BatchHolds                         a batch is held
 --   BatchReady                         a batch that may take another arrival
 --   OneAsks, OneSays                   one arrival of the call
 use mathlib.Core.Path.{_≡_}
@@ -25,24 +27,48 @@ use Rattle.model.specs.Messages.{messageWidth}
 use Rattle.model.specs.Site.{arrivalRefusal}
 use Rattle.model.specs.Network.{afterArrival}
 use Rattle.model.specs.NetworkMemory.{allArrivals, networkRefusal}
+use Rattle.model.specs.Held.{Held, heldBy}
 use Rattle.model.specs.Runs.{Batch, batchRefusal}
 use Rattle.model.specs.SoundNetwork.{Sound}
 use Rattle.model.specs.NumberClaims.{Bounded}
 use Rattle.model.specs.DeliveryClaims.{delivery}
 use Rattle.site_refusals.specs.Bare.{bareSite}
-use Rattle.delivery.specs.declared.Underway.{Underway}
 use Rattle.sending.specs.Log.{logRoom}
 use Rattle.sending.specs.Sending.{nothingWaits}
-use Rattle.delivery.specs.Holding.{Given, state, Holds, Fits}
+use Rattle.delivery.specs.Holding.{Holds, Fits, WithLog, Carrying}
 use Rattle.tracker_steps.specs.declared.BatchAnswer.{BatchAnswer}
 
--- ---- The start
+-- ---- What a batch call holds
 
--- What the call leaves in lent memory.
-pub record BatchLent : Type 0 where
-  pub siteMemory : List ℕ
-  pub coordinatorMemory : List ℕ
+-- The answer's numbers, what is held, and the log: when the call starts, between two arrivals, and
+-- as it leaves them.
+pub record BatchHeld : Type 0 where
+  pub refusal : ℕ
+  pub accepted : ℕ
+  pub written : ℕ
+  pub held : Held
   pub log : List ℕ
+
+-- The records are the answer's.
+abbrev pub batchHeld : BatchAnswer → List ℕ → List ℕ → List ℕ → BatchHeld
+batchHeld answer siteMemory coordinatorMemory log = record {
+  refusal = answer .refusal;
+  accepted = answer .accepted;
+  written = answer .written;
+  held = heldBy (answer .sites) (answer .coordinator) siteMemory coordinatorMemory;
+  log = log;
+}
+
+abbrev pub batchAnswer : BatchHeld → BatchAnswer
+batchAnswer now = record {
+  refusal = now .refusal;
+  accepted = now .accepted;
+  written = now .written;
+  sites = now .held .sites;
+  coordinator = now .held .coordinator;
+}
+
+-- ---- The start
 
 -- Nothing is accepted and nothing written yet.
 abbrev pub opened : ℕ → Sites → CoordinatorRecord → BatchAnswer
@@ -114,60 +140,47 @@ batchOne settings room batch arrival =
     then withOne settings batch arrival
     else stoppedBy batch (oneRefusal settings room batch arrival)
 
--- ---- What answer and lent memory hold
+-- ---- A batch that is held
 
--- An answer as a delivery at rest.
-abbrev pub underwayOf : BatchAnswer → Underway
-underwayOf answer = record {
-  sites = answer .sites;
-  coordinator = answer .coordinator;
-  written = answer .written;
+-- A delivery that is carried out: nothing waits.
+abbrev pub restingOn : Held → List ℕ → ℕ → Carrying
+restingOn held log written = record {
+  held = held;
+  log = log;
+  written = written;
   waiting = nothingWaits;
 }
 
--- The answer's numbers are the batch's; its records and lent memory hold the batch's network, and
--- the log its messages.
-pub record BatchHolds
-    (settings : Settings)
-    (given : Given)
-    (batch : Batch)
-    (answer : BatchAnswer)
-    (lent : BatchLent) : Type 0 where
-  pub refusal : answer .refusal ≡ batch .refusal
-  pub accepted : answer .accepted ≡ batch .accepted
+abbrev pub restingIn : BatchHeld → Carrying
+restingIn now = restingOn (now .held) (now .log) (now .written)
+
+-- The answer's numbers are the batch's; records and lent memory hold the batch's network, and the
+-- log its messages.
+pub record BatchHolds (settings : Settings) (given : WithLog) (batch : Batch) (now : BatchHeld)
+    : Type 0 where
+  pub refusal : now .refusal ≡ batch .refusal
+  pub accepted : now .accepted ≡ batch .accepted
   pub holds : Holds settings given (batch .messages) (delivery (batch .network) [] [])
-      (state (underwayOf answer) (lent .siteMemory) (lent .coordinatorMemory) (lent .log))
+      (restingIn now)
 
 -- The network is sound and within the bounds, and counts are below what a machine number holds.
-pub record BatchReady (settings : Settings) (given : Given) (batch : Batch) : Type 0 where
+pub record BatchReady (settings : Settings) (given : WithLog) (batch : Batch) : Type 0 where
   pub fits : Fits settings given
   pub sound : Sound settings (batch .network)
   pub bounded : Bounded (batch .network)
   pub accepted-within : batch .accepted ≤ allArrivals (batch .network .sites)
   pub messages-within : length (batch .messages) ≤ logRoom (given .log)
 
--- Answer and lent memory hold some batch that may take another arrival.
-pub record OneAsks (settings : Settings) (answer : BatchAnswer) (lent : BatchLent) : Type 0 where
-  pub given : Given
+-- Some batch is held that may take another arrival.
+pub record OneAsks (settings : Settings) (now : BatchHeld) : Type 0 where
+  pub given : WithLog
   pub batch : Batch
   pub ready : BatchReady settings given batch
-  pub holds : BatchHolds settings given batch answer lent
+  pub holds : BatchHolds settings given batch now
 
--- One arrival of the model's batch, whatever batch the answer holds.
-pub record OneSays
-    (settings : Settings)
-    (arrival : Arrival)
-    (before : BatchAnswer)
-    (lentBefore : BatchLent)
-    (after : BatchAnswer)
-    (lentAfter : BatchLent) : Type 0 where
-  pub next : (u : OneAsks settings before lentBefore)
-      → BatchHolds settings (u .given)
-      (batchOne settings (logRoom (u .given .log)) (u .batch) arrival) after lentAfter
-
-abbrev pub lentOf : List ℕ → List ℕ → List ℕ → BatchLent
-lentOf siteMemory coordinatorMemory log = record {
-  siteMemory = siteMemory;
-  coordinatorMemory = coordinatorMemory;
-  log = log;
-}
+-- One arrival of the model's batch, whatever batch is held.
+pub record OneSays (settings : Settings) (arrival : Arrival) (before after : BatchHeld) : Type 0
+  where
+    pub next : (u : OneAsks settings before)
+        → BatchHolds settings (u .given)
+        (batchOne settings (logRoom (u .given .log)) (u .batch) arrival) after

@@ -2,8 +2,9 @@
 -- and its messages with full delivery.
 --
 --   placeOf arrival            the place of its site among the records
---   ownOf answer arrival       the record that stands there
+--   ownOf sites arrival        the record that stands there
 --   refusedTurn number own     the turn of a refused arrival
+--   takenIn now ..             what is held when the arrival's site has taken it
 --   counted answer which turn  the answer with a turn in it
 --   TurnAsks, TurnSays         an arrival is refused, or its site takes it
 --   CountAsks                  a turn that can be counted
@@ -12,22 +13,23 @@ use mathlib.Core.Path.{_≡_}
 use mathlib.Core.List.{List}
 use Prim.Native.Nat.{ℕ, _+_, _*_, _≤_, _<_}
 use lib.Dec.{ltb}
-use lib.ListN.{length, getD}
+use lib.ListN.{length}
 use Rattle.model.specs.declared.Settings.{Settings}
 use Rattle.model.specs.declared.Arrival.{Arrival}
 use Rattle.model.specs.declared.SiteRecord.{SiteRecord}
+use Rattle.model.specs.declared.Sites.{Sites}
 use Rattle.model.specs.Choice.{if_then_else_}
 use Rattle.model.specs.Refusals.{accepted}
 use Rattle.model.specs.Limits.{mostSites, siteLimit}
 use Rattle.model.specs.Runs.{Batch}
-use Rattle.site_memory.specs.Records.{noRecord, withRecord}
+use Rattle.model.specs.Held.{recordIn, withRecord, afterSiteCall}
 use Rattle.sending.specs.Log.{logRoom}
 use Rattle.sending.specs.Sending.{nothingWaits}
-use Rattle.delivery.specs.Holding.{Given, state}
-use Rattle.delivery.specs.Arriving.{Taken, putBack}
+use Rattle.delivery.specs.Holding.{WithLog}
+use Rattle.delivery.specs.Arriving.{Taken}
 use Rattle.tracker_steps.specs.declared.BatchAnswer.{BatchAnswer}
 use Rattle.tracker_steps.specs.declared.Turn.{Turn}
-use Rattle.tracker_steps.specs.Steps.{BatchLent, oneRefusal, withOne, underwayOf, BatchHolds, OneAsks, lentOf}
+use Rattle.tracker_steps.specs.Steps.{BatchHeld, batchHeld, batchAnswer, oneRefusal, withOne, restingIn, BatchHolds, OneAsks}
 
 -- ---- The turn
 
@@ -37,8 +39,8 @@ abbrev pub placeOf : Arrival → ℕ
 placeOf arrival = if ltb (arrival .site) mostSites then arrival .site else 0
 
 -- The record that stands there.
-abbrev pub ownOf : BatchAnswer → Arrival → SiteRecord
-ownOf answer arrival = getD (answer .sites .records) (placeOf arrival) noRecord
+abbrev pub ownOf : Sites → Arrival → SiteRecord
+ownOf sites arrival = recordIn sites (placeOf arrival)
 
 -- A refused arrival leaves its site's record as it was.
 abbrev pub refusedTurn : ℕ → SiteRecord → Turn
@@ -47,6 +49,20 @@ refusedTurn number own = record {
   taken = 0;
   site = own;
   out = nothingWaits;
+}
+
+abbrev pub withSiteMemory : BatchHeld → List ℕ → BatchHeld
+withSiteMemory now siteMemory =
+    batchHeld (batchAnswer now) siteMemory (now .held .coordinatorMemory) (now .log)
+
+-- The site's record and the sites' memory as they are then.
+abbrev pub takenIn : BatchHeld → ℕ → SiteRecord → List ℕ → BatchHeld
+takenIn now which own siteMemory = record {
+  refusal = now .refusal;
+  accepted = now .accepted;
+  written = now .written;
+  held = afterSiteCall (now .held) which own siteMemory;
+  log = now .log;
 }
 
 -- The answer is not handed over, only what is looked at: the site's record and the messages
@@ -58,59 +74,55 @@ pub record TurnAsks
     (arrival : Arrival)
     (numbers : ℕ)
     (siteMemory : List ℕ) : Type 0 where
-  pub answer : BatchAnswer
-  pub own-is : own ≡ ownOf answer arrival
-  pub written-is : written ≡ answer .written
-  pub coordinatorMemory : List ℕ
-  pub log : List ℕ
-  pub numbers-are : numbers ≡ length log
-  pub asks : OneAsks settings answer (lentOf siteMemory coordinatorMemory log)
+  pub now : BatchHeld
+  pub own-is : own ≡ ownOf (now .held .sites) arrival
+  pub written-is : written ≡ now .written
+  pub numbers-are : numbers ≡ length (now .log)
+  pub asks : OneAsks settings (withSiteMemory now siteMemory)
 
 -- "left as it was: all but earlier draws' work"
 pub record RefusedTurn
     (settings : Settings)
-    (given : Given)
+    (given : WithLog)
     (batch : Batch)
     (arrival : Arrival)
-    (answer : BatchAnswer)
+    (now : BatchHeld)
     (turn : Turn)
     (siteBefore siteAfter : List ℕ) : Type 0 where
   pub due : oneRefusal settings (logRoom (given .log)) batch arrival ≡ accepted → ⊥
   pub turn-is : turn
       ≡ refusedTurn (oneRefusal settings (logRoom (given .log)) batch arrival)
-      (ownOf answer arrival)
+      (ownOf (now .held .sites) arrival)
   pub memory-kept : siteAfter ≡ siteBefore
 
--- The arrival's site has taken it, and the answer with that site's record holds so.
+-- The arrival's site has taken it, and that site's record and memory hold so.
 pub record TakenTurn
     (settings : Settings)
-    (given : Given)
+    (given : WithLog)
     (batch : Batch)
     (arrival : Arrival)
-    (answer : BatchAnswer)
+    (now : BatchHeld)
     (turn : Turn)
-    (lent : BatchLent) : Type 0 where
+    (siteAfter : List ℕ) : Type 0 where
   pub none-due : oneRefusal settings (logRoom (given .log)) batch arrival ≡ accepted
   pub refusal-none : turn .refusal ≡ accepted
   pub taken-one : turn .taken ≡ 1
   pub place-is : placeOf arrival ≡ arrival .site
   pub taken : Taken settings given (batch .messages) (batch .network) arrival (turn .out)
-      (state (putBack (underwayOf answer) (arrival .site) (turn .site)) (lent .siteMemory)
-      (lent .coordinatorMemory) (lent .log))
+      (restingIn (takenIn now (arrival .site) (turn .site) siteAfter))
 
 pub data TurnTold
     (settings : Settings)
-    (given : Given)
+    (given : WithLog)
     (batch : Batch)
     (arrival : Arrival)
-    (answer : BatchAnswer)
+    (now : BatchHeld)
     (turn : Turn)
-    (siteBefore : List ℕ)
-    (lent : BatchLent) : Type 0 where
-  refused : RefusedTurn settings given batch arrival answer turn siteBefore (lent .siteMemory)
-      → TurnTold settings given batch arrival answer turn siteBefore lent
-  taken : TakenTurn settings given batch arrival answer turn lent
-      → TurnTold settings given batch arrival answer turn siteBefore lent
+    (siteBefore siteAfter : List ℕ) : Type 0 where
+  refused : RefusedTurn settings given batch arrival now turn siteBefore siteAfter
+      → TurnTold settings given batch arrival now turn siteBefore siteAfter
+  taken : TakenTurn settings given batch arrival now turn siteAfter
+      → TurnTold settings given batch arrival now turn siteBefore siteAfter
 
 -- The turn, whatever answer has that record, and whatever batch it holds.
 pub record TurnSays
@@ -122,13 +134,12 @@ pub record TurnSays
     (before : List ℕ)
     (turn : Turn)
     (after : List ℕ) : Type 0 where
-  pub told : (answer : BatchAnswer) (coordinatorMemory log : List ℕ)
-      → own ≡ ownOf answer arrival
-      → written ≡ answer .written
-      → numbers ≡ length log
-      → (u : OneAsks settings answer (lentOf before coordinatorMemory log))
-      → TurnTold settings (u .given) (u .batch) arrival answer turn before
-      (lentOf after coordinatorMemory log)
+  pub told : (now : BatchHeld)
+      → own ≡ ownOf (now .held .sites) arrival
+      → written ≡ now .written
+      → numbers ≡ length (now .log)
+      → (u : OneAsks settings (withSiteMemory now before))
+      → TurnTold settings (u .given) (u .batch) arrival now turn before after
 
 -- ---- The answer with a turn in it
 
@@ -150,24 +161,15 @@ pub record CountAsks (answer : BatchAnswer) (which : ℕ) (turn : Turn) : Type 0
 
 -- ---- The messages of a turn
 
-pub record DeliverAsks
-    (settings : Settings)
-    (turn : Turn)
-    (answer : BatchAnswer)
-    (lent : BatchLent) : Type 0 where
-  pub given : Given
+pub record DeliverAsks (settings : Settings) (turn : Turn) (now : BatchHeld) : Type 0 where
+  pub given : WithLog
   pub batch : Batch
   pub arrival : Arrival
-  pub accepted-more : answer .accepted ≡ batch .accepted + 1
+  pub accepted-more : now .accepted ≡ batch .accepted + 1
   pub taken : Taken settings given (batch .messages) (batch .network) arrival (turn .out)
-      (state (underwayOf answer) (lent .siteMemory) (lent .coordinatorMemory) (lent .log))
+      (restingIn now)
 
-pub record DeliverSays
-    (settings : Settings)
-    (turn : Turn)
-    (before : BatchAnswer)
-    (lentBefore : BatchLent)
-    (after : BatchAnswer)
-    (lentAfter : BatchLent) : Type 0 where
-  pub next : (u : DeliverAsks settings turn before lentBefore)
-      → BatchHolds settings (u .given) (withOne settings (u .batch) (u .arrival)) after lentAfter
+pub record DeliverSays (settings : Settings) (turn : Turn) (before after : BatchHeld) : Type 0
+  where
+    pub next : (u : DeliverAsks settings turn before)
+        → BatchHolds settings (u .given) (withOne settings (u .batch) (u .arrival)) after

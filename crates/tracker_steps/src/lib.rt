@@ -3,7 +3,7 @@
 // which these calls begin, and holds after each accepted arrival.
 
 ghost use mathlib.Core.Path.{_≡_};
-ghost use Rattle.tracker_steps.specs.Steps.{OpenSays, OneAsks, OneSays, placesRefusal, PlacesAsk, lentOf};
+ghost use Rattle.tracker_steps.specs.Steps.{OpenSays, OneAsks, OneSays, placesRefusal, PlacesAsk, batchHeld};
 ghost use Rattle.tracker_steps.specs.Turns.{placeOf, refusedTurn, counted, TurnAsks, TurnSays, CountAsks, DeliverAsks, DeliverSays};
 use model::ACCEPTED;
 use model::Arrival;
@@ -173,13 +173,13 @@ pub fn deliver_turn(
     coordinator_memory: &mut [u64],
     log: &mut [u64],
 ) -> BatchAnswer
-    requires { ⌜ DeliverAsks settings turn answer
-        (lentOf (now «site_memory») (now «coordinator_memory») (now log)) ⌝ }
-    ensures { λ r. ⌜ DeliverSays settings turn answer
-        (lentOf (now («site_memory» .entry)) (now («coordinator_memory» .entry)) (now (log .entry)))
-        r
-        (lentOf (now («site_memory» .exit)) (now («coordinator_memory» .exit)) (now (log .exit)))
-        ⌝ }
+    requires { ⌜ DeliverAsks settings turn
+        (batchHeld answer (now «site_memory») (now «coordinator_memory») (now log)) ⌝ }
+    ensures { λ r. ⌜ DeliverSays settings turn
+        (batchHeld answer (now («site_memory» .entry)) (now («coordinator_memory» .entry))
+        (now (log .entry)))
+        (batchHeld r (now («site_memory» .exit)) (now («coordinator_memory» .exit))
+        (now (log .exit))) ⌝ }
 {
     let sites = answer.sites;
     let coordinator = answer.coordinator;
@@ -214,13 +214,13 @@ pub fn take_arrival(
     coordinator_memory: &mut [u64],
     log: &mut [u64],
 ) -> BatchAnswer
-    requires { ⌜ OneAsks settings answer
-        (lentOf (now «site_memory») (now «coordinator_memory») (now log)) ⌝ }
-    ensures { λ r. ⌜ OneSays settings arrival answer
-        (lentOf (now («site_memory» .entry)) (now («coordinator_memory» .entry)) (now (log .entry)))
-        r
-        (lentOf (now («site_memory» .exit)) (now («coordinator_memory» .exit)) (now (log .exit)))
-        ⌝ }
+    requires { ⌜ OneAsks settings
+        (batchHeld answer (now «site_memory») (now «coordinator_memory») (now log)) ⌝ }
+    ensures { λ r. ⌜ OneSays settings arrival
+        (batchHeld answer (now («site_memory» .entry)) (now («coordinator_memory» .entry))
+        (now (log .entry)))
+        (batchHeld r (now («site_memory» .exit)) (now («coordinator_memory» .exit))
+        (now (log .exit))) ⌝ }
 {
     let which = place_of(arrival);
     let sites = answer.sites;

@@ -5,9 +5,9 @@ use Prim.Native.Nat.{ℕ}
 use native.Mathlib.Omega.{arith}
 use lib.ListN.{length, getD}
 use borrow.Author.Needs.{needs}
-use Rattle.site_memory.specs.Records.{noRecord}
+use Rattle.model.specs.Held.{noRecord}
 use Rattle.delivery.specs.UnderwayParts.{underwayOf}
-use Rattle.delivery.specs.Holding.{state, Delivering}
+use Rattle.delivery.specs.Holding.{carrying, Delivering}
 use Rattle.delivery.proofs.HoldingLaws.{coordinator-memory-length, log-length}
 use Rattle.delivery.proofs.GoingLaws.{going-stored, going-room}
 use Rattle.delivery.proofs.DeliverLaws.{leftToDo, After, left-less, after-start, delivering-after, after-step, after-end}
@@ -20,8 +20,8 @@ abbrev Inv-loop : tie.InvT-loop
 Inv-loop settings coordinator₀ traffic₀ site-memory coordinator-memory₀ log₀ records₀ coordinator
     traffic coordinator-memory log records =
     (u : Delivering settings
-    (state (underwayOf records₀ coordinator₀ traffic₀) site-memory coordinator-memory₀ log₀))
-    → After u (state (underwayOf records coordinator traffic) site-memory coordinator-memory log)
+    (carrying (underwayOf records₀ coordinator₀ traffic₀) site-memory coordinator-memory₀ log₀))
+    → After u (carrying (underwayOf records coordinator traffic) site-memory coordinator-memory log)
 
 abbrev μ-loop : tie.MeasureT-loop
 μ-loop settings coordinator₀ traffic₀ site-memory coordinator-memory₀ log₀ records₀ coordinator

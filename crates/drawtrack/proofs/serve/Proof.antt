@@ -3,7 +3,7 @@ use Prim.Native.Nat.{_-_}
 use native.Mathlib.Omega.{arith}
 use borrow.Author.Needs.{needs}
 use borrow.Author.Tests.{ltb-true, ltb-false}
-use Rattle.session_steps.specs.Outcome.{lent}
+use Rattle.session_steps.specs.Outcome.{buffers}
 use Rattle.session.specs.Limits.{inputRoom}
 use Rattle.drawtrack.specs.Serving.{situation, Serving}
 use Rattle.drawtrack.proofs.ServingLaws.{serving-begins, serving-on, serving-over, serves}
@@ -14,8 +14,8 @@ abbrev Inv-loop : tie.InvT-loop
 Inv-loop input site-memory₀ coordinator-memory₀ log₀ list₀ out₀ session₀ turns₀ site-memory
     coordinator-memory log list out session turns =
     Serving input
-    (situation session₀ (lent site-memory₀ coordinator-memory₀ log₀ list₀ out₀))
-    (situation session (lent site-memory coordinator-memory log list out))
+    (situation session₀ (buffers site-memory₀ coordinator-memory₀ log₀ list₀ out₀))
+    (situation session (buffers site-memory coordinator-memory log list out))
     turns
 
 abbrev μ-loop : tie.MeasureT-loop
@@ -29,7 +29,7 @@ loop-holds c =
     let given = begun .before .before .before .before .before in
     let start = given .before .before .before .before .before in
     serving-begins (start .args .input .now)
-    (lent (start .args .site-memory .now) (start .args .coordinator-memory .now)
+    (buffers (start .args .site-memory .now) (start .args .coordinator-memory .now)
     (start .args .log .now) (start .args .list .now) (start .args .out .now))
     _ _ _ (begun .begin .result) (begun .begin .ensures) (start .pre)
 

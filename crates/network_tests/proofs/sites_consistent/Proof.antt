@@ -8,7 +8,7 @@ use lib.ListN.{getD, drop}
 use Rattle.model.specs.declared.Settings.{Settings}
 use Rattle.model.specs.declared.SiteRecord.{SiteRecord}
 use Rattle.model.specs.SiteMemory.{siteWords, siteConsistent}
-use Rattle.site_memory.specs.Records.{noRecord}
+use Rattle.model.specs.Held.{noRecord}
 use Rattle.network_tests.proofs.PartLaws.{PartStarts, site-few, starts-at, own-is, part-fits}
 use Rattle.network_tests.proofs.SitesLaws.{Passing, passing-start, passing-on, passing-fails, passing-end}
 use borrow.Author.Needs.{needs}

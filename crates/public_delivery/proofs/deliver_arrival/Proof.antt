@@ -9,10 +9,9 @@ use denote.Ref.{now}
 use Rattle.model.specs.Refusals.{accepted}
 use Rattle.model.proofs.SettingsLaws.{settled}
 use Rattle.network_tests.specs.Contracts.{SitesFit}
-use Rattle.history.specs.State.{Held}
-use Rattle.public_delivery.specs.Progress.{heldBy}
+use Rattle.history.specs.State.{heldRefusal, Held, heldBy}
 use Rattle.public_delivery.specs.Delivery.{deliveryRefusal}
-use Rattle.public_delivery.proofs.PassedLaws.{Passed, startRefusal, passed-of, refused-start, refused-unknown, refused-arrival}
+use Rattle.public_delivery.proofs.PassedLaws.{Passed, passed-of, refused-start, refused-unknown, refused-arrival}
 use Rattle.public_delivery.proofs.ArrivalLaws.{refused-says, accepted-says}
 use borrow.Author.Needs.{needs}
 use Rattle.public_delivery.proofs.deliver_arrival.Statement.{statement}
@@ -30,7 +29,7 @@ all-records start =
 
 -- The start test passed.
 passed-start : (start : tie.Start) (number : ℕ)
-    → number ≡ startRefusal (start .args .settings) (given start)
+    → number ≡ heldRefusal (start .args .settings) (given start)
     → number ≡ accepted
     → Passed (start .args .settings) (given start)
 passed-start start number number-is none =

@@ -1,6 +1,6 @@
 -- The three answers of a line.
 use mathlib.Core.Path.{refl}
-use Rattle.session_steps.specs.Outcome.{lent}
+use Rattle.session_steps.specs.Outcome.{buffers}
 use Rattle.session.proofs.LineLaws.{line-draw, line-malformed, line-end}
 use borrow.Author.Needs.{needs}
 use Rattle.session.proofs.advance.Statement.{statement}
@@ -12,7 +12,7 @@ returns c =
     let found = taken .before .before .before .before .before in
     let read = found .before in
     let start = read .before .before .before .before .before .before .before .args in
-    let given = lent (start .site-memory .now) (start .coordinator-memory .now) (start .log .now)
+    let given = buffers (start .site-memory .now) (start .coordinator-memory .now) (start .log .now)
     (start .list .now) (start .out .now) in
     record {
       line = line-draw (start .session) (read .read-line .result) _ (read .read-line .ensures) given
@@ -32,7 +32,7 @@ returns-2 c =
     let tested = refused .before .before .before .before in
     let read = tested .before in
     let start = read .before .before .before .before .before .before .before .args in
-    let given = lent (start .site-memory .now) (start .coordinator-memory .now) (start .log .now)
+    let given = buffers (start .site-memory .now) (start .coordinator-memory .now) (start .log .now)
     (start .list .now) (start .out .now) in
     record {
       line = line-malformed (start .session) (read .read-line .result) _ (read .read-line .ensures)
@@ -53,7 +53,7 @@ returns-3 c =
     let tested = finished .before .before .before .before .before .before in
     let read = tested .before in
     let start = read .before .before .before .before .before .before .before .args in
-    let given = lent (start .site-memory .now) (start .coordinator-memory .now) (start .log .now)
+    let given = buffers (start .site-memory .now) (start .coordinator-memory .now) (start .log .now)
     (start .list .now) (start .out .now) in
     record {
       line = line-end (start .session) (read .read-line .result) _ (read .read-line .ensures) given

@@ -1,7 +1,7 @@
 -- The two answers of a beginning.
 use mathlib.Core.Path.{refl}
 use mathlib.Core.List.{[]}
-use Rattle.session_steps.specs.Outcome.{lent}
+use Rattle.session_steps.specs.Outcome.{buffers}
 use Rattle.session.proofs.BeginLaws.{begin-refused, begin-started}
 use borrow.Author.Needs.{needs}
 use Rattle.session.proofs.begin.Statement.{statement}
@@ -14,7 +14,8 @@ returns c =
     let start = read .before .before .before .before .before .args in
     record {
       is = begin-refused (start .input .now)
-          (lent (start .site-memory .now) (start .coordinator-memory .now) [] [] (start .out .now))
+          (buffers (start .site-memory .now) (start .coordinator-memory .now) [] []
+          (start .out .now))
           (read .read-settings .result) (read .read-settings .ensures)
           _ (tested .before .before .fresh-session .ensures) _ (tested .start-refusal .ensures) _ _
           (c .before .before .refuse .ensures) (c .before .before .before .before .if1 .taken);
@@ -35,7 +36,8 @@ returns-2 c =
     let start = read .before .before .before .before .before .args in
     record {
       is = begin-started (start .input .now)
-          (lent (start .site-memory .now) (start .coordinator-memory .now) [] [] (start .out .now))
+          (buffers (start .site-memory .now) (start .coordinator-memory .now) [] []
+          (start .out .now))
           (read .read-settings .result) (read .read-settings .ensures)
           _ (tested .before .before .fresh-session .ensures) _ (tested .start-refusal .ensures) _ _
           (started .start-sites .result) (c .before .before .start-coordinator .result)

@@ -1,6 +1,6 @@
 -- A draw that is refused, and one that is taken.
 use mathlib.Core.List.{[]}
-use Rattle.session_steps.specs.Outcome.{lent}
+use Rattle.session_steps.specs.Outcome.{buffers}
 use Rattle.session_steps.proofs.TakeLaws.{draw-refused, log-holds, draw-taken}
 use borrow.Author.Needs.{needs}
 use Rattle.session_steps.proofs.take_draw.Statement.{statement}
@@ -13,9 +13,9 @@ returns c =
     let run = tested .before .before .before .before .before .before .before .before in
     let arrival = run .before .before .before .before in
     let start = arrival .before .before .before .before .before .before .before .before .args in
-    let given = lent (start .site-memory .now) (start .coordinator-memory .now) (start .log .now) []
-    (start .out .now) in
-    draw-refused (start .session) (start .step) given _ (run .run-one .result)
+    let given = buffers (start .site-memory .now) (start .coordinator-memory .now)
+    (start .log .now) [] (start .out .now) in
+    draw-refused (start .session) (start .step) given _
     (run .run-one .ensures) (tested .if1 .taken) [] _ _ (refused .refuse .ensures)
 
 put-messages-requires : tie.Need-put-messages-requires
@@ -23,9 +23,9 @@ put-messages-requires c κs =
     let run = c .before .before .before .before .before .before .before .before .before .before in
     let arrival = run .before .before .before .before in
     let start = arrival .before .before .before .before .before .before .before .before .args in
-    let given = lent (start .site-memory .now) (start .coordinator-memory .now) (start .log .now) []
-    (start .out .now) in
-    log-holds (start .session) (start .step) given _ (run .run-one .result) (run .run-one .ensures)
+    let given = buffers (start .site-memory .now) (start .coordinator-memory .now)
+    (start .log .now) [] (start .out .now) in
+    log-holds (start .session) (start .step) given _ (run .run-one .ensures)
     (c .before .before .if1 .left)
 
 returns-2 : tie.Need-returns-2
@@ -35,9 +35,9 @@ returns-2 c =
     let run = tested .before .before .before .before .before .before .before .before in
     let arrival = run .before .before .before .before in
     let start = arrival .before .before .before .before .before .before .before .before .args in
-    let given = lent (start .site-memory .now) (start .coordinator-memory .now) (start .log .now) []
-    (start .out .now) in
-    draw-taken (start .session) (start .step) given _ (run .run-one .result)
+    let given = buffers (start .site-memory .now) (start .coordinator-memory .now)
+    (start .log .now) [] (start .out .now) in
+    draw-taken (start .session) (start .step) given _
     (run .run-one .ensures) (tested .if1 .left) [] _ _ (put .put-messages .ensures)
 
 pub take-draw-spec : {M : Type 1} → statement M

@@ -5,8 +5,9 @@ use Rattle.model.specs.declared.Settings.{Settings}
 use Rattle.model.specs.declared.Arrival.{Arrival}
 use Rattle.model.specs.declared.Sites.{Sites}
 use Rattle.model.specs.declared.CoordinatorRecord.{CoordinatorRecord}
+use Rattle.model.specs.Held.{heldBy}
 use Rattle.tracker_steps.specs.declared.BatchAnswer.{BatchAnswer}
-use Rattle.tracker_steps.specs.Steps.{OpenSays, lentOf}
+use Rattle.tracker_steps.specs.Steps.{OpenSays, batchHeld}
 use Rattle.tracker.proofs.WalkLaws.{Walked, walked-open, walked-asks, walked-step, walked-done, walked-stopped}
 use borrow.Author.Needs.{needs}
 use Rattle.tracker.proofs.run_one.Statement.{statement}
@@ -20,13 +21,10 @@ opened-one : (settings : Settings) (sites : Sites) (coordinator : CoordinatorRec
     coordinatorThen
     → Walked (record {
       settings = settings;
-      sites = sites;
-      coordinator = coordinator;
+      held = heldBy sites coordinator siteMemory coordinatorMemory;
       arrivals = arrival ∷ [];
-      siteMemory = siteMemory;
-      coordinatorMemory = coordinatorMemory;
       log = log;
-    }) (arrival ∷ []) answer (lentOf siteThen coordinatorThen log)
+    }) (arrival ∷ []) (batchHeld answer siteThen coordinatorThen log)
 opened-one _ _ _ _ _ _ _ answer siteThen coordinatorThen says =
     walked-open _ answer siteThen coordinatorThen says
 

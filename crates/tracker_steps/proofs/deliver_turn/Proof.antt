@@ -19,7 +19,7 @@ returns c =
     let says = rw (rests .at-rest .ensures) at (delivers .deliver-messages .ensures) in
     record {
       next = λ u.
-          holds-delivered (u .batch) (u .arrival) (delivers .deliver-messages .result) _ _ _ _
+          holds-delivered (u .batch) (u .arrival) _ _
           (says .delivers (messages-ask u)) refl (u .accepted-more) refl;
     }
 

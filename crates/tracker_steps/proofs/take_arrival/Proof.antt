@@ -1,5 +1,5 @@
 -- `tracker_steps::take_arrival` meets its contract: the turn, its count and its messages.
-use Rattle.tracker_steps.specs.Steps.{lentOf}
+use Rattle.tracker_steps.specs.Steps.{batchHeld}
 use Rattle.tracker_steps.proofs.TurnLaws.{turn-asks, count-asks, deliver-asks, quiet-says, loud-says}
 use Rattle.tracker_steps.proofs.RefusalLaws.{place-within}
 use borrow.Author.Needs.{needs}
@@ -27,9 +27,10 @@ count-turn-requires c κs =
     let places = reads .before .before in
     let start = places .before .before .before .before in
     let a = start .args in
-    let lent = lentOf (a .site-memory .now) (a .coordinator-memory .now) (a .log .now) in
+    let now = batchHeld (a .answer) (a .site-memory .now) (a .coordinator-memory .now)
+    (a .log .now) in
     rw (places .place-of .ensures)
-    (count-asks lent (a .arrival) (a .answer)
+    (count-asks now (a .arrival)
     (rw (places .place-of .ensures) at (reads .record-of .ensures)) (takes .take-turn .ensures)
     (start .pre))
 
@@ -40,8 +41,9 @@ returns c =
     let reads = takes .before .before in
     let places = reads .before .before in
     let a = places .before .before .before .before .args in
-    let lent = lentOf (a .site-memory .now) (a .coordinator-memory .now) (a .log .now) in
-    quiet-says lent (a .arrival) (a .answer)
+    let now = batchHeld (a .answer) (a .site-memory .now) (a .coordinator-memory .now)
+    (a .log .now) in
+    quiet-says now (a .arrival)
     (rw (places .place-of .ensures) at (reads .record-of .ensures)) (takes .take-turn .ensures)
     (counts .count-turn .result) (rw (places .place-of .ensures) at (counts .count-turn .ensures))
     (c .if1 .taken)
@@ -55,8 +57,9 @@ deliver-turn-requires c κs =
     let places = reads .before .before in
     let start = places .before .before .before .before in
     let a = start .args in
-    let lent = lentOf (a .site-memory .now) (a .coordinator-memory .now) (a .log .now) in
-    deliver-asks lent (a .arrival) (a .answer)
+    let now = batchHeld (a .answer) (a .site-memory .now) (a .coordinator-memory .now)
+    (a .log .now) in
+    deliver-asks now (a .arrival)
     (rw (places .place-of .ensures) at (reads .record-of .ensures)) (takes .take-turn .ensures)
     (counts .count-turn .result) (rw (places .place-of .ensures) at (counts .count-turn .ensures))
     (start .pre) (some .if1 .left)
@@ -70,8 +73,9 @@ returns-2 c =
     let reads = takes .before .before in
     let places = reads .before .before in
     let a = places .before .before .before .before .args in
-    let lent = lentOf (a .site-memory .now) (a .coordinator-memory .now) (a .log .now) in
-    loud-says lent (a .arrival) (a .answer)
+    let now = batchHeld (a .answer) (a .site-memory .now) (a .coordinator-memory .now)
+    (a .log .now) in
+    loud-says now (a .arrival)
     (rw (places .place-of .ensures) at (reads .record-of .ensures)) (takes .take-turn .ensures)
     (counts .count-turn .result) (rw (places .place-of .ensures) at (counts .count-turn .ensures))
     (some .if1 .left) (delivers .deliver-turn .ensures)

@@ -4,7 +4,7 @@ use mathlib.Core.Path.{sym, ap, _∙_}
 use Prim.Native.Nat.{ℕ}
 use native.Mathlib.Omega.{arith}
 use lib.ListN.{getD}
-use Rattle.site_memory.specs.Records.{noRecord}
+use Rattle.model.specs.Held.{noRecord}
 use Rattle.delivery.proofs.StepLaws.{handing, asking, ask-asks}
 use Rattle.delivery.proofs.HandToCoordinator.{coordinator-asks}
 use Rattle.delivery.proofs.HandToSite.{siteOfHead-is, starts-within, starts-small, site-asks}

@@ -62,9 +62,9 @@ module _ {M : Type 1} (logic : Logic M) (f : Called) (room : Rooms f) (l : Place
       ∷ ‵ (Looked u32 (f .settings) (named 0)) ∷ ‵ (finally u64 (f .sites .name) (os .1 .1 .0))
       ∷ ‵ (finally u64 (f .coordinator .name) (os .1 .1 .1 .0))
       ∷ ‵ (Looked T.the-row (f .arrivals) (named 3))
-      ∷ ‵ (finally u32 (f .siteMemory .name) (b .lent .siteMemory))
-      ∷ ‵ (finally u64 (f .coordinatorMemory .name) (b .lent .coordinatorMemory))
-      ∷ ‵ (finally u64 (f .log .name) (b .lent .log))
+      ∷ ‵ (finally u32 (f .siteMemory .name) (b .siteMemory))
+      ∷ ‵ (finally u64 (f .coordinatorMemory .name) (b .coordinatorMemory))
+      ∷ ‵ (finally u64 (f .log .name) (b .log))
       ∷ ‵ (finally u64 (f .out .name) (os .1 .1 .1 .1 .0)) ∷ []
 
   -- From what the three calls say to the contract.
@@ -123,9 +123,9 @@ module _ {M : Type 1} (logic : Logic M) (f : Called) (room : Rooms f) (l : Place
       lends = record {
         sites = change (f .sites .list) (os .1 .1 .0);
         coordinator = change (f .coordinator .list) (os .1 .1 .1 .0);
-        siteMemory = change (f .siteMemory .list) (b .lent .siteMemory);
-        coordinatorMemory = change (f .coordinatorMemory .list) (b .lent .coordinatorMemory);
-        log = change (f .log .list) (b .lent .log);
+        siteMemory = change (f .siteMemory .list) (b .siteMemory);
+        coordinatorMemory = change (f .coordinatorMemory .list) (b .coordinatorMemory);
+        log = change (f .log .list) (b .log);
         out = change (f .out .list) (os .1 .1 .1 .1 .0);
       }
 

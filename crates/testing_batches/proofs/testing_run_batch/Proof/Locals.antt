@@ -110,9 +110,9 @@ module _ {M : Type 1} (logic : Logic M) (f : Called) (l : Places) where
   abbrev pub Ran : (o : AfterOpening f) → AfterBatch f (o .opening) → List (Item 𝓤)
   Ran o b =
       token (f .log) ∷ token (f .coordinatorMemory) ∷ token (f .siteMemory) ∷ token (f .arrivals)
-      ∷ ‵ (finally u64 (f .log .name) (b .lent .log))
-      ∷ ‵ (finally u64 (f .coordinatorMemory .name) (b .lent .coordinatorMemory))
-      ∷ ‵ (finally u32 (f .siteMemory .name) (b .lent .siteMemory))
+      ∷ ‵ (finally u64 (f .log .name) (b .log))
+      ∷ ‵ (finally u64 (f .coordinatorMemory .name) (b .coordinatorMemory))
+      ∷ ‵ (finally u32 (f .siteMemory .name) (b .siteMemory))
       ∷ ‵ (Looked T.the-row (f .arrivals) (named 3))
       ∷ ‵ (Held-at u64 (f .coordinator) (named 2) (o .coordinator)) ∷ token (f .coordinator)
       ∷ ‵ (Held-at u64 (f .sites) (named 1) (o .sites)) ∷ token (f .sites)

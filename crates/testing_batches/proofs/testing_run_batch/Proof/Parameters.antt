@@ -38,8 +38,9 @@ use Rattle.model.specs.declared.Settings.{Settings}
 use Rattle.model.specs.declared.Arrival.{Arrival}
 use Rattle.model.specs.declared.Sites.{Sites}
 use Rattle.model.specs.declared.CoordinatorRecord.{CoordinatorRecord}
+use Rattle.model.specs.Held.{heldBy}
 use Rattle.tracker_steps.specs.declared.BatchAnswer.{BatchAnswer}
-use Rattle.tracker.specs.Batch.{BatchCall, BatchLent, BatchSays}
+use Rattle.tracker.specs.Batch.{BatchCall, batchHeld, BatchSays}
 use Rattle.testing_batches.specs.declared.Opening.{Opening}
 use Rattle.testing_numbers.specs.Openings.{change}
 use Rattle.testing_batches.specs.Batch.{Opens}
@@ -123,24 +124,23 @@ pub record AfterOpening (f : Called) : Type 0 where
 abbrev pub asked : Called → Opening → BatchCall
 asked f opening = record {
   settings = opening .settings;
-  sites = opening .sites;
-  coordinator = opening .coordinator;
+  held = heldBy (opening .sites) (opening .coordinator) (f .siteMemory .list)
+      (f .coordinatorMemory .list);
   arrivals = f .arrivals .list;
-  siteMemory = f .siteMemory .list;
-  coordinatorMemory = f .coordinatorMemory .list;
   log = f .log .list;
 }
 
 -- Its answer, and what lent memory and the log were left at.
 pub record AfterBatch (f : Called) (opening : Opening) : Type 0 where
   pub answer : BatchAnswer
-  pub lent : BatchLent
+  pub siteMemory : List ℕ
+  pub coordinatorMemory : List ℕ
+  pub log : List ℕ
   pub answer-good : Is K.the-row answer (VK answer ∷ [])
-  pub ran : BatchSays (asked f opening) lent answer
-  pub site-memory-same : length (lent .siteMemory) ≡ length (f .siteMemory .list)
-  pub coordinator-memory-same :
-      length (lent .coordinatorMemory) ≡ length (f .coordinatorMemory .list)
-  pub log-same : length (lent .log) ≡ length (f .log .list)
+  pub ran : BatchSays (asked f opening) (batchHeld answer siteMemory coordinatorMemory log)
+  pub site-memory-same : length siteMemory ≡ length (f .siteMemory .list)
+  pub coordinator-memory-same : length coordinatorMemory ≡ length (f .coordinatorMemory .list)
+  pub log-same : length log ≡ length (f .log .list)
 
 -- ---- What is to be had at the end
 

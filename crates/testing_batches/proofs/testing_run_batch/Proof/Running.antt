@@ -23,7 +23,7 @@ use denote.Struct.Laws as LL
 use denote.Triple.Call.{calls-at}
 use denote.Triple.Clauses.{lasts}
 use Rattle.tracker_steps.specs.declared.BatchAnswer.{BatchAnswer}
-use Rattle.tracker.specs.Batch.{BatchLent, BatchSays}
+use Rattle.tracker.specs.Batch.{batchHeld, BatchSays}
 use Rattle.model.proofs.Arrival as T
 use Rattle.tracker_steps.proofs.BatchAnswer as K
 use Rattle.tracker_steps.proofs.BatchAnswer.Laws as K′
@@ -49,15 +49,10 @@ module _ {M : Type 1} (logic : Logic M) (f : Called) (room : Rooms f) (l : Place
       Unit {0} × (Unit {0} × (Unit {0} × (Unit {0}
       × (List ℕ × (List ℕ × (List ℕ × Unit {0}))))))
 
-  abbrev left : Lasts → BatchLent
-  left ns = record {
-    siteMemory = ns .1 .1 .1 .1 .0;
-    coordinatorMemory = ns .1 .1 .1 .1 .1 .0;
-    log = ns .1 .1 .1 .1 .1 .1 .0;
-  }
-
   abbrev Said : BatchAnswer → Lasts → Type 0
-  Said answer ns = BatchSays (asked f (o .opening)) (left ns) answer
+  Said answer ns =
+      BatchSays (asked f (o .opening))
+      (batchHeld answer (ns .1 .1 .1 .1 .0) (ns .1 .1 .1 .1 .1 .0) (ns .1 .1 .1 .1 .1 .1 .0))
 
   pub runs-batch : Sq W (Opened logic f l o)
       (runs (𝓣 .C) (𝓣 .Λ) (locals logic f l) m.t-7
@@ -114,7 +109,9 @@ module _ {M : Type 1} (logic : Logic M) (f : Called) (room : Rooms f) (l : Place
       forget ! 36 refl $ forget ! 38 refl $
       closes logic f room l o (record {
         answer = answer;
-        lent = left ns;
+        siteMemory = ns .1 .1 .1 .1 .0;
+        coordinatorMemory = ns .1 .1 .1 .1 .1 .0;
+        log = ns .1 .1 .1 .1 .1 .1 .0;
         answer-good =
             subst (Is K.the-row answer) (LL.tells K.the-type K′.the-laws answer (u ∷ []) good)
             good;

@@ -23,7 +23,7 @@ use denote.Index.{place-is}
 use denote.Struct.Laws as LL
 use Rattle.model.specs.declared.Arrival.{Arrival}
 use Rattle.model.specs.Limits.{mostSites}
-use Rattle.site_memory.specs.Records.{noRecord}
+use Rattle.model.specs.Held.{noRecord}
 use Rattle.tracker_steps.specs.declared.BatchAnswer.{BatchAnswer}
 use Rattle.tracker_steps.specs.declared.Turn.{Turn}
 use Rattle.tracker_steps.specs.Turns.{placeOf, counted, CountAsks}

@@ -39,13 +39,13 @@ use Rattle.tracker.proofs.Frame.{Places}
 use Rattle.tracker.proofs.Records.{VK, refusal-fits}
 use Rattle.tracker.proofs.run_batch as fun
 use Rattle.tracker.proofs.run_batch.Code.Mir as m
-use Rattle.tracker.proofs.run_batch.Proof.Parameters.{Called, Typed, asked, Point, Owned, stayed, bound, Post, Logic}
+use Rattle.tracker.proofs.run_batch.Proof.Parameters.{Called, Typed, asked, Point, Owned, stayed, bound, Post, Logic, heldAt}
 use Rattle.tracker.proofs.run_batch.Proof.Locals.{cell, locals, At, Left}
 
 module _ {M : Type 1} (logic : Logic M) (f : Called) (ok : Typed f) where
   open Logic logic using (𝓤, H, A, W, mem, run, 𝓣)
 
-  exits : (s : Point f) → BatchSays (asked f) (s .lent) (s .answer)
+  exits : (s : Point f) → BatchSays (asked f) (heldAt s)
       → ent 𝓤 (⋆ 𝓤 H A (Owned f (s .lent) [])) (Post 𝓤 H A mem run f (VK (s .answer)))
   exits s e =
       qed W (Owned f (s .lent) []) ∵
@@ -104,7 +104,7 @@ module _ {M : Type 1} (logic : Logic M) (f : Called) (ok : Typed f) where
       (s .good) $ done !
 
   module _ (l : Places) where
-    leaves : (i : ℕ) (s : Point f) → BatchSays (asked f) (s .lent) (s .answer)
+    leaves : (i : ℕ) (s : Point f) → BatchSays (asked f) (heldAt s)
         → ent 𝓤 (⋆ 𝓤 H A (At logic f l i s))
         (Wp 𝓤 H (𝓣 .C) (𝓣 .Λ) (locals logic f l) m.t-9
         (atReturn 𝓤 H (locals logic f l) (Post 𝓤 H A mem run f)))
@@ -145,7 +145,7 @@ module _ {M : Type 1} (logic : Logic M) (f : Called) (ok : Typed f) where
         by ! (exits s e)
 
     pub ends : (i : ℕ) (s : Point f) (X : SProp 𝓤) → length (f .arrivals .list) ≤ i
-        → BatchSays (asked f) (s .lent) (s .answer)
+        → BatchSays (asked f) (heldAt s)
         → ent 𝓤 (⋆ 𝓤 H A (At logic f l i s))
         (Wp 𝓤 H (𝓣 .C) (𝓣 .Λ) (locals logic f l) m.turn-1 (afterTurn 𝓤 H X (Left logic f l)))
     unfolding afterTurn
@@ -167,7 +167,7 @@ module _ {M : Type 1} (logic : Logic M) (f : Called) (ok : Typed f) where
 
     pub refuses : (i : ℕ) (s : Point f) (X : SProp 𝓤) → i < length (f .arrivals .list)
         → eqb (s .answer .refusal) 0 ≡ false
-        → BatchSays (asked f) (s .lent) (s .answer)
+        → BatchSays (asked f) (heldAt s)
         → ent 𝓤 (⋆ 𝓤 H A (At logic f l i s))
         (Wp 𝓤 H (𝓣 .C) (𝓣 .Λ) (locals logic f l) m.turn-1 (afterTurn 𝓤 H X (Left logic f l)))
     unfolding afterTurn

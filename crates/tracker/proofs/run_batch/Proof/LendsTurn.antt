@@ -42,7 +42,7 @@ use Rattle.tracker.proofs.Lending.{listed, value}
 use Rattle.tracker.proofs.Again.{Again}
 use Rattle.tracker.proofs.Records.{VR, VK, VN, written-fits, record-good}
 use Rattle.tracker_steps.proofs.RefusalLaws.{place-within}
-use Rattle.tracker.proofs.run_batch.Proof.Parameters.{VS, VT, Called, Typed, Point, Finds, Takes, Delivers, Logic}
+use Rattle.tracker.proofs.run_batch.Proof.Parameters.{VS, VT, Called, Typed, Point, Finds, Takes, Delivers, Logic, heldAt}
 
 -- ---- The place of the arrival's site
 
@@ -77,7 +77,7 @@ module _ {M : Type 1} (logic : Logic M) (f : Called) (s : Point f) (a : Arrival)
   takes-passed = (
     f .settings,
     (
-      ownOf (s .answer) a,
+      ownOf (s .answer .sites) a,
       (
         s .answer .written,
         (a, (numbers f, (listed (f .siteMemory) δ (s .lent .siteMemory), tt))),
@@ -95,7 +95,7 @@ module _ {M : Type 1} (logic : Logic M) (f : Called) (s : Point f) (a : Arrival)
       (
         VS (f .settings) ∷ [],
         (
-          VR (ownOf (s .answer) a) ∷ [],
+          VR (ownOf (s .answer .sites) a) ∷ [],
           (
             vint w64 (s .answer .written) ∷ [],
             (VT a ∷ [], (vint w64 (numbers f) ∷ [], (value (f .siteMemory) ∷ [], tt))),
@@ -112,7 +112,7 @@ module _ {M : Type 1} (logic : Logic M) (f : Called) (s : Point f) (a : Arrival)
       ∷ ‵ (Again u32 (f .siteMemory) (named 0) ν δ (s .lent .siteMemory)) ∷ []
 
   pub takes-goes :
-      TurnAsks (f .settings) (ownOf (s .answer) a) (s .answer .written) a (numbers f)
+      TurnAsks (f .settings) (ownOf (s .answer .sites) a) (s .answer .written) a (numbers f)
       (s .lent .siteMemory)
       → Typed f
       → Is T.the-row a (VT a ∷ [])
@@ -128,7 +128,8 @@ module _ {M : Type 1} (logic : Logic M) (f : Called) (s : Point f) (a : Arrival)
       owned ! u64 (Is u64) (uint-makes 𝓤 H A W w64) (s .answer .written) _
       (refl, written-fits (s .answer) (s .good)) $ fjoin ! $
       owned ! R.the-row (Is R.the-row) (LL.makes R.the-type R′.the-plain 𝓤 H A)
-      (ownOf (s .answer) a) _ (record-good (s .answer) (s .good) (placeOf a) (place-within a)) $
+      (ownOf (s .answer .sites) a) _
+      (record-good (s .answer) (s .good) (placeOf a) (place-within a)) $
       fjoin ! $
       owned ! S.the-row (Is S.the-row) (LL.makes S.the-type S′.the-plain 𝓤 H A) (f .settings) _
       (ok .settings-good) $ fjoin ! $ done !
@@ -202,7 +203,7 @@ module _ {M : Type 1} (logic : Logic M) (f : Called) (s : Point f) (turn : Turn)
       ∷ ‵ (Again u64 (f .coordinatorMemory) (named 1) ν₂ δ₂ (s .lent .coordinatorMemory))
       ∷ ‵ (Again u64 (f .log) (named 2) ν₃ δ₃ (s .lent .log)) ∷ []
 
-  pub delivers-goes : DeliverAsks (f .settings) turn (s .answer) (s .lent) → Typed f
+  pub delivers-goes : DeliverAsks (f .settings) turn (heldAt s) → Typed f
       → Is N.the-row turn (VN turn ∷ [])
       → ent 𝓤 (⋆ 𝓤 H A delivers-lent) (Delivers 𝓤 H A mem run .pre delivers-to)
   delivers-goes asks ok is =

@@ -23,7 +23,6 @@ use denote.Memory.{pointee}
 use denote.Slice.{sliceTy}
 use Rattle.model.specs.declared.Arrival.{Arrival}
 use Rattle.tracker_steps.specs.declared.Turn.{Turn}
-use Rattle.tracker_steps.specs.Steps.{lentOf}
 use Rattle.tracker_steps.specs.Turns.{placeOf, ownOf}
 use Rattle.model.proofs.Settings.Laws as S′
 use Rattle.model.proofs.SiteRecord.Laws as R′
@@ -37,7 +36,7 @@ use Rattle.tracker.proofs.Frame.{Places, rm, rn, empty, full}
 use Rattle.tracker.proofs.Lending.{value}
 use Rattle.tracker.proofs.Records.{VR, VK, VN}
 use Rattle.tracker.proofs.run_batch.Code.Mir as m
-use Rattle.tracker.proofs.run_batch.Proof.Parameters.{VS, VP, VD, VT, Called, Point, Owned, Post, Logic}
+use Rattle.tracker.proofs.run_batch.Proof.Parameters.{VS, VP, VD, VT, Called, Point, Owned, Post, Logic, lentOf}
 
 abbrev pub behind : ℕ → ℕ → ℕ
 behind items i = items + (84 - (i + i))
@@ -118,7 +117,7 @@ module _ {M : Type 1} (logic : Logic M) (f : Called) (l : Places) where
   abbrev pub Seen : ℕ → Arrival → Point f → List (Item 𝓤)
   Seen i a s =
       Owned f (s .lent)
-      (temporaries (empty N′.mir (l 13) (full R′.mir (l 12) (VR (ownOf (s .answer) a))
+      (temporaries (empty N′.mir (l 13) (full R′.mir (l 12) (VR (ownOf (s .answer .sites) a))
       (full (tyInt w64) (l 11) (vint w64 (placeOf a))
       (full T′.mir (l 10) (VT a) (standing i s))))))
 

@@ -21,7 +21,7 @@ use Rattle.tracker.proofs.WalkLaws.{Walked, walked-asks, walked-step, w
 use Rattle.tracker.proofs.Tail.{Tail, all-left, within, is-head, after, past-end}
 use Rattle.tracker.proofs.Frame.{Places}
 use Rattle.tracker.proofs.run_batch.Code.Mir as m
-use Rattle.tracker.proofs.run_batch.Proof.Parameters.{Called, Typed, asked, none, Point, Post, Logic}
+use Rattle.tracker.proofs.run_batch.Proof.Parameters.{Called, Typed, asked, none, Point, Post, Logic, heldAt}
 use Rattle.tracker.proofs.run_batch.Proof.Locals.{locals, At, Left}
 use Rattle.tracker.proofs.run_batch.Proof.Turn.{takes}
 use Rattle.tracker.proofs.run_batch.Proof.Ending.{ends, refuses}
@@ -47,7 +47,7 @@ module _ {M : Type 1} (logic : Logic M) (f : Called) (ok : Typed f) (l : Places)
       (unroll 𝓤 H (W .laws) 𝓣 (locals logic f l) m.turn-1 (Left logic f l) On (id⊢ 𝓤 _))
 
   loops : (rest : List Arrival) (i : ℕ) (s : Point f) → Tail none (f .arrivals .list) i rest
-      → Walked (asked f) rest (s .answer) (s .lent)
+      → Walked (asked f) rest (heldAt s)
       → ent 𝓤 (⋆ 𝓤 H A (At logic f l i s)) On
   loops [] i s t w = on i s (ends logic f ok l i s On (past-end t) (walked-done w))
   loops (x ∷ rest) i s t w = by-test (eqb (s .answer .refusal) 0)
@@ -55,19 +55,19 @@ module _ {M : Type 1} (logic : Logic M) (f : Called) (ok : Typed f) (l : Places)
       on i s (takes logic f ok l i s On (within t) y (walked-asks w goes-on)
       (λ s′ e. loops rest (i + 1) s′ (after t) (walked-step w goes-on
       (subst
-      (λ (a : Arrival). OneSays (f .settings) a (s .answer) (s .lent) (s′ .answer) (s′ .lent))
+      (λ (a : Arrival). OneSays (f .settings) a (heldAt s) (heldAt s′))
       (is-head t) e)))))
       (λ y. on i s (refuses logic f ok l i s On (within t) y
       (walked-stopped w (eqb-false (s .answer .refusal) 0 y))))
 
-  looped : (s : Point f) → Walked (asked f) (f .arrivals .list) (s .answer) (s .lent)
+  looped : (s : Point f) → Walked (asked f) (f .arrivals .list) (heldAt s)
       → ent 𝓤 (⋆ 𝓤 H A (At logic f l 0 s))
       (Wp 𝓤 H (𝓣 .C) (𝓣 .Λ) (locals logic f l) (loop m.turn-1) (Left logic f l))
   looped s w =
       via 𝓤 On (loops (f .arrivals .list) 0 s (all-left (f .arrivals .list)) w)
       (W .laws .⇛-intro On)
 
-  pub starts : (s : Point f) → Walked (asked f) (f .arrivals .list) (s .answer) (s .lent)
+  pub starts : (s : Point f) → Walked (asked f) (f .arrivals .list) (heldAt s)
       → Sq W (At logic f l 0 s)
       (runs (𝓣 .C) (𝓣 .Λ) (locals logic f l) m.t-8
       (atRet (locals logic f l) (Post 𝓤 H A mem run f)))

@@ -6,7 +6,8 @@
 --   Called               the parameters: three structs by value, and four lent slices
 --   Typed                they are values of their types
 --   asked                all of it as the contract reads it
---   Point                where the loop stands: the answer so far, and lent memory and log
+--   Lists, Point         what the slices hold; where the loop stands: these and the answer so far
+--   heldAt               the same as the contracts read it
 --   answered             the same with another answer
 --   Owned                what is owned then, with the tokens of the lifetimes
 --   Post                 what is to be had at the end
@@ -42,8 +43,9 @@ use Rattle.model.specs.declared.Settings.{Settings}
 use Rattle.model.specs.declared.Arrival.{Arrival}
 use Rattle.model.specs.declared.Sites.{Sites}
 use Rattle.model.specs.declared.CoordinatorRecord.{CoordinatorRecord}
+use Rattle.model.specs.Held.{heldBy}
 use Rattle.tracker_steps.specs.declared.BatchAnswer.{BatchAnswer}
-use Rattle.tracker.specs.Batch.{BatchCall, BatchLent}
+use Rattle.tracker.specs.Batch.{BatchCall, BatchHeld, batchHeld}
 use Rattle.model.proofs.Settings as S
 use Rattle.model.proofs.Settings.Laws as S′
 use Rattle.model.proofs.Sites as P
@@ -102,11 +104,8 @@ pub record Typed (f : Called) : Type 0 where
 abbrev pub asked : Called → BatchCall
 asked f = record {
   settings = f .settings;
-  sites = f .sites;
-  coordinator = f .coordinator;
+  held = heldBy (f .sites) (f .coordinator) (f .siteMemory .list) (f .coordinatorMemory .list);
   arrivals = f .arrivals .list;
-  siteMemory = f .siteMemory .list;
-  coordinatorMemory = f .coordinatorMemory .list;
   log = f .log .list;
 }
 
@@ -116,8 +115,21 @@ none = record { site = 0; item = 0; value = 0 }
 
 -- ---- Where the loop stands
 
--- The lent lists keep their lengths.
-pub record Same (f : Called) (lent : BatchLent) : Type 0 where
+-- What the slices hold that are lent to be written.
+pub record Lists : Type 0 where
+  pub siteMemory : List ℕ
+  pub coordinatorMemory : List ℕ
+  pub log : List ℕ
+
+abbrev pub lentOf : List ℕ → List ℕ → List ℕ → Lists
+lentOf siteMemory coordinatorMemory log = record {
+  siteMemory = siteMemory;
+  coordinatorMemory = coordinatorMemory;
+  log = log;
+}
+
+-- They keep their lengths.
+pub record Same (f : Called) (lent : Lists) : Type 0 where
   pub site-memory-same : length (lent .siteMemory) ≡ length (f .siteMemory .list)
   pub coordinator-memory-same :
       length (lent .coordinatorMemory) ≡ length (f .coordinatorMemory .list)
@@ -125,16 +137,20 @@ pub record Same (f : Called) (lent : BatchLent) : Type 0 where
 
 pub record Point (f : Called) : Type 0 where
   pub answer : BatchAnswer
-  pub lent : BatchLent
+  pub lent : Lists
   pub good : Is K.the-row answer (VK answer ∷ [])
   pub same : Same f lent
+
+abbrev pub heldAt : {f : Called} → Point f → BatchHeld
+heldAt s =
+    batchHeld (s .answer) (s .lent .siteMemory) (s .lent .coordinatorMemory) (s .lent .log)
 
 -- The same with another answer.
 abbrev pub answered : {f : Called} → Point f → (r : BatchAnswer) → Is K.the-row r (VK r ∷ [])
     → Point f
 answered s r good = record { answer = r; lent = s .lent; good = good; same = s .same }
 
-abbrev pub Owned : {M : Type 1} {𝓤 : URA M} → Called → BatchLent → List (Item 𝓤) → List (Item 𝓤)
+abbrev pub Owned : {M : Type 1} {𝓤 : URA M} → Called → Lists → List (Item 𝓤) → List (Item 𝓤)
 Owned f lent Γ =
     ‵ (Looked T.the-row (f .arrivals) (named 0))
     ∷ ‵ (flft (f .arrivals .life) (f .arrivals .share))

@@ -31,7 +31,7 @@ use denote.Triple.Call.{calls-at}
 use denote.Triple.Clauses.{lasts}
 use Rattle.tracker_steps.specs.declared.BatchAnswer.{BatchAnswer}
 use Rattle.tracker_steps.specs.declared.Turn.{Turn}
-use Rattle.tracker_steps.specs.Steps.{lentOf}
+use Rattle.tracker_steps.specs.Steps.{batchHeld}
 use Rattle.tracker_steps.specs.Turns.{DeliverAsks, DeliverSays}
 use Rattle.tracker_steps.proofs.BatchAnswer as K
 use Rattle.tracker_steps.proofs.BatchAnswer.Laws as K′
@@ -43,7 +43,7 @@ use Rattle.tracker.proofs.Reborrow.{reborrows}
 use Rattle.tracker.proofs.Records.{VN}
 use Rattle.tracker_steps.proofs.deliver_turn as delivering
 use Rattle.tracker.proofs.run_batch.Code.Mir as m
-use Rattle.tracker.proofs.run_batch.Proof.Parameters.{Called, Typed, Point, Delivers, Logic}
+use Rattle.tracker.proofs.run_batch.Proof.Parameters.{Called, Typed, Point, Delivers, Logic, heldAt, lentOf}
 use Rattle.tracker.proofs.run_batch.Proof.LendsTurn.{DeliversWith, delivers-passed, delivers-to, delivers-goes}
 use Rattle.tracker.proofs.run_batch.Proof.Locals.{behind, cell, locals, At, Counted, Left}
 
@@ -122,13 +122,13 @@ module _ {M : Type 1} (logic : Logic M) (f : Called) (ok : Typed f) (l : Places)
 
     abbrev Said : BatchAnswer → Lasts → Type 0
     Said r ws =
-        DeliverSays (f .settings) turn (s .answer) (s .lent) r
-        (lentOf (ws .1 .1 .1 .0) (ws .1 .1 .1 .1 .0) (ws .1 .1 .1 .1 .1 .0))
+        DeliverSays (f .settings) turn (heldAt s)
+        (batchHeld r (ws .1 .1 .1 .0) (ws .1 .1 .1 .1 .0) (ws .1 .1 .1 .1 .1 .0))
 
-    pub sends : ((turn .out .count ≡ 0 → ⊥) → DeliverAsks (f .settings) turn (s .answer) (s .lent))
+    pub sends : ((turn .out .count ≡ 0 → ⊥) → DeliverAsks (f .settings) turn (heldAt s))
         → (turn .out .count ≡ 0 → ent 𝓤 (⋆ 𝓤 H A (At logic f l (i + 1) s)) X)
         → ((s′ : Point f) → (turn .out .count ≡ 0 → ⊥)
-        → DeliverSays (f .settings) turn (s .answer) (s .lent) (s′ .answer) (s′ .lent)
+        → DeliverSays (f .settings) turn (heldAt s) (heldAt s′)
         → ent 𝓤 (⋆ 𝓤 H A (At logic f l (i + 1) s′)) X)
         → Sq W (Counted logic f l i turn s)
         (runs (𝓣 .C) (𝓣 .Λ) (locals logic f l) sending

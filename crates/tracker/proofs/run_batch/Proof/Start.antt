@@ -22,7 +22,7 @@ use denote.Struct.Laws as LL
 use denote.Triple.Call.{calls-at}
 use denote.Triple.Clauses.{lasts}
 use Rattle.tracker_steps.specs.declared.BatchAnswer.{BatchAnswer}
-use Rattle.tracker_steps.specs.Steps.{OpenSays, lentOf}
+use Rattle.tracker_steps.specs.Steps.{OpenSays}
 use Rattle.tracker.proofs.WalkLaws.{walked-open}
 use Rattle.tracker_steps.proofs.BatchAnswer as K
 use Rattle.tracker_steps.proofs.BatchAnswer.Laws as K′
@@ -32,7 +32,7 @@ use Rattle.tracker.proofs.Promised.{promised}
 use Rattle.tracker.proofs.Reborrow.{reborrows}
 use Rattle.tracker_steps.proofs.open_batch as opening
 use Rattle.tracker.proofs.run_batch.Code.Mir as m
-use Rattle.tracker.proofs.run_batch.Proof.Parameters.{Called, Typed, asked, Post, Opens, Logic}
+use Rattle.tracker.proofs.run_batch.Proof.Parameters.{Called, Typed, asked, Post, Opens, Logic, lentOf}
 use Rattle.tracker.proofs.run_batch.Proof.Lends.{OpensWith, opens-passed, opens-to, opens-goes}
 use Rattle.tracker.proofs.run_batch.Proof.Locals.{behind, cell, locals, Begun}
 use Rattle.tracker.proofs.run_batch.Proof.Loop.{starts}

@@ -26,7 +26,6 @@ use denote.Triple.Call.{calls-at}
 use denote.Triple.Clauses.{lasts}
 use Rattle.model.specs.declared.Arrival.{Arrival}
 use Rattle.tracker_steps.specs.declared.Turn.{Turn}
-use Rattle.tracker_steps.specs.Steps.{lentOf}
 use Rattle.tracker_steps.specs.Turns.{ownOf, TurnAsks, TurnSays}
 use Rattle.model.proofs.Arrival as T
 use Rattle.tracker_steps.proofs.Turn as N
@@ -37,7 +36,7 @@ use Rattle.tracker.proofs.Promised.{promised}
 use Rattle.tracker.proofs.Reborrow.{reborrows}
 use Rattle.tracker.proofs.Records.{VN, written-fits}
 use Rattle.tracker_steps.proofs.take_turn as taking
-use Rattle.tracker.proofs.run_batch.Proof.Parameters.{VT, Called, Typed, Point, Takes, Logic}
+use Rattle.tracker.proofs.run_batch.Proof.Parameters.{VT, Called, Typed, Point, Takes, Logic, lentOf}
 use Rattle.tracker.proofs.run_batch.Proof.LendsTurn.{numbers, takes-passed, takes-to, takes-goes}
 use Rattle.tracker.proofs.run_batch.Proof.Locals.{behind, cell, locals, Seen, Told, Left}
 use Rattle.tracker.proofs.run_batch.Proof.Sending.{seen, taken}
@@ -67,11 +66,11 @@ module _ {M : Type 1} (logic : Logic M) (f : Called) (ok : Typed f) (l : Places)
 
   abbrev pub Said : Turn → List ℕ → Type 0
   Said turn memory =
-      TurnSays (f .settings) (ownOf (s .answer) a) (s .answer .written) a (numbers f)
+      TurnSays (f .settings) (ownOf (s .answer .sites) a) (s .answer .written) a (numbers f)
       (s .lent .siteMemory) turn memory
 
   pub takes-turn : Is T.the-row a (VT a ∷ [])
-      → TurnAsks (f .settings) (ownOf (s .answer) a) (s .answer .written) a (numbers f)
+      → TurnAsks (f .settings) (ownOf (s .answer .sites) a) (s .answer .written) a (numbers f)
       (s .lent .siteMemory)
       → ((turn : Turn) (memory : List ℕ) (same : length memory ≡ length (s .lent .siteMemory))
       → Is N.the-row turn (VN turn ∷ [])

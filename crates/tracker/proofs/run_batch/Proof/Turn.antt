@@ -33,7 +33,7 @@ use denote.Triple.Call.{calls-at}
 use denote.Triple.Clauses.{lasts}
 use Rattle.model.specs.declared.Arrival.{Arrival}
 use Rattle.model.specs.Limits.{mostSites}
-use Rattle.site_memory.specs.Records.{noRecord}
+use Rattle.model.specs.Held.{noRecord}
 use Rattle.tracker_steps.specs.Steps.{OneAsks, OneSays}
 use Rattle.tracker_steps.specs.Turns.{placeOf, ownOf, TurnAsks, TurnSays}
 use Rattle.model.proofs.Arrival as T
@@ -49,7 +49,7 @@ use Rattle.tracker.proofs.Promised.{promised}
 use Rattle.tracker.proofs.Records.{VR, recordSize, recordsPlace, values, length-values, values-at, many-records, refusal-fits, record-good}
 use Rattle.tracker_steps.proofs.place_of as finding
 use Rattle.tracker.proofs.run_batch.Code.Mir as m
-use Rattle.tracker.proofs.run_batch.Proof.Parameters.{VT, Called, Typed, none, Point, answered, Finds, Logic}
+use Rattle.tracker.proofs.run_batch.Proof.Parameters.{VT, Called, Typed, none, Point, answered, Finds, Logic, heldAt}
 use Rattle.tracker.proofs.run_batch.Proof.LendsTurn.{finds-passed, finds-to, finds-goes}
 use Rattle.tracker.proofs.run_batch.Proof.Locals.{behind, cell, locals, At, Seen, Left}
 use Rattle.tracker.proofs.run_batch.Proof.Sending.{work, seen, sends}
@@ -84,7 +84,8 @@ module _ {M : Type 1} (logic : Logic M) (f : Called) (ok : Typed f) (l : Places)
       length-values records ∙ many-records (s .answer) (s .good) in
       let inside : placeOf arrival < length (values records) =
       subst (λ (n : ℕ). placeOf arrival < n) (sym many) (place-within arrival) in
-      let own-typed = LL.lawful R.the-type R′.the-laws 𝓤 H A W .typed (ownOf (s .answer) arrival) _
+      let own-typed = LL.lawful R.the-type R′.the-laws 𝓤 H A W .typed
+      (ownOf (s .answer .sites) arrival) _
       (record-good (s .answer) (s .good) (placeOf arrival) (place-within arrival)) .0 in
       qed W (At logic f l i s) ∵
       exec ! (𝓣 .C) (𝓣 .Λ) (locals logic f l) m.turn-1 (anyQ (afterTurn 𝓤 H X (Left logic f l))) $
@@ -171,27 +172,28 @@ module _ {M : Type 1} (logic : Logic M) (f : Called) (ok : Typed f) (l : Places)
       (λ z. absurd z)) (λ z. absurd z)
 
   pub takes : eqb (s .answer .refusal) 0 ≡ true
-      → OneAsks (f .settings) (s .answer) (s .lent)
+      → OneAsks (f .settings) (heldAt s)
       → ((s′ : Point f)
-      → OneSays (f .settings) arrival (s .answer) (s .lent) (s′ .answer) (s′ .lent)
+      → OneSays (f .settings) arrival (heldAt s) (heldAt s′)
       → ent 𝓤 (⋆ 𝓤 H A (At logic f l (i + 1) s′)) X)
       → ent 𝓤 (⋆ 𝓤 H A (At logic f l i s))
       (Wp 𝓤 H (𝓣 .C) (𝓣 .Λ) (locals logic f l) m.turn-1 (afterTurn 𝓤 H X (Left logic f l)))
   takes goes-on asks k =
       reads goes-on (λ is.
       takes-turn logic f ok l i X s arrival is
-      (subst (λ (n : ℕ). TurnAsks (f .settings) (ownOf (s .answer) arrival) (s .answer .written)
-      arrival n (s .lent .siteMemory)) (s .same .log-same) (turn-asks arrival refl asks))
+      (subst (λ (n : ℕ). TurnAsks (f .settings) (ownOf (s .answer .sites) arrival)
+      (s .answer .written) arrival n (s .lent .siteMemory)) (s .same .log-same)
+      (turn-asks arrival refl asks))
       (λ turn memory same turn-is said.
-      let told = subst (λ (n : ℕ). TurnSays (f .settings) (ownOf (s .answer) arrival)
+      let told = subst (λ (n : ℕ). TurnSays (f .settings) (ownOf (s .answer .sites) arrival)
       (s .answer .written) arrival n (s .lent .siteMemory) turn memory)
       (sym (s .same .log-same)) said in
       let s′ = moved s memory same in
       counts logic f l i turn turn-is X s′ arrival (place-within arrival)
-      (count-asks (s .lent) arrival (s .answer) refl told asks) (λ good.
+      (count-asks (heldAt s) arrival refl told asks) (λ good.
       sends logic f ok l i within turn turn-is X (answered s′ _ good)
-      (λ some. deliver-asks (s .lent) arrival (s .answer) refl told _ refl asks some)
+      (λ some. deliver-asks (heldAt s) arrival refl told _ refl asks some)
       (λ quiet. k (answered s′ _ good)
-      (quiet-says (s .lent) arrival (s .answer) refl told _ refl quiet))
+      (quiet-says (heldAt s) arrival refl told _ refl quiet))
       (λ s″ some says. k s″
-      (loud-says (s .lent) arrival (s .answer) refl told _ refl some says)))))
+      (loud-says (heldAt s) arrival refl told _ refl some says)))))

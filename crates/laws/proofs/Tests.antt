@@ -1,12 +1,12 @@
 -- Laws of tests joined by `&&`, `||` and `not`.
 --
 --   both-true        both tests of a conjunction hold
---   AllHold, no-test, also   tests that hold one after another, as one conjunction
 --   neither-of-or    neither test of a disjunction holds that fails
 --   false-of-not     what a test's negation says of it: it fails
 --   true-of-not      and it holds
 --   ltb-is-not-leb   b < a is the negation of a ≤ b, as tests
 --   and-false, and-true, or-false   a joined test whose second part is known
+--   AllHold, no-test, also, also-fails   tests that hold one after another, as one conjunction
 use mathlib.Core.Path.{_≡_, refl, sym, _∙_}
 use Prim.Native.Nat.{ℕ}
 use lib.Dec.{leb, ltb}
@@ -20,23 +20,6 @@ pub record BothTrue (first second : Bool) : Type 0 where
 pub both-true : (first second : Bool) → (first && second) ≡ true → BothTrue first second
 both-true true second holds = record { first-true = refl; second-true = holds }
 both-true false second impossible = absurd (false≢true impossible)
-
--- Tests found to hold one after another: none, and one more.
-pub record AllHold : Type 0 where
-  pub tests : Bool
-  pub hold : tests ≡ true
-
-abbrev pub no-test : AllHold
-no-test = record { tests = true; hold = refl }
-
-pub and-both : (first second : Bool) → first ≡ true → second ≡ true → (first && second) ≡ true
-and-both first second holds also-holds = rw (holds, also-holds)
-
-abbrev pub also : (so-far : AllHold) (test : Bool) → test ≡ true → AllHold
-also so-far test holds = record {
-  tests = so-far .tests && test;
-  hold = and-both (so-far .tests) test (so-far .hold) holds;
-}
 
 pub record NeitherTrue (first second : Bool) : Type 0 where
   pub first-false : first ≡ false
@@ -71,3 +54,27 @@ and-false false = refl
 pub and-true : (test : Bool) → (test && true) ≡ test
 and-true true = refl
 and-true false = refl
+
+-- ---- Tests found to hold one after another
+
+pub record AllHold : Type 0 where
+  pub tests : Bool
+  pub hold : tests ≡ true
+
+abbrev pub no-test : AllHold
+no-test = record { tests = true; hold = refl }
+
+pub and-both : (first second : Bool) → first ≡ true → second ≡ true → (first && second) ≡ true
+and-both first second holds also-holds = rw (holds, also-holds)
+
+-- One more, by an answer that is its negation.
+module _ (so-far : AllHold) (test : Bool) {answer : Bool} (is : answer ≡ not test) where
+  abbrev pub also : answer ≡ false → AllHold
+  also no-answer = record {
+    tests = so-far .tests && test;
+    hold = and-both (so-far .tests) test (so-far .hold) (true-of-not test is no-answer);
+  }
+
+  pub also-fails : answer ≡ true → (so-far .tests && test) ≡ false
+  also-fails yes-answer =
+      rw (false-of-not test is yes-answer) (and-false (so-far .tests))

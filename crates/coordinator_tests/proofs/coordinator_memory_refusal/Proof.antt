@@ -12,15 +12,6 @@ use Rattle.model.proofs.ReportLaws.{valueCount-is}
 use Rattle.coordinator_tests.proofs.coordinator_memory_refusal.Statement.{statement}
 use Rattle.coordinator_tests.proofs.coordinator_memory_refusal.Tie as tie
 
-abbrev answer : tie.Else1 → ℕ
-answer c =
-    let a = c .before .before .before .args in
-    coordinatorMemoryRefusal (a .settings) (a .coordinator) (a .memory .now)
-
-abbrev past-settings : (c : tie.Else1) → Still (answer c)
-past-settings c =
-    pass-part _ _ (begin _) refl (told (c .before .test-settings .ensures) (c .if1 .left))
-
 short : (c : tie.Then2)
     → let a = c .before .before .before .before .before .args in
     length (a .memory .now) < coordinatorWords (a .settings)
@@ -31,16 +22,17 @@ long : (c : tie.Else2)
     coordinatorWords (a .settings) ≤ length (a .memory .now)
 long c = omega (arith, c .if2 .left, valueCount-is)
 
+abbrev answer : tie.Else1 → ℕ
+answer c =
+    let a = c .before .before .before .args in
+    coordinatorMemoryRefusal (a .settings) (a .coordinator) (a .memory .now)
+
+abbrev past-settings : (c : tie.Else1) → Still (answer c)
+past-settings c =
+    pass-part _ _ (begin _) refl (told (c .before .test-settings .ensures) (c .if1 .left))
+
 abbrev past-length : (c : tie.Else2) → Still (answer (c .before .before))
 past-length c = pass _ _ _ (past-settings (c .before .before)) refl (le-ltb _ _ (long c))
-
-coordinator-consistent-requires : tie.Need-coordinator-consistent-requires
-coordinator-consistent-requires c κs =
-    let settled = c .before .before in
-    record {
-      settings-accepted = told (settled .before .test-settings .ensures) (settled .if1 .left);
-      memory-long = long c;
-    }
 
 pub coordinator-memory-refusal-spec : {M : Type 1} → statement M
 coordinator-memory-refusal-spec =
@@ -50,7 +42,11 @@ coordinator-memory-refusal-spec =
     (λ c. refuse-part _ _ (begin _) refl (c .before .test-settings .ensures) (c .if1 .taken))
     (λ c. search needs) (λ c. search needs)
     (λ c. refuse _ _ _ (past-settings (c .before .before)) refl (lt-ltb _ _ (short c)))
-    coordinator-consistent-requires
+    (λ c κs. record {
+      settings-accepted =
+          told (c .before .before .before .test-settings .ensures) (c .before .before .if1 .left);
+      memory-long = long c;
+    })
     (λ c. end (pass _ _ _ (past-length (c .before .before)) refl
     (ap not (told (c .before .coordinator-consistent .ensures) (c .if3 .taken)))) refl)
     (λ c. refuse _ _ _ (past-length (c .before .before)) refl

@@ -33,14 +33,6 @@ long c = omega (arith, c .before .site-words .ensures, c .if2 .left)
 abbrev past-length : (c : tie.Else2) → Still (answer (c .before .before))
 past-length c = pass _ _ _ (past-settings (c .before .before)) refl (le-ltb _ _ (long c))
 
-site-consistent-requires : tie.Need-site-consistent-requires
-site-consistent-requires c κs =
-    let settled = c .before .before in
-    record {
-      settings-accepted = told (settled .before .test-settings .ensures) (settled .if1 .left);
-      long-enough = long c;
-    }
-
 pub site-memory-refusal-spec : {M : Type 1} → statement M
 site-memory-refusal-spec =
     tie.close
@@ -49,7 +41,11 @@ site-memory-refusal-spec =
     (λ c. refuse-part _ _ (begin _) refl (c .before .test-settings .ensures) (c .if1 .taken))
     (λ c κs. told (c .before .test-settings .ensures) (c .if1 .left))
     (λ c. refuse _ _ _ (past-settings (c .before .before)) refl (lt-ltb _ _ (short c)))
-    site-consistent-requires
+    (λ c κs. record {
+      settings-accepted =
+          told (c .before .before .before .test-settings .ensures) (c .before .before .if1 .left);
+      long-enough = long c;
+    })
     (λ c. end (pass _ _ _ (past-length (c .before .before)) refl
     (ap not (told (c .before .site-consistent .ensures) (c .if3 .taken)))) refl)
     (λ c. refuse _ _ _ (past-length (c .before .before)) refl

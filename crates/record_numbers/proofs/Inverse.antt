@@ -79,30 +79,30 @@ phase-back (Collecting site) = refl
 phase-back (Probing site low high sum) = refl
 phase-back (Announcing site) = refl
 
+-- A phase that has a site alone.
+site-alone : (which site low high sum : ℕ)
+    → low + high + sum ≡ 0
+    → phaseOf which site 0 0 0 ≡ phaseOf which site low high sum
+site-alone which site low high sum none =
+    let l : 0 ≡ low = omega arith in
+    let h : 0 ≡ high = omega arith in
+    let m : 0 ≡ sum = omega arith in
+    λ i. phaseOf which site (l i) (h i) (m i)
+
 -- By the phase's number: idle has no numbers, collecting and announcing have one, probing all four.
 pub phase-same : (which site low high sum : ℕ)
     → phaseWell which site low high sum ≡ true
     → phaseNumbers (phaseFrom which site low high sum) ≡ phaseOf which site low high sum
 phase-same zero site low high sum well =
     let none = eqb-true (site + low + high + sum) 0 well in
-    let s : 0 ≡ site = omega (arith, none) in
-    let l : 0 ≡ low = omega (arith, none) in
-    let h : 0 ≡ high = omega (arith, none) in
-    let m : 0 ≡ sum = omega (arith, none) in
-    λ i. phaseOf 0 (s i) (l i) (h i) (m i)
+    let nobody : 0 ≡ site = omega (arith, none) in
+    site-alone 0 0 low high sum (omega (arith, none))
+    ∙ ap (λ (s : ℕ). phaseOf 0 s low high sum) nobody
 phase-same (suc zero) site low high sum well =
-    let none = eqb-true (low + high + sum) 0 well in
-    let l : 0 ≡ low = omega (arith, none) in
-    let h : 0 ≡ high = omega (arith, none) in
-    let m : 0 ≡ sum = omega (arith, none) in
-    λ i. phaseOf 1 site (l i) (h i) (m i)
+    site-alone 1 site low high sum (eqb-true (low + high + sum) 0 well)
 phase-same (suc (suc zero)) site low high sum well = refl
 phase-same (suc (suc (suc zero))) site low high sum well =
-    let none = eqb-true (low + high + sum) 0 well in
-    let l : 0 ≡ low = omega (arith, none) in
-    let h : 0 ≡ high = omega (arith, none) in
-    let m : 0 ≡ sum = omega (arith, none) in
-    λ i. phaseOf 3 site (l i) (h i) (m i)
+    site-alone 3 site low high sum (eqb-true (low + high + sum) 0 well)
 phase-same (suc (suc (suc (suc more)))) site low high sum well =
     let which = suc (suc (suc (suc more))) in
     let rest : leb which 3 && isZero (low + high + sum) ≡ true =
@@ -194,6 +194,10 @@ site-behind front back n width =
     ap (λ (m : ℕ). getD (front ++ back) m 0) (sym (add-zero n)) ∙ at 0 in
     λ i. record { arrivals = first i; pending = at 1 i; threshold = at 2 i; used = at 3 i }
 
+-- The numbers of one record, and others behind them.
+abbrev recordAnd : List SiteRecord → ℕ → List ℕ → List ℕ
+recordAnd records n rest = siteNumbers (getD records n zeroSite) ++ rest
+
 -- The record at a place among the numbers of the first n.
 site-written : (n : ℕ) (records : List SiteRecord) (rest : List ℕ) (i : ℕ)
     → i < n
@@ -203,21 +207,18 @@ site-written (suc n) records rest i inside =
     ap (λ (l : List ℕ). siteAt l (4 * i))
     (append-assoc (recordsNumbers n records) (siteNumbers (getD records n zeroSite)) rest)
     ∙ by-place (ℕ-discrete i n)
-    (λ before. site-written n records (siteNumbers (getD records n zeroSite) ++ rest) i before)
+    (λ before. site-written n records (recordAnd records n rest) i before)
   where
     by-place : Dec (i ≡ n)
         → (i < n
-        → siteAt (recordsNumbers n records ++ (siteNumbers (getD records n zeroSite) ++ rest))
-        (4 * i)
+        → siteAt (recordsNumbers n records ++ recordAnd records n rest) (4 * i)
         ≡ getD records i zeroSite)
-        → siteAt (recordsNumbers n records ++ (siteNumbers (getD records n zeroSite) ++ rest))
-        (4 * i)
+        → siteAt (recordsNumbers n records ++ recordAnd records n rest) (4 * i)
         ≡ getD records i zeroSite
     by-place (yes last) earlier =
-        ap (λ (j : ℕ).
-        siteAt (recordsNumbers n records ++ (siteNumbers (getD records n zeroSite) ++ rest)) (4 * j))
-        last
-        ∙ site-behind (recordsNumbers n records) _ (4 * n) (length-recordsNumbers n records)
+        ap (λ (j : ℕ). siteAt (recordsNumbers n records ++ recordAnd records n rest) (4 * j)) last
+        ∙ site-behind (recordsNumbers n records) (recordAnd records n rest) (4 * n)
+        (length-recordsNumbers n records)
         ∙ ap (λ (j : ℕ). getD records j zeroSite) (sym last)
     by-place (no other) earlier = earlier (omega arith)
 

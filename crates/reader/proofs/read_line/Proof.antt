@@ -47,7 +47,7 @@ use Rattle.reader.specs.Reading.{Stepped}
 use Rattle.reader.specs.Walk.{stepAt}
 use Rattle.reader.specs.declared.Reader.{Reader}
 use Rattle.reader.specs.declared.Step.{Step}
-use Rattle.reader.proofs.LentLocal.{Lent, lends, returned}
+use Rattle.walks.proofs.LentLocal.{Lent, lends, returned}
 use Rattle.reader.proofs.StepValue.{stepVal, settled}
 use Rattle.reader.proofs.Reader as T
 use Rattle.reader.proofs.Reader.Laws as T′

@@ -39,8 +39,8 @@ use denote.Triple.Table.{entered, cited}
 use denote.Triple.Walked.{goes-none-slice, goes-gave-slice, Walks, walked, walk-meets}
 use denote.Exit.{yes}
 use Rattle.model.proofs.Arrival as T
-use Rattle.tracker.proofs.Frame.{placed}
-use Rattle.tracker.proofs.Lending.{lending, value}
+use Rattle.walks.proofs.Frame.{placed}
+use Rattle.walks.proofs.Lending.{lending, value}
 use Rattle.testing_batches.proofs.open_lent.Symbol as open-def
 use Rattle.testing_batches.proofs.open_lent.Symbol.{name as #open-lent}
 use Rattle.testing_batches.proofs.open_lent.Met as open-thm

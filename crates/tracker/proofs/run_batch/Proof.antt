@@ -56,8 +56,8 @@ use Rattle.model.proofs.Sites.Laws as P′
 use Rattle.model.proofs.CoordinatorRecord as D
 use Rattle.model.proofs.CoordinatorRecord.Laws as D′
 use Rattle.model.proofs.Arrival as T
-use Rattle.tracker.proofs.Frame.{placed}
-use Rattle.tracker.proofs.Lending.{lending, value}
+use Rattle.walks.proofs.Frame.{placed}
+use Rattle.walks.proofs.Lending.{lending, value}
 use Rattle.tracker_steps.proofs.open_batch.Symbol as open-def
 use Rattle.tracker_steps.proofs.open_batch.Symbol.{name as #steps·open-batch}
 use Rattle.tracker_steps.proofs.open_batch.Met as open-thm

@@ -28,10 +28,10 @@ use Rattle.testing_numbers.specs.Openings.{change}
 use Rattle.testing_batches.specs.Batch.{Closes, BatchLends}
 use Rattle.testing_batches.proofs.Batching.{batch-exported}
 use Rattle.model.proofs.Arrival as T
-use Rattle.tracker.proofs.Frame.{Places}
-use Rattle.tracker.proofs.Promised.{promised}
-use Rattle.tracker.proofs.Reborrow.{reborrows}
-use Rattle.tracker.proofs.Elem.{Looked}
+use Rattle.walks.proofs.Frame.{Places}
+use Rattle.walks.proofs.Promised.{promised}
+use Rattle.walks.proofs.Reborrow.{reborrows}
+use Rattle.walks.proofs.Elem.{Looked}
 use Rattle.testing_batches.proofs.close_lent as closer
 use Rattle.testing_batches.proofs.testing_run_batch as fun
 use Rattle.testing_batches.proofs.testing_run_batch.Code.Mir as m

@@ -41,9 +41,9 @@ use Rattle.tracker_steps.proofs.BatchAnswer as K
 use Rattle.tracker_steps.proofs.BatchAnswer.Laws as K′
 use Rattle.testing_batches.proofs.Opening as O
 use Rattle.testing_batches.proofs.Opening.Laws as O′
-use Rattle.tracker.proofs.Lending.{listed, value}
-use Rattle.tracker.proofs.Again.{Held-at, Again}
-use Rattle.tracker.proofs.Elem.{Looked}
+use Rattle.walks.proofs.Lending.{listed, value}
+use Rattle.walks.proofs.Again.{Held-at, Again}
+use Rattle.walks.proofs.Elem.{Looked}
 use Rattle.testing_batches.proofs.testing_run_batch.Proof.Parameters.{VS, VP, VD, VK, VO, Called, Rooms, as-lent, AfterOpening, AfterBatch, Opens′, Runs′, Closes′, Logic}
 
 pub record OpensWith : Type 0 where

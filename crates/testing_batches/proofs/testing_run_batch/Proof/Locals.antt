@@ -18,10 +18,10 @@ use denote.Slice.{sliceTy, finally}
 use Rattle.model.proofs.Arrival as T
 use Rattle.tracker_steps.proofs.BatchAnswer.Laws as K′
 use Rattle.testing_batches.proofs.Opening.Laws as O′
-use Rattle.tracker.proofs.Lending.{Lending, value}
-use Rattle.tracker.proofs.Again.{Held-at}
-use Rattle.tracker.proofs.Elem.{Looked}
-use Rattle.tracker.proofs.Frame.{Places, rm, rn, empty, full}
+use Rattle.walks.proofs.Lending.{Lending, value}
+use Rattle.walks.proofs.Again.{Held-at}
+use Rattle.walks.proofs.Elem.{Looked}
+use Rattle.walks.proofs.Frame.{Places, rm, rn, empty, full}
 use Rattle.testing_batches.proofs.testing_run_batch.Proof.Parameters.{VK, VO, Called, AfterOpening, AfterBatch, Logic}
 
 -- ---- Their types

@@ -29,12 +29,12 @@ use Rattle.testing_numbers.specs.Openings.{change}
 use Rattle.testing_batches.specs.Batch.{Opens}
 use Rattle.testing_batches.proofs.Opening as O
 use Rattle.testing_batches.proofs.Opening.Laws as O′
-use Rattle.tracker.proofs.Lending.{value}
-use Rattle.tracker.proofs.Again.{lends, returned}
-use Rattle.tracker.proofs.Frame.{Places}
-use Rattle.tracker.proofs.Promised.{promised}
-use Rattle.tracker.proofs.Reborrow.{reborrows}
-use Rattle.tracker.proofs.Elem.{Looked}
+use Rattle.walks.proofs.Lending.{value}
+use Rattle.walks.proofs.Again.{lends, returned}
+use Rattle.walks.proofs.Frame.{Places}
+use Rattle.walks.proofs.Promised.{promised}
+use Rattle.walks.proofs.Reborrow.{reborrows}
+use Rattle.walks.proofs.Elem.{Looked}
 use Rattle.testing_batches.proofs.open_lent as opener
 use Rattle.testing_batches.proofs.testing_run_batch.Code.Mir as m
 use Rattle.testing_batches.proofs.testing_run_batch.Proof.Parameters.{Called, Rooms, as-lent, Post, Opens′, Logic}

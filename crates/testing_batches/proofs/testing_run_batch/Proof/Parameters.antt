@@ -54,7 +54,7 @@ use Rattle.tracker_steps.proofs.BatchAnswer as K
 use Rattle.tracker_steps.proofs.BatchAnswer.Laws as K′
 use Rattle.testing_batches.proofs.Opening as O
 use Rattle.testing_batches.proofs.Opening.Laws as O′
-use Rattle.tracker.proofs.Lending.{Lending, listed, value}
+use Rattle.walks.proofs.Lending.{Lending, listed, value}
 use Rattle.testing_batches.proofs.open_lent as opener
 use Rattle.testing_batches.proofs.open_lent.Symbol.{name as #open-lent}
 use Rattle.tracker.proofs.run_batch as batch

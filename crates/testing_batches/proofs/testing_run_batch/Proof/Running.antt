@@ -27,11 +27,11 @@ use Rattle.tracker.specs.Batch.{BatchLent, BatchSays}
 use Rattle.model.proofs.Arrival as T
 use Rattle.tracker_steps.proofs.BatchAnswer as K
 use Rattle.tracker_steps.proofs.BatchAnswer.Laws as K′
-use Rattle.tracker.proofs.Lending.{value}
-use Rattle.tracker.proofs.Frame.{Places}
-use Rattle.tracker.proofs.Promised.{promised}
-use Rattle.tracker.proofs.Reborrow.{reborrows}
-use Rattle.tracker.proofs.Elem.{Looked}
+use Rattle.walks.proofs.Lending.{value}
+use Rattle.walks.proofs.Frame.{Places}
+use Rattle.walks.proofs.Promised.{promised}
+use Rattle.walks.proofs.Reborrow.{reborrows}
+use Rattle.walks.proofs.Elem.{Looked}
 use Rattle.tracker.proofs.run_batch as batch
 use Rattle.testing_batches.proofs.testing_run_batch.Code.Mir as m
 use Rattle.testing_batches.proofs.testing_run_batch.Proof.Parameters.{Called, Rooms, as-lent, AfterOpening, asked, Post, Runs′, Logic}

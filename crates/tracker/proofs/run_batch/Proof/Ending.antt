@@ -35,7 +35,7 @@ use Rattle.model.proofs.CoordinatorRecord as D
 use Rattle.model.proofs.CoordinatorRecord.Laws as D′
 use Rattle.tracker_steps.proofs.BatchAnswer as K
 use Rattle.tracker_steps.proofs.BatchAnswer.Laws as K′
-use Rattle.tracker.proofs.Frame.{Places}
+use Rattle.walks.proofs.Frame.{Places}
 use Rattle.tracker.proofs.Records.{VK, refusal-fits}
 use Rattle.tracker.proofs.run_batch as fun
 use Rattle.tracker.proofs.run_batch.Code.Mir as m

@@ -27,8 +27,8 @@ use Rattle.model.proofs.Sites as P
 use Rattle.model.proofs.Sites.Laws as P′
 use Rattle.model.proofs.CoordinatorRecord as D
 use Rattle.model.proofs.CoordinatorRecord.Laws as D′
-use Rattle.tracker.proofs.Lending.{listed, value}
-use Rattle.tracker.proofs.Again.{Again}
+use Rattle.walks.proofs.Lending.{listed, value}
+use Rattle.walks.proofs.Again.{Again}
 use Rattle.tracker.proofs.run_batch.Proof.Parameters.{VS, VP, VD, Called, Typed, Opens, Logic}
 
 pub record OpensWith : Type 0 where

@@ -38,8 +38,8 @@ use Rattle.tracker_steps.proofs.BatchAnswer as K
 use Rattle.tracker_steps.proofs.BatchAnswer.Laws as K′
 use Rattle.tracker_steps.proofs.Turn as N
 use Rattle.tracker_steps.proofs.Turn.Laws as N′
-use Rattle.tracker.proofs.Lending.{listed, value}
-use Rattle.tracker.proofs.Again.{Again}
+use Rattle.walks.proofs.Lending.{listed, value}
+use Rattle.walks.proofs.Again.{Again}
 use Rattle.tracker.proofs.Records.{VR, VK, VN, written-fits, record-good}
 use Rattle.tracker_steps.proofs.RefusalLaws.{place-within}
 use Rattle.tracker.proofs.run_batch.Proof.Parameters.{VS, VT, Called, Typed, Point, Finds, Takes, Delivers, Logic}

@@ -33,8 +33,8 @@ use Rattle.model.proofs.Arrival as T
 use Rattle.model.proofs.Arrival.Laws as T′
 use Rattle.tracker_steps.proofs.BatchAnswer.Laws as K′
 use Rattle.tracker_steps.proofs.Turn.Laws as N′
-use Rattle.tracker.proofs.Frame.{Places, rm, rn, empty, full}
-use Rattle.tracker.proofs.Lending.{value}
+use Rattle.walks.proofs.Frame.{Places, rm, rn, empty, full}
+use Rattle.walks.proofs.Lending.{value}
 use Rattle.tracker.proofs.Records.{VR, VK, VN}
 use Rattle.tracker.proofs.run_batch.Code.Mir as m
 use Rattle.tracker.proofs.run_batch.Proof.Parameters.{VS, VP, VD, VT, Called, Point, Owned, Post, Logic}

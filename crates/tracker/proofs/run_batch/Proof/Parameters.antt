@@ -53,9 +53,9 @@ use Rattle.model.proofs.CoordinatorRecord.Laws as D′
 use Rattle.model.proofs.Arrival as T
 use Rattle.model.proofs.Arrival.Laws as T′
 use Rattle.tracker_steps.proofs.BatchAnswer as K
-use Rattle.tracker.proofs.Lending.{Lending, listed, value}
-use Rattle.tracker.proofs.Again.{Held-at}
-use Rattle.tracker.proofs.Elem.{Looked}
+use Rattle.walks.proofs.Lending.{Lending, listed, value}
+use Rattle.walks.proofs.Again.{Held-at}
+use Rattle.walks.proofs.Elem.{Looked}
 use Rattle.tracker.proofs.Records.{VK}
 use Rattle.tracker_steps.proofs.open_batch as opening
 use Rattle.tracker_steps.proofs.open_batch.Symbol.{name as #steps·open-batch}

@@ -36,10 +36,10 @@ use Rattle.tracker_steps.specs.Turns.{DeliverAsks, DeliverSays}
 use Rattle.tracker_steps.proofs.BatchAnswer as K
 use Rattle.tracker_steps.proofs.BatchAnswer.Laws as K′
 use Rattle.tracker_steps.proofs.Turn as N
-use Rattle.tracker.proofs.Again.{lends, returned}
-use Rattle.tracker.proofs.Frame.{Places}
-use Rattle.tracker.proofs.Promised.{promised}
-use Rattle.tracker.proofs.Reborrow.{reborrows}
+use Rattle.walks.proofs.Again.{lends, returned}
+use Rattle.walks.proofs.Frame.{Places}
+use Rattle.walks.proofs.Promised.{promised}
+use Rattle.walks.proofs.Reborrow.{reborrows}
 use Rattle.tracker.proofs.Records.{VN}
 use Rattle.tracker_steps.proofs.deliver_turn as delivering
 use Rattle.tracker.proofs.run_batch.Code.Mir as m

@@ -26,10 +26,10 @@ use Rattle.tracker_steps.specs.Steps.{OpenSays, lentOf}
 use Rattle.tracker.proofs.WalkLaws.{walked-open}
 use Rattle.tracker_steps.proofs.BatchAnswer as K
 use Rattle.tracker_steps.proofs.BatchAnswer.Laws as K′
-use Rattle.tracker.proofs.Again.{lends, returned}
-use Rattle.tracker.proofs.Frame.{Places}
-use Rattle.tracker.proofs.Promised.{promised}
-use Rattle.tracker.proofs.Reborrow.{reborrows}
+use Rattle.walks.proofs.Again.{lends, returned}
+use Rattle.walks.proofs.Frame.{Places}
+use Rattle.walks.proofs.Promised.{promised}
+use Rattle.walks.proofs.Reborrow.{reborrows}
 use Rattle.tracker_steps.proofs.open_batch as opening
 use Rattle.tracker.proofs.run_batch.Code.Mir as m
 use Rattle.tracker.proofs.run_batch.Proof.Parameters.{Called, Typed, asked, Post, Opens, Logic}

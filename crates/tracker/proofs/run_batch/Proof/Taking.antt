@@ -31,10 +31,10 @@ use Rattle.tracker_steps.specs.Turns.{ownOf, TurnAsks, TurnSays}
 use Rattle.model.proofs.Arrival as T
 use Rattle.tracker_steps.proofs.Turn as N
 use Rattle.tracker_steps.proofs.Turn.Laws as N′
-use Rattle.tracker.proofs.Again.{lends, returned}
-use Rattle.tracker.proofs.Frame.{Places}
-use Rattle.tracker.proofs.Promised.{promised}
-use Rattle.tracker.proofs.Reborrow.{reborrows}
+use Rattle.walks.proofs.Again.{lends, returned}
+use Rattle.walks.proofs.Frame.{Places}
+use Rattle.walks.proofs.Promised.{promised}
+use Rattle.walks.proofs.Reborrow.{reborrows}
 use Rattle.tracker.proofs.Records.{VN, written-fits}
 use Rattle.tracker_steps.proofs.take_turn as taking
 use Rattle.tracker.proofs.run_batch.Proof.Parameters.{VT, Called, Typed, Point, Takes, Logic}

@@ -40,10 +40,10 @@ use Rattle.model.proofs.SiteRecord as R
 use Rattle.model.proofs.SiteRecord.Laws as R′
 use Rattle.tracker_steps.proofs.TurnLaws.{turn-asks, count-asks, deliver-asks, quiet-says, loud-says}
 use Rattle.tracker_steps.proofs.RefusalLaws.{place-within}
-use Rattle.tracker.proofs.Frame.{Places}
-use Rattle.tracker.proofs.Elem.{elem-opens, elem-shuts}
-use Rattle.tracker.proofs.InArray.{elem}
-use Rattle.tracker.proofs.Promised.{promised}
+use Rattle.walks.proofs.Frame.{Places}
+use Rattle.walks.proofs.Elem.{elem-opens, elem-shuts}
+use Rattle.walks.proofs.InArray.{elem}
+use Rattle.walks.proofs.Promised.{promised}
 use Rattle.tracker.proofs.Records.{VR, values, length-values, values-at, many-records, refusal-fits, record-good}
 use Rattle.tracker_steps.proofs.place_of as finding
 use Rattle.tracker.proofs.run_batch.Code.Mir as m

@@ -1,0 +1,10 @@
+-- Laws for walks of a function's MIR by hand.
+pub mod Lending
+pub mod Frame
+pub mod Again
+pub mod Elem
+pub mod InArray
+pub mod Reborrow
+pub mod Tail
+pub mod Promised
+pub mod LentLocal

@@ -8,3 +8,5 @@ pub mod Reborrow
 pub mod Tail
 pub mod Promised
 pub mod LentLocal
+pub mod Rows
+pub mod Locals

@@ -56,7 +56,8 @@ use Rattle.model.proofs.Sites.Laws as P′
 use Rattle.model.proofs.CoordinatorRecord as D
 use Rattle.model.proofs.CoordinatorRecord.Laws as D′
 use Rattle.model.proofs.Arrival as T
-use Rattle.walks.proofs.Frame.{placed}
+use Rattle.walks.proofs.Rows.{_&_}
+use Rattle.walks.proofs.Locals.{placed, walks-in}
 use Rattle.walks.proofs.Lending.{lending, value}
 use Rattle.tracker_steps.proofs.open_batch.Symbol as open-def
 use Rattle.tracker_steps.proofs.open_batch.Symbol.{name as #steps·open-batch}
@@ -75,7 +76,6 @@ use Rattle.tracker.proofs.run_batch as fun
 use Rattle.tracker.proofs.run_batch.Statement as stated
 use Rattle.tracker.proofs.run_batch.Code as code
 use Rattle.tracker.proofs.run_batch.Proof.Parameters.{VS, VP, VD, Called, Typed, stayed, bound, Post, Opens, Finds, Takes, Delivers, Logic}
-use Rattle.tracker.proofs.run_batch.Proof.Locals.{behind}
 use Rattle.tracker.proofs.run_batch.Proof.Start.{begins}
 
 module _ {M : Type 1} (logic : Logic M) (f : Called) (ok : Typed f) where
@@ -95,51 +95,31 @@ module _ {M : Type 1} (logic : Logic M) (f : Called) (ok : Typed f) where
       let s = f .siteMemory in
       let c = f .coordinatorMemory in
       let g = f .log in
-      qed W ((‵ (flft (a .life) (a .share)) ⊛ (‵ (flft (s .life) (s .share))
+      walks-in W (𝓣 .C) (𝓣 .Λ) code.function arguments (Post 𝓤 H A mem run f)
+      ((‵ (flft (a .life) (a .share)) ⊛ (‵ (flft (s .life) (s .share))
       ⊛ (‵ (flft (c .life) (c .share)) ⊛ (‵ (flft (g .life) (g .share)) ⊛ ‵ ftrue))))
       ∷ ‵ (owns (S.the-row ∷ P.the-row ∷ D.the-row ∷ ShrSlice (named 0) (a .life) T.the-row
       ∷ MutSlice (named 1) (s .life) u32 ∷ MutSlice (named 2) (c .life) u64
       ∷ MutSlice (named 3) (g .life) u64 ∷ [])
-      (bound 𝓤 H A mem run f .0 .3) (bound 𝓤 H A mem run f .0 .4)) ∷ []) ∵
-      enter ! (𝓣 .C) (𝓣 .Λ) code.function arguments _ $
-      alloc1 ! (λ l₀. alloc1 ! (λ l₁. alloc1 ! (λ l₂. alloc1 ! (λ l₃. alloc1 ! (λ l₄.
-      alloc1 ! (λ l₅. alloc1 ! (λ l₆. alloc1 ! (λ l₇. alloc1 ! (λ l₈. alloc1 ! (λ l₉.
-      alloc1 ! (λ l₁₀. alloc1 ! (λ l₁₁. alloc1 ! (λ l₁₂. alloc1 ! (λ l₁₃. alloc1 ! (λ l₁₄.
-      alloc1 ! (λ l₁₅. alloc1 ! (λ l₁₆. alloc1 ! (λ l₁₇. alloc1 ! (λ l₁₈. alloc1 ! (λ l₁₉.
-      alloc1 ! (λ l₂₀. alloc1 ! (λ l₂₁. alloc1 ! (λ l₂₂. alloc1 ! (λ l₂₃. alloc1 ! (λ l₂₄.
-      alloc1 ! (λ l₂₅. alloc1 ! (λ l₂₆. alloc1 ! (λ l₂₇. alloc1 ! (λ l₂₈. alloc1 ! (λ l₂₉.
-      alloc1 ! (λ l₃₀. alloc1 ! (λ l₃₁. alloc1 ! (λ l₃₂. alloc1 ! (λ l₃₃. alloc1 ! (λ l₃₄.
-      alloc1 ! (λ l₃₅. alloc1 ! (λ l₃₆. alloc1 ! (λ l₃₇. alloc1 ! (λ l₃₈. alloc1 ! (λ l₃₉.
-      alloc1 ! (λ l₄₀. alloc1 ! (λ l₄₁. alloc1 ! (λ l₄₂.
-      alloc0 ! $ params1 ! $
-      pass1 ! (init ! (behind 0 1) refl
-      (LL.lawful S.the-type S′.the-laws 𝓤 H A W .typed (f .settings) _ (ok .settings-good) .0)) $
-      pass1 ! (init ! (behind 0 2) refl
-      (LL.lawful P.the-type P′.the-laws 𝓤 H A W .typed (f .sites) _ (ok .sites-good) .0)) $
-      pass1 ! (init ! (behind 0 3) refl
-      (LL.lawful D.the-type D′.the-laws 𝓤 H A W .typed (f .coordinator) _
-      (ok .coordinator-good) .0)) $
-      pass1 ! (init ! (behind 0 4) refl (tt, (tt, (record { fits = ok .arrivals-room .0 }, tt)))) $
-      pass1 ! (init ! (behind 0 5) refl
-      (tt, (tt, (record { fits = ok .site-memory-room .0 }, tt)))) $
-      pass1 ! (init ! (behind 0 6) refl
-      (tt, (tt, (record { fits = ok .coordinator-memory-room .0 }, tt)))) $
-      pass1 ! (init ! (behind 0 7) refl (tt, (tt, (record { fits = ok .log-room .0 }, tt)))) $
-      pass0 ! $
-      -- [_42; …; _0; …; the tokens; what is owned]
-      move ! (86 ∷ []) $ split ! $ move ! (1 ∷ []) $ split ! $ move ! (1 ∷ []) $ split ! $
-      move ! (1 ∷ []) $ split ! $ move ! (1 ∷ []) $ drop ! $
-      -- [κ₃; κ₂; κ₁; κ; _42; …; what is owned]
-      move ! (90 ∷ []) $ fsplit ! $ drop ! $ fsplit ! $ drop ! $ fsplit ! $ drop ! $
+      (bound 𝓤 H A mem run f .0 .3) (bound 𝓤 H A mem run f .0 .4)) ∷ [])
+      (LL.lawful S.the-type S′.the-laws 𝓤 H A W .typed (f .settings) _ (ok .settings-good) .0
+      & LL.lawful P.the-type P′.the-laws 𝓤 H A W .typed (f .sites) _ (ok .sites-good) .0
+      & LL.lawful D.the-type D′.the-laws 𝓤 H A W .typed (f .coordinator) _
+      (ok .coordinator-good) .0
+      & (tt, (tt, (record { fits = ok .arrivals-room .0 }, tt)))
+      & (tt, (tt, (record { fits = ok .site-memory-room .0 }, tt)))
+      & (tt, (tt, (record { fits = ok .coordinator-memory-room .0 }, tt)))
+      & (tt, (tt, (record { fits = ok .log-room .0 }, tt)))
+      & tt)
+      (λ bs. split ! $ move ! (1 ∷ []) $ split ! $ move ! (1 ∷ []) $
+      split ! $ move ! (1 ∷ []) $ split ! $ move ! (1 ∷ []) $ drop ! $
+      -- [κ₃; κ₂; κ₁; κ; what is owned; _42; …]
+      move ! (4 ∷ []) $ fsplit ! $ drop ! $ fsplit ! $ drop ! $ fsplit ! $ drop ! $
       fsplit ! $ move ! (1 ∷ []) $ fsplit ! $ move ! (1 ∷ []) $ fsplit ! $ move ! (1 ∷ []) $
       fsplit ! $ move ! (1 ∷ []) $ drop ! $
       -- [log; coordinator's; sites'; the run; κ₃; κ₂; κ₁; κ; _42; …]
       move ! (3 ∷ 7 ∷ 2 ∷ 6 ∷ 1 ∷ 5 ∷ 0 ∷ 4 ∷ []) $
-      begins logic f ok (placed (l₀ ∷ l₁ ∷ l₂ ∷ l₃ ∷ l₄ ∷ l₅ ∷ l₆ ∷ l₇ ∷ l₈ ∷ l₉ ∷ l₁₀ ∷
-      l₁₁ ∷ l₁₂ ∷ l₁₃ ∷ l₁₄ ∷ l₁₅ ∷ l₁₆ ∷ l₁₇ ∷ l₁₈ ∷ l₁₉ ∷ l₂₀ ∷ l₂₁ ∷ l₂₂ ∷ l₂₃ ∷ l₂₄ ∷
-      l₂₅ ∷ l₂₆ ∷ l₂₇ ∷ l₂₈ ∷ l₂₉ ∷ l₃₀ ∷ l₃₁ ∷ l₃₂ ∷ l₃₃ ∷ l₃₄ ∷ l₃₅ ∷ l₃₆ ∷ l₃₇ ∷ l₃₈ ∷
-      l₃₉ ∷ l₄₀ ∷ l₄₁ ∷ l₄₂ ∷ []))
-      )))))))))))))))))))))))))))))))))))))))))))
+      begins logic f ok (placed bs))
 
 -- ---- What is given at entry, put in order
 

@@ -32,7 +32,7 @@ use Rattle.model.proofs.SiteRecord.Laws as R′
 use Rattle.tracker_steps.proofs.BatchAnswer as K
 use Rattle.tracker_steps.proofs.BatchAnswer.Laws as K′
 use Rattle.tracker_steps.proofs.Turn as N
-use Rattle.walks.proofs.Frame.{Places}
+use Rattle.walks.proofs.Locals.{Places}
 use Rattle.walks.proofs.InArray.{elem}
 use Rattle.tracker.proofs.Records.{VR, VK, VN, values, length-values, values-set, many-records, turn-refusal-fits, turn-record-good, counted-good}
 use Rattle.tracker.proofs.run_batch.Proof.Parameters.{VD, Called, Point, answered, Logic}

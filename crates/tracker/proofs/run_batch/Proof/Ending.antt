@@ -35,12 +35,13 @@ use Rattle.model.proofs.CoordinatorRecord as D
 use Rattle.model.proofs.CoordinatorRecord.Laws as D′
 use Rattle.tracker_steps.proofs.BatchAnswer as K
 use Rattle.tracker_steps.proofs.BatchAnswer.Laws as K′
-use Rattle.walks.proofs.Frame.{Places}
+use Rattle.walks.proofs.Locals.{Places, holds, freed}
 use Rattle.tracker.proofs.Records.{VK, refusal-fits}
 use Rattle.tracker.proofs.run_batch as fun
+use Rattle.tracker.proofs.run_batch.Code as code
 use Rattle.tracker.proofs.run_batch.Code.Mir as m
 use Rattle.tracker.proofs.run_batch.Proof.Parameters.{Called, Typed, asked, Point, Owned, stayed, bound, Post, Logic}
-use Rattle.tracker.proofs.run_batch.Proof.Locals.{cell, locals, At, Left}
+use Rattle.tracker.proofs.run_batch.Proof.Locals.{cell, standing, locals, At, Left}
 
 module _ {M : Type 1} (logic : Logic M) (f : Called) (ok : Typed f) where
   open Logic logic using (𝓤, H, A, W, mem, run, 𝓣)
@@ -116,32 +117,8 @@ module _ {M : Type 1} (logic : Logic M) (f : Called) (ok : Typed f) where
         (init ! (cell 0) refl (LL.lawful K.the-type K′.the-laws 𝓤 H A W .typed (s .answer) _
         (s .good) .0)) $
         returns ! (look ! (cell 0) refl) $
-        forget ! (cell 9) refl $ forget ! (cell 8) refl $ forget ! (cell 7) refl $
-        forget ! (cell 6) refl $ forget ! (cell 5) refl $ forget ! (cell 4) refl $
-        forget ! (cell 3) refl $ forget ! (cell 2) refl $ forget ! (cell 1) refl $
-        forget ! (cell 0) refl $
-        move ! (92 ∷ 93 ∷ []) $ free1 ! $ move ! (90 ∷ 91 ∷ []) $ free1 ! $
-        move ! (88 ∷ 89 ∷ []) $ free1 ! $ move ! (86 ∷ 87 ∷ []) $ free1 ! $
-        move ! (84 ∷ 85 ∷ []) $ free1 ! $ move ! (82 ∷ 83 ∷ []) $ free1 ! $
-        move ! (80 ∷ 81 ∷ []) $ free1 ! $ move ! (78 ∷ 79 ∷ []) $ free1 ! $
-        move ! (76 ∷ 77 ∷ []) $ free1 ! $ move ! (74 ∷ 75 ∷ []) $ free1 ! $
-        move ! (72 ∷ 73 ∷ []) $ free1 ! $ move ! (70 ∷ 71 ∷ []) $ free1 ! $
-        move ! (68 ∷ 69 ∷ []) $ free1 ! $ move ! (66 ∷ 67 ∷ []) $ free1 ! $
-        move ! (64 ∷ 65 ∷ []) $ free1 ! $ move ! (62 ∷ 63 ∷ []) $ free1 ! $
-        move ! (60 ∷ 61 ∷ []) $ free1 ! $ move ! (58 ∷ 59 ∷ []) $ free1 ! $
-        move ! (56 ∷ 57 ∷ []) $ free1 ! $ move ! (54 ∷ 55 ∷ []) $ free1 ! $
-        move ! (52 ∷ 53 ∷ []) $ free1 ! $ move ! (50 ∷ 51 ∷ []) $ free1 ! $
-        move ! (48 ∷ 49 ∷ []) $ free1 ! $ move ! (46 ∷ 47 ∷ []) $ free1 ! $
-        move ! (44 ∷ 45 ∷ []) $ free1 ! $ move ! (42 ∷ 43 ∷ []) $ free1 ! $
-        move ! (40 ∷ 41 ∷ []) $ free1 ! $ move ! (38 ∷ 39 ∷ []) $ free1 ! $
-        move ! (36 ∷ 37 ∷ []) $ free1 ! $ move ! (34 ∷ 35 ∷ []) $ free1 ! $
-        move ! (32 ∷ 33 ∷ []) $ free1 ! $ move ! (30 ∷ 31 ∷ []) $ free1 ! $
-        move ! (28 ∷ 29 ∷ []) $ free1 ! $ move ! (26 ∷ 27 ∷ []) $ free1 ! $
-        move ! (24 ∷ 25 ∷ []) $ free1 ! $ move ! (22 ∷ 23 ∷ []) $ free1 ! $
-        move ! (20 ∷ 21 ∷ []) $ free1 ! $ move ! (18 ∷ 19 ∷ []) $ free1 ! $
-        move ! (16 ∷ 17 ∷ []) $ free1 ! $ move ! (14 ∷ 15 ∷ []) $ free1 ! $
-        move ! (12 ∷ 13 ∷ []) $ free1 ! $ move ! (10 ∷ 11 ∷ []) $ free1 ! $
-        move ! (8 ∷ 9 ∷ []) $ free1 ! $ free0 ! $
+        freed ! (code.function .locals) (standing f (holds (VK (s .answer))) i s []) l
+        (Owned f (s .lent) []) $
         by ! (exits s e)
 
     pub ends : (i : ℕ) (s : Point f) (X : SProp 𝓤) → length (f .arrivals .list) ≤ i

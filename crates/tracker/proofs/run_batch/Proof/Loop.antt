@@ -19,7 +19,7 @@ use Rattle.model.specs.declared.Arrival.{Arrival}
 use Rattle.tracker_steps.specs.Steps.{OneSays}
 use Rattle.tracker.proofs.WalkLaws.{Walked, walked-asks, walked-step, walked-done, walked-stopped}
 use Rattle.walks.proofs.Tail.{Tail, all-left, within, is-head, after, past-end}
-use Rattle.walks.proofs.Frame.{Places}
+use Rattle.walks.proofs.Locals.{Places}
 use Rattle.tracker.proofs.run_batch.Code.Mir as m
 use Rattle.tracker.proofs.run_batch.Proof.Parameters.{Called, Typed, asked, none, Point, Post, Logic}
 use Rattle.tracker.proofs.run_batch.Proof.Locals.{locals, At, Left}

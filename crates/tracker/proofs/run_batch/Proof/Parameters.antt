@@ -53,6 +53,7 @@ use Rattle.model.proofs.CoordinatorRecord.Laws as D′
 use Rattle.model.proofs.Arrival as T
 use Rattle.model.proofs.Arrival.Laws as T′
 use Rattle.tracker_steps.proofs.BatchAnswer as K
+use Rattle.walks.proofs.Rows.{_&_}
 use Rattle.walks.proofs.Lending.{Lending, listed, value}
 use Rattle.walks.proofs.Again.{Held-at}
 use Rattle.walks.proofs.Elem.{Looked}
@@ -148,25 +149,15 @@ Owned f lent Γ =
 -- ---- What is to be had at the end
 
 abbrev pub stayed : Stays (fun.ended .signature .params) (fun.ended .kept)
-stayed = (
-  stay-none (λ _. S.the-row) yes,
-  (
-    stay-none (λ _. P.the-row) yes,
-    (
-      stay-none (λ _. D.the-row) yes,
-      (
-        stay-none-slice (0 ∷ []) tt (plain (λ _. T.the-row)) yes,
-        (
-          stay-slice (1 ∷ []) tt (plain (λ _. u32)),
-          (
-            stay-slice (2 ∷ []) tt (plain (λ _. u64)),
-            (stay-slice (3 ∷ []) tt (plain (λ _. u64)), tt),
-          ),
-        ),
-      ),
-    ),
-  ),
-)
+stayed =
+    stay-none (λ _. S.the-row) yes
+    & stay-none (λ _. P.the-row) yes
+    & stay-none (λ _. D.the-row) yes
+    & stay-none-slice (0 ∷ []) tt (plain (λ _. T.the-row)) yes
+    & stay-slice (1 ∷ []) tt (plain (λ _. u32))
+    & stay-slice (2 ∷ []) tt (plain (λ _. u64))
+    & stay-slice (3 ∷ []) tt (plain (λ _. u64))
+    & tt
 
 module _ {M : Type 1} (𝓤 : URA M) (H : Heap 𝓤) (A : Atoms 𝓤) (mem : Memory → SProp 𝓤)
     (run : Routine → Fun 𝓤) where

@@ -37,7 +37,7 @@ use Rattle.tracker_steps.proofs.BatchAnswer as K
 use Rattle.tracker_steps.proofs.BatchAnswer.Laws as K′
 use Rattle.tracker_steps.proofs.Turn as N
 use Rattle.walks.proofs.Again.{lends, returned}
-use Rattle.walks.proofs.Frame.{Places}
+use Rattle.walks.proofs.Locals.{Places}
 use Rattle.walks.proofs.Promised.{promised}
 use Rattle.walks.proofs.Reborrow.{reborrows}
 use Rattle.tracker.proofs.Records.{VN}
@@ -45,7 +45,7 @@ use Rattle.tracker_steps.proofs.deliver_turn as delivering
 use Rattle.tracker.proofs.run_batch.Code.Mir as m
 use Rattle.tracker.proofs.run_batch.Proof.Parameters.{Called, Typed, Point, Delivers, Logic}
 use Rattle.tracker.proofs.run_batch.Proof.LendsTurn.{DeliversWith, delivers-passed, delivers-to, delivers-goes}
-use Rattle.tracker.proofs.run_batch.Proof.Locals.{behind, cell, locals, At, Counted, Left}
+use Rattle.tracker.proofs.run_batch.Proof.Locals.{at, cell, locals, At, Counted, Left}
 
 next-fits : (i n : ℕ) → i < n → n < 2 ^ 64 → i + 1 < 2 ^ 64
 next-fits i n within room = omega (arith, within, room)
@@ -162,12 +162,12 @@ module _ {M : Type 1} (logic : Logic M) (f : Called) (ok : Typed f) (l : Places)
         (delivers-goes logic f s turn for (asks some) ok is) $
         calls-at ! (fmOf 𝓤 H (W .laws) 𝓣) (Delivers 𝓤 H A mem run) delivers-known
         (delivers-to logic f s turn for)
-        (and-then ! (load ! (from ! (stop !)) (look ! (behind 6 1) refl))
-        (and-then ! (load ! (from ! (stop !)) (look ! (behind 6 36) refl))
-        (and-then ! (load ! (from ! (stop !)) (look ! (behind 6 13) refl))
-        (and-then ! (load ! (from ! (stop !)) (look ! (behind 6 38) refl))
-        (and-then ! (load ! (from ! (stop !)) (look ! (behind 6 40) refl))
-        (and-then ! (load ! (from ! (stop !)) (look ! (behind 6 42) refl)) (no-more !))))))) (λ u.
+        (and-then ! (load ! (from ! (stop !)) (look ! (at 6 1) refl))
+        (and-then ! (load ! (from ! (stop !)) (look ! (at 6 36) refl))
+        (and-then ! (load ! (from ! (stop !)) (look ! (at 6 13) refl))
+        (and-then ! (load ! (from ! (stop !)) (look ! (at 6 38) refl))
+        (and-then ! (load ! (from ! (stop !)) (look ! (at 6 40) refl))
+        (and-then ! (load ! (from ! (stop !)) (look ! (at 6 42) refl)) (no-more !))))))) (λ u.
         promised ! tt K.the-row u
         (‵ (flft (ν₁ ∷ []) fullShare) ⊛ (‵ (flft (ν₂ ∷ []) fullShare)
         ⊛ (‵ (flft (ν₃ ∷ []) fullShare) ⊛ ‵ ftrue)))

@@ -27,14 +27,14 @@ use Rattle.tracker.proofs.WalkLaws.{walked-open}
 use Rattle.tracker_steps.proofs.BatchAnswer as K
 use Rattle.tracker_steps.proofs.BatchAnswer.Laws as K′
 use Rattle.walks.proofs.Again.{lends, returned}
-use Rattle.walks.proofs.Frame.{Places}
+use Rattle.walks.proofs.Locals.{Places}
 use Rattle.walks.proofs.Promised.{promised}
 use Rattle.walks.proofs.Reborrow.{reborrows}
 use Rattle.tracker_steps.proofs.open_batch as opening
 use Rattle.tracker.proofs.run_batch.Code.Mir as m
 use Rattle.tracker.proofs.run_batch.Proof.Parameters.{Called, Typed, asked, Post, Opens, Logic}
 use Rattle.tracker.proofs.run_batch.Proof.Lends.{OpensWith, opens-passed, opens-to, opens-goes}
-use Rattle.tracker.proofs.run_batch.Proof.Locals.{behind, cell, locals, Begun}
+use Rattle.tracker.proofs.run_batch.Proof.Locals.{at, cell, locals, Begun}
 use Rattle.tracker.proofs.run_batch.Proof.Loop.{starts}
 
 module _ {M : Type 1} (logic : Logic M) (f : Called) (ok : Typed f) (l : Places) where
@@ -68,11 +68,11 @@ module _ {M : Type 1} (logic : Logic M) (f : Called) (ok : Typed f) (l : Places)
       move ! (5 ∷ 2 ∷ 3 ∷ 0 ∷ []) $ group ! 4 $
       use1 W (raw (Opens 𝓤 H A mem run .pre (opens-to logic f for))) (opens-goes logic f for ok) $
       calls-at ! (fmOf 𝓤 H (W .laws) 𝓣) (Opens 𝓤 H A mem run) opens-known (opens-to logic f for)
-      (and-then ! (load ! (from ! (stop !)) (look ! (behind 7 1) refl))
-      (and-then ! (load ! (from ! (stop !)) (look ! (behind 7 2) refl))
-      (and-then ! (load ! (from ! (stop !)) (look ! (behind 7 3) refl))
-      (and-then ! (load ! (from ! (stop !)) (look ! (behind 7 16) refl))
-      (and-then ! (load ! (from ! (stop !)) (look ! (behind 7 18) refl)) (no-more !)))))) (λ u.
+      (and-then ! (load ! (from ! (stop !)) (look ! (at 7 1) refl))
+      (and-then ! (load ! (from ! (stop !)) (look ! (at 7 2) refl))
+      (and-then ! (load ! (from ! (stop !)) (look ! (at 7 3) refl))
+      (and-then ! (load ! (from ! (stop !)) (look ! (at 7 16) refl))
+      (and-then ! (load ! (from ! (stop !)) (look ! (at 7 18) refl)) (no-more !)))))) (λ u.
       promised ! tt K.the-row u
       (‵ (flft (ν₁ ∷ []) fullShare) ⊛ (‵ (flft (ν₂ ∷ []) fullShare) ⊛ ‵ ftrue))
       (lasts opening.ended (ν₁ ∷ [], (ν₂ ∷ [], tt)) (opens-passed logic f for)) Said (id⊢ 𝓤 _)

@@ -32,14 +32,14 @@ use Rattle.model.proofs.Arrival as T
 use Rattle.tracker_steps.proofs.Turn as N
 use Rattle.tracker_steps.proofs.Turn.Laws as N′
 use Rattle.walks.proofs.Again.{lends, returned}
-use Rattle.walks.proofs.Frame.{Places}
+use Rattle.walks.proofs.Locals.{Places}
 use Rattle.walks.proofs.Promised.{promised}
 use Rattle.walks.proofs.Reborrow.{reborrows}
 use Rattle.tracker.proofs.Records.{VN, written-fits}
 use Rattle.tracker_steps.proofs.take_turn as taking
 use Rattle.tracker.proofs.run_batch.Proof.Parameters.{VT, Called, Typed, Point, Takes, Logic}
 use Rattle.tracker.proofs.run_batch.Proof.LendsTurn.{numbers, takes-passed, takes-to, takes-goes}
-use Rattle.tracker.proofs.run_batch.Proof.Locals.{behind, cell, locals, Seen, Told, Left}
+use Rattle.tracker.proofs.run_batch.Proof.Locals.{at, cell, locals, Seen, Told, Left}
 use Rattle.tracker.proofs.run_batch.Proof.Sending.{seen, taken}
 
 abbrev pub moved : {f : Called} (s : Point f) (memory : List ℕ)
@@ -110,8 +110,8 @@ module _ {M : Type 1} (logic : Logic M) (f : Called) (ok : Typed f) (l : Places)
       (λ turn ws e good.
       -- [the token; the last list; kept; the run; κ; coordinator's; κ₂; log; κ₃; _42; …]
       land ! (from ! (stop !))
-      (init ! (behind 9 13) refl (LL.lawful N.the-type N′.the-laws 𝓤 H A W .typed turn _ good .0)) $
-      rewrite ! (behind 9 13) (λ (w : Val). ‵ (fat fullShare N′.mir (l 13) 0 w))
+      (init ! (at 9 13) refl (LL.lawful N.the-type N′.the-laws 𝓤 H A W .typed turn _ good .0)) $
+      rewrite ! (at 9 13) (λ (w : Val). ‵ (fat fullShare N′.mir (l 13) 0 w))
       (ap only (LL.tells N.the-type N′.the-laws turn (u ∷ []) good)) refl $
       move ! (1 ∷ []) $ fsplit ! $ drop ! $ fsplit ! $ drop ! $ fsplit ! $ drop ! $
       fsplit ! $ drop ! $ fsplit ! $ drop ! $ fsplit ! $ fsplit ! $ move ! (1 ∷ []) $

@@ -40,7 +40,7 @@ use Rattle.model.proofs.SiteRecord as R
 use Rattle.model.proofs.SiteRecord.Laws as R′
 use Rattle.tracker_steps.proofs.TurnLaws.{turn-asks, count-asks, deliver-asks, quiet-says, loud-says}
 use Rattle.tracker_steps.proofs.RefusalLaws.{place-within}
-use Rattle.walks.proofs.Frame.{Places}
+use Rattle.walks.proofs.Locals.{Places}
 use Rattle.walks.proofs.Elem.{elem-opens, elem-shuts}
 use Rattle.walks.proofs.InArray.{elem}
 use Rattle.walks.proofs.Promised.{promised}
@@ -49,7 +49,7 @@ use Rattle.tracker_steps.proofs.place_of as finding
 use Rattle.tracker.proofs.run_batch.Code.Mir as m
 use Rattle.tracker.proofs.run_batch.Proof.Parameters.{VT, Called, Typed, none, Point, answered, Finds, Logic}
 use Rattle.tracker.proofs.run_batch.Proof.LendsTurn.{finds-passed, finds-to, finds-goes}
-use Rattle.tracker.proofs.run_batch.Proof.Locals.{behind, cell, locals, At, Seen, Left}
+use Rattle.tracker.proofs.run_batch.Proof.Locals.{at, cell, locals, At, Seen, Left}
 use Rattle.tracker.proofs.run_batch.Proof.Sending.{work, seen, sends}
 use Rattle.tracker.proofs.run_batch.Proof.Counting.{record-fits, counts}
 use Rattle.tracker.proofs.run_batch.Proof.Taking.{moved, takes-turn}
@@ -129,7 +129,7 @@ module _ {M : Type 1} (logic : Logic M) (f : Called) (ok : Typed f) (l : Places)
       use0 W (raw (Finds 𝓤 H A mem run .pre (finds-to logic arrival)))
       (finds-goes logic arrival is) $
       calls-at ! (fmOf 𝓤 H (W .laws) 𝓣) (Finds 𝓤 H A mem run) finds-known (finds-to logic arrival)
-      (and-then ! (load ! (from ! (stop !)) (look ! (behind 9 10) refl)) (no-more !)) (λ u.
+      (and-then ! (load ! (from ! (stop !)) (look ! (at 9 10) refl)) (no-more !)) (λ u.
       promised ! tt usize u (‵ ftrue) (lasts finding.ended tt (finds-passed logic arrival))
       (λ (w : ℕ) (ws : Unit {0} × Unit {0}). w ≡ placeOf arrival) (id⊢ 𝓤 _) (λ w ws e good.
       -- [no token; no last list; the run; κ; …]

@@ -1,7 +1,6 @@
 -- The sites' records within an answer, as the machine has them: an array of structs in a struct in
 -- a struct. One of them is read, and another stored in its place.
 --
---   VR, VK, VN       the machine's values of a site's record, an answer and a turn
 --   values           those of the records of a list
 --   values-at, values-set   of the record at a place, and with another there
 --   many-records     an answer has 32 records
@@ -35,17 +34,9 @@ use Rattle.tracker_steps.proofs.BatchAnswer as K
 use Rattle.tracker_steps.proofs.BatchAnswer.Laws as K′
 use Rattle.tracker_steps.proofs.Turn as N
 use Rattle.tracker_steps.proofs.Turn.Laws as N′
+use Rattle.tracker.proofs.Types.{VR, VK, VN}
 
 -- ---- The machine's values
-
-abbrev pub VR : SiteRecord → Val
-VR = LL.val R.the-type R′.the-laws
-
-abbrev pub VK : BatchAnswer → Val
-VK = LL.val K.the-type K′.the-laws
-
-abbrev pub VN : Turn → Val
-VN = LL.val N.the-type N′.the-laws
 
 abbrev pub values : List SiteRecord → List Val
 values rs = map (LL.tuple-val R.the-type R′.the-laws) (map (R.the-type .to) rs)

@@ -1,5 +1,4 @@
--- An element of an array that stands in a local, read and stored where it stands. It says nothing
--- of the crate, and can be copied as it stands.
+-- An element of an array that stands in a local, read and stored where it stands.
 --
 --   elem   the kth element's cell within the array's: a `Part` of `Types/Part.antt`, as `sub` is
 --          for a field

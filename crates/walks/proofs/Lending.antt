@@ -1,8 +1,9 @@
--- A slice that a function was lent, as the machine and the ghost state have it. It says nothing
--- of the crate.
+-- A slice that a function was lent, as the machine and the ghost state have it.
 --
 --   Lending      the lent slice
+--   lending      a reference as a function is handed it
 --   listed       the reference under a ghost name, at a list
+--   as-lent      the same, as it was lent
 --   value        the machine's value of it: the pointer and the length
 use Prim.Native.Nat.{ℕ}
 use mathlib.Core.List.{List}
@@ -24,6 +25,9 @@ pub record Lending (X : Type 0) : Type 0 where
 
 abbrev pub listed : {X : Type 0} → Lending X → GName → List X → RefT (List X)
 listed e δ xs = record { ptr = (e .block, e .offset); name = δ; now = xs }
+
+abbrev pub as-lent : {X : Type 0} → Lending X → RefT (List X)
+as-lent e = listed e (e .name) (e .list)
 
 abbrev pub value : {X : Type 0} → Lending X → Val
 value e = sliceVal (e .block, e .offset) (length (e .list))

@@ -1,6 +1,5 @@
 -- A local that is lent as a `&mut` for one call, at a lifetime within κ, as a callee asks whose
--- reference leads to another that lives for κ. It says nothing of the crate, and can be copied as
--- it stands.
+-- reference leads to another that lives for κ.
 --
 --   Lent         the reference, as the callee owns it
 --   Kept         what the lender keeps meanwhile

@@ -24,10 +24,10 @@ use Rattle.tracker_steps.specs.Steps.{lentOf}
 use Rattle.tracker_steps.specs.Turns.{placeOf, ownOf}
 use Rattle.walks.proofs.Lending.{value}
 use Rattle.walks.proofs.Locals.{Places, Content, free, holds, behind, env, cells}
-use Rattle.tracker.proofs.Records.{VR, VK, VN}
+use Rattle.tracker.proofs.Types.{VS, VP, VD, VT, VR, VK, VN}
 use Rattle.tracker.proofs.run_batch.Code as code
 use Rattle.tracker.proofs.run_batch.Code.Mir as m
-use Rattle.tracker.proofs.run_batch.Proof.Parameters.{VS, VP, VD, VT, Called, Point, Owned, Post, Logic}
+use Rattle.tracker.proofs.run_batch.Proof.Parameters.{Called, Point, Owned, Post, Logic}
 
 abbrev pub at : ℕ → ℕ → ℕ
 at = behind 43

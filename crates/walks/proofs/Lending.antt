@@ -5,13 +5,7 @@
 --   listed       the reference under a ghost name, at a list
 --   as-lent      the same, as it was lent
 --   value        the machine's value of it: the pointer and the length
-use Prim.Native.Nat.{ℕ}
-use mathlib.Core.List.{List}
-use lib.ListN.{length}
-use mir.Val.{Val}
-use base.Fml.{Lft, GName, Share}
-use denote.Ref.{RefT}
-use denote.Slice.{sliceVal}
+use Rattle.walks.proofs.Kit.{ℕ, List, length, Val, Lft, GName, Share, RefT, sliceVal}
 
 -- Its lifetime and the share of the lifetime's token, where it points, its ghost name, and the
 -- list.

@@ -6,8 +6,8 @@
 -- How to walk, in this order (`tracker/proofs/run_batch` is the example with a loop,
 -- `testing_batches/proofs/testing_run_batch` the one of three calls in a row):
 --   1. The structs of the signature as `Data.struct`; a number is `Data.number`.
---   2. The parameters as `Meeting.Params` (`by-value`, `shared`, `kept`, `given`, `kept-ref`), and as
---      a record of values and `Lending`s; what is owned of them as `Handing.Part`s.
+--   2. The parameters as `Meeting.Params` (`by-value`, `shared`, `kept`, `given`, `kept-ref`), and
+--      as a record of values and `Lending`s; what is owned of them as `Handing.Part`s.
 --   3. Contexts: what is owned, then `Locals.cells` with what each local holds; a local stands at
 --      `Locals.behind`.
 --   4. The body's statements, below.
@@ -25,6 +25,7 @@
 --   _a = s.xs[i], s.xs[i] = _a   InArray.elem, within `look-in` and `store-in`
 --   while                        recursion on what is left of a list, Tail, over the kit's `unroll`
 --   return                       the kit's `returns`, then Locals.freed
+pub mod Kit
 pub mod Data
 pub mod Lending
 pub mod Locals

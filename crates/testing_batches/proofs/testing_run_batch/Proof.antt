@@ -18,15 +18,7 @@ mod Locals
 mod Closing
 mod Running
 mod Opening
-use mathlib.Core.List.{List, [], _∷_}
-use mir.Val.{Val}
-use base.Logic.{ent, emp, via, fst∗}
-use prog.Wp.{WpFn}
-use contract.Running.{givenOf, tables, tablesOf}
-use types.Kit.{‵, _$_, !, move}
-use denote.Triple.Entry.{onEntry}
-use denote.Triple.Spec.{Meets, tripleOf}
-use denote.Triple.Table.{entered, cited}
+use Rattle.walks.proofs.Kit.{List, [], _∷_, Val, ent, emp, via, fst∗, WpFn, givenOf, tables, tablesOf, ‵, _$_, !, move, onEntry, Meets, tripleOf, entered, cited}
 use Rattle.walks.proofs.Handing.{wholes, spread}
 use Rattle.walks.proofs.Locals.{placed, walks-in}
 use Rattle.walks.proofs.Lending.{lending, value}

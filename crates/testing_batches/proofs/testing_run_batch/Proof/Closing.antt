@@ -4,20 +4,7 @@
 --   exits    what is had then is what the contract promises
 --   closes   the body of the function after the tracker's call
 -- Numbers behind `move` count the context's items, as `cell` of Locals does.
-use mathlib.Core.Path.{_≡_, refl, _∙_}
-use Prim.Native.Nat.{ℕ}
-use mathlib.Core.List.{List, [], _∷_, _++_}
-use lib.ListN.{length}
-use mir.Syntax.{named, w32}
-use mir.Val.{vint}
-use base.Logic.{ent, via, id⊢}
-use types.Kit.{Item, ⋆, atRet, Sq, runs, _$_, !, by, move, fsplit, feqL}
-use types.Run.{look, init, forget, stop, from, load, and-then, no-more, land, returns}
-use sound.WpLaws.{fmOf}
-use denote.Plain.{uint-tells}
-use denote.Builtin.{u32, u64}
-use denote.Slice.{finally}
-use denote.Triple.Walked.{ends-at}
+use Rattle.walks.proofs.Kit.{_≡_, refl, _∙_, ℕ, List, [], _∷_, _++_, length, named, w32, vint, ent, via, id⊢, Item, ⋆, atRet, Sq, runs, _$_, !, by, move, fsplit, feqL, look, init, forget, stop, from, load, and-then, no-more, land, returns, fmOf, uint-tells, u32, u64, finally, ends-at}
 use Rattle.testing_numbers.specs.Openings.{change}
 use Rattle.testing_batches.specs.Batch.{Closes, BatchLends}
 use Rattle.testing_batches.proofs.Batching.{closes-ask, batch-exported}

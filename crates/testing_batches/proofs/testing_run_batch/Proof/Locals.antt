@@ -8,14 +8,7 @@
 --   Begun      the context where the body begins: only the parameters have values
 --   Opened     the context after the opening
 --   Ran        the context after the tracker's call
-use Prim.Native.Nat.{ℕ}
-use mathlib.Core.List.{List, [], _∷_, _++_}
-use mir.Syntax.{named}
-use base.Fml.{flft}
-use prog.Wp.{Env}
-use types.Kit.{Item, ‵}
-use denote.Builtin.{u32, u64}
-use denote.Slice.{finally}
+use Rattle.walks.proofs.Kit.{ℕ, List, [], _∷_, _++_, named, flft, Env, Item, ‵, u32, u64, finally}
 use Rattle.walks.proofs.Lending.{Lending, value}
 use Rattle.walks.proofs.Again.{Held-at}
 use Rattle.walks.proofs.Elem.{Looked}

@@ -3,16 +3,7 @@
 --
 --   begins   the body of the function
 -- Numbers behind `move` count the context's items, as `cell` of Locals does.
-use mathlib.Core.Path.{refl}
-use mathlib.Core.List.{[], _∷_}
-use lib.ListN.{length}
-use mir.Syntax.{named}
-use base.Logic.{id⊢}
-use types.Kit.{atRet, Sq, runs, _$_, !, move}
-use types.Part.{whole, sub, look-in}
-use types.Run.{look, init, forget, stop, fld, from, load, of-opd, and-then, no-more, assigns, land}
-use sound.WpLaws.{fmOf}
-use denote.Builtin.{u32, u64}
+use Rattle.walks.proofs.Kit.{refl, [], _∷_, length, named, id⊢, atRet, Sq, runs, _$_, !, move, whole, sub, look-in, look, init, forget, stop, fld, from, load, of-opd, and-then, no-more, assigns, land, fmOf, u32, u64}
 use Rattle.testing_numbers.specs.Openings.{change}
 use Rattle.testing_batches.specs.Batch.{Opens}
 use Rattle.walks.proofs.Data.{is-typed}

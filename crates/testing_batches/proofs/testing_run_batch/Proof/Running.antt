@@ -3,14 +3,7 @@
 --
 --   runs-batch   the body of the function after the opening
 -- Numbers behind `move` count the context's items, as `cell` of Locals does.
-use mathlib.Core.Path.{refl}
-use mathlib.Core.List.{[], _∷_}
-use mir.Syntax.{named}
-use base.Logic.{id⊢}
-use types.Kit.{atRet, Sq, runs, _$_, !, move, fsplit, feqL}
-use types.Part.{whole, sub, look-in}
-use types.Run.{look, init, forget, stop, fld, from, load, and-then, no-more, land}
-use sound.WpLaws.{fmOf}
+use Rattle.walks.proofs.Kit.{refl, [], _∷_, named, id⊢, atRet, Sq, runs, _$_, !, move, fsplit, feqL, whole, sub, look-in, look, init, forget, stop, fld, from, load, and-then, no-more, land, fmOf}
 use Rattle.tracker.specs.Batch.{BatchSays}
 use Rattle.tracker_steps.specs.Steps.{lentOf}
 use Rattle.walks.proofs.Data.{is-typed}

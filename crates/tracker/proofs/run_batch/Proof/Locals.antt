@@ -11,13 +11,7 @@
 --   Told      the context when the turn was taken, which is not yet counted
 --   Counted   the context when it was counted, and its messages are not yet delivered
 --   Left      what is to hold where the loop is left: the rest of the body runs
-use Prim.Native.Nat.{ℕ}
-use mathlib.Core.List.{List, [], _∷_}
-use mir.Syntax.{w64}
-use mir.Val.{vint}
-use base.Logic.{SProp}
-use prog.Wp.{Out, Env, Wp, afterSeq, afterBlock, atReturn}
-use types.Kit.{Item}
+use Rattle.walks.proofs.Kit.{ℕ, List, [], _∷_, w64, vint, SProp, Out, Env, Wp, afterSeq, afterBlock, atReturn, Item}
 use Rattle.model.specs.declared.Arrival.{Arrival}
 use Rattle.tracker_steps.specs.declared.Turn.{Turn}
 use Rattle.tracker_steps.specs.Steps.{lentOf}

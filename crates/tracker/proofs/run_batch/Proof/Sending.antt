@@ -5,22 +5,7 @@
 --           after `take_turn`, and after it was counted
 --   sends   from where the turn was counted to the loop's test again, at the next index
 -- Numbers behind `move` count the context's items, as `cell` of Locals does.
-use mathlib.Core.Path.{_≡_, refl, _∙_, subst}
-use mathlib.Core.Bool.{Bool, true, false, not}
-use Prim.Native.Nat.{ℕ, zero, suc, _<_, _^_, _+_}
-use native.Mathlib.Omega.{arith}
-use mathlib.Core.List.{List, [], _∷_}
-use lib.Dec.{T as Holds, eqb}
-use lib.ListN.{length}
-use borrow.Author.Tests.{eq-eqb, eqb-true}
-use mir.Syntax.{Body, skip, seq, assign, block, loop, cond, switch, exit, return, call, named}
-use base.Logic.{SProp, ent, id⊢}
-use prog.Wp.{Wp, afterTurn}
-use types.Kit.{⋆, anyQ, Sq, runs, _$_, _∵_, !, qed, by, move}
-use types.Part.{whole, sub, look-in}
-use types.Run.{look, init, store, forget, stop, fld, from, load, lit, of-opd, bin, and-then, no-more, assigns, assigns-last, branches, skips, first, exec, land}
-use sound.WpLaws.{fmOf}
-use denote.Builtin.{u32, u64}
+use Rattle.walks.proofs.Kit.{_≡_, refl, _∙_, subst, Bool, true, false, not, ℕ, zero, suc, _<_, _^_, _+_, arith, List, [], _∷_, Holds, eqb, length, eq-eqb, eqb-true, Body, skip, seq, assign, block, loop, cond, switch, exit, return, call, named, SProp, ent, id⊢, Wp, afterTurn, ⋆, anyQ, Sq, runs, _$_, _∵_, !, qed, by, move, whole, sub, look-in, look, init, store, forget, stop, fld, from, load, lit, of-opd, bin, and-then, no-more, assigns, assigns-last, branches, skips, first, exec, land, fmOf, u32, u64}
 use Rattle.tracker_steps.specs.declared.Turn.{Turn}
 use Rattle.tracker_steps.specs.Steps.{lentOf}
 use Rattle.tracker_steps.specs.Turns.{DeliverAsks, DeliverSays}

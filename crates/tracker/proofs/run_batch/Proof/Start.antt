@@ -3,16 +3,7 @@
 --
 --   begins   the body of the function
 -- Numbers behind `move` count the context's items, as `cell` of Locals does.
-use mathlib.Core.Path.{refl}
-use Prim.Native.Nat.{ℕ}
-use mathlib.Core.List.{List, [], _∷_}
-use lib.Dec.{lit<}
-use mir.Syntax.{named}
-use base.Logic.{id⊢}
-use types.Kit.{atRet, Sq, runs, _$_, !, move}
-use types.Run.{look, init, forget, stop, from, load, lit, of-opd, and-then, no-more, assigns, land}
-use sound.WpLaws.{fmOf}
-use denote.Builtin.{u32, u64}
+use Rattle.walks.proofs.Kit.{refl, ℕ, List, [], _∷_, lit<, named, id⊢, atRet, Sq, runs, _$_, !, move, look, init, forget, stop, from, load, lit, of-opd, and-then, no-more, assigns, land, fmOf, u32, u64}
 use Rattle.tracker_steps.specs.Steps.{OpenSays, lentOf}
 use Rattle.walks.proofs.Data.{is-typed}
 use Rattle.walks.proofs.Again.{lends, returned}

@@ -4,18 +4,7 @@
 --   moved        a point of the loop, with other memory of the sites
 --   takes-turn   from where the record was read to where the turn was taken
 -- Numbers behind `move` count the context's items, as `cell` of Locals does.
-use mathlib.Core.Path.{_≡_, refl, _∙_}
-use Prim.Native.Nat.{ℕ}
-use mathlib.Core.List.{List, [], _∷_}
-use lib.ListN.{length}
-use mir.Syntax.{named}
-use base.Logic.{SProp, id⊢}
-use prog.Wp.{afterTurn}
-use types.Kit.{anyQ, Sq, runs, _$_, !, move}
-use types.Part.{whole, sub, look-in}
-use types.Run.{look, init, forget, stop, fld, from, load, of-opd, and-then, no-more, assigns, land}
-use sound.WpLaws.{fmOf}
-use denote.Builtin.{u32}
+use Rattle.walks.proofs.Kit.{_≡_, refl, _∙_, ℕ, List, [], _∷_, length, named, SProp, id⊢, afterTurn, anyQ, Sq, runs, _$_, !, move, whole, sub, look-in, look, init, forget, stop, fld, from, load, of-opd, and-then, no-more, assigns, land, fmOf, u32}
 use Rattle.model.specs.declared.Arrival.{Arrival}
 use Rattle.tracker_steps.specs.declared.Turn.{Turn}
 use Rattle.tracker_steps.specs.Steps.{lentOf}

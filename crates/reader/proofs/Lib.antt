@@ -1,5 +1,4 @@
--- Laws of reading that the functions' proofs share, and what the walks by hand share.
-pub mod LentLocal
+-- Laws of reading that the functions' proofs share.
 pub mod StepValue
 pub mod ThreeLaws
 pub mod SettingsLaws

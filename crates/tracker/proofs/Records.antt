@@ -1,7 +1,6 @@
 -- The sites' records within an answer, as the machine has them: an array of structs in a struct in
 -- a struct. One of them is read, and another stored in its place.
 --
---   VR, VK, VN       the machine's values of a site's record, an answer and a turn
 --   recordSize, recordsPlace   a record's bytes, and where the records begin within an answer
 --   values           those of the records of a list
 --   values-at, values-set   of the record at a place, and with another there
@@ -40,17 +39,9 @@ use Rattle.tracker_steps.proofs.BatchAnswer as K
 use Rattle.tracker_steps.proofs.BatchAnswer.Laws as K′
 use Rattle.tracker_steps.proofs.Turn as N
 use Rattle.tracker_steps.proofs.Turn.Laws as N′
+use Rattle.tracker.proofs.Types.{VR, VK, VN}
 
 -- ---- The machine's values
-
-abbrev pub VR : SiteRecord → Val
-VR = LL.val R.the-type R′.the-laws
-
-abbrev pub VK : BatchAnswer → Val
-VK = LL.val K.the-type K′.the-laws
-
-abbrev pub VN : Turn → Val
-VN = LL.val N.the-type N′.the-laws
 
 -- Where a field begins within its struct.
 abbrev startOf : Option (Ty × ℕ) → ℕ

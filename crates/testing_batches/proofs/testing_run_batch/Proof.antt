@@ -18,29 +18,12 @@ mod Locals
 mod Closing
 mod Running
 mod Opening
-use mathlib.Core.Path.{refl}
-use mathlib.Core.List.{List, [], _∷_}
-use mir.Syntax.{named}
-use mir.Val.{Val}
-use base.Logic.{ent, emp, via, fst∗}
-use base.Fml.{ftrue}
-use prog.Wp.{WpFn}
-use contract.Running.{givenOf, tables, tablesOf}
-use types.Kit.{‵, _⊛_, _$_, _∵_, !, qed, move, drop, split, fsplit}
-use types.Run.{init, enter, alloc1, alloc0, params1, pass1, pass0}
-use sound.WpLaws.{WpFn-mono}
-use denote.RattleType.{owns}
-use denote.Builtin.{u32, u64}
-use denote.Signature.{plain}
-use denote.Slice.{ShrSlice, MutSlice, slice-vals, shr-slice-tells, mut-slice-tells}
-use denote.Triple.Entry.{onEntry}
-use denote.Triple.Spec.{Meets, tripleOf}
-use denote.Triple.Table.{entered, cited}
-use denote.Triple.Walked.{goes-none-slice, goes-gave-slice, Walks, walked, walk-meets}
-use denote.Exit.{yes}
-use Rattle.model.proofs.Arrival as T
-use Rattle.tracker.proofs.Frame.{placed}
-use Rattle.tracker.proofs.Lending.{lending, value}
+use Rattle.walks.proofs.Kit.{List, [], _∷_, Val, ent, emp, via, fst∗, WpFn, givenOf, tables, tablesOf, ‵, _$_, !, move, onEntry, Meets, tripleOf, entered, cited}
+use Rattle.walks.proofs.Handing.{wholes, spread}
+use Rattle.walks.proofs.Locals.{placed, walks-in}
+use Rattle.walks.proofs.Lending.{lending, value}
+use Rattle.walks.proofs.Meeting.{_&_, meets-by}
+use Rattle.walks.proofs.Reborrow.{slice-typed}
 use Rattle.testing_batches.proofs.open_lent.Symbol as open-def
 use Rattle.testing_batches.proofs.open_lent.Symbol.{name as #open-lent}
 use Rattle.testing_batches.proofs.open_lent.Met as open-thm
@@ -54,8 +37,7 @@ use Rattle.testing_batches.proofs.testing_run_batch.Key.{name as #testi
 use Rattle.testing_batches.proofs.testing_run_batch as fun
 use Rattle.testing_batches.proofs.testing_run_batch.Statement as stated
 use Rattle.testing_batches.proofs.testing_run_batch.Code as code
-use Rattle.testing_batches.proofs.testing_run_batch.Proof.Parameters.{Called, Rooms, stayed, bound, Post, Opens′, Runs′, Closes′, Logic}
-use Rattle.testing_batches.proofs.testing_run_batch.Proof.Locals.{token}
+use Rattle.testing_batches.proofs.testing_run_batch.Proof.Parameters.{Called, Rooms, lent-for, lent-as, parameters, bound, Post, Opens′, Runs′, Closes′, Logic}
 use Rattle.testing_batches.proofs.testing_run_batch.Proof.Opening.{begins}
 
 module _ {M : Type 1} (logic : Logic M) (f : Called) (room : Rooms f) where
@@ -72,95 +54,24 @@ module _ {M : Type 1} (logic : Logic M) (f : Called) (room : Rooms f) where
       ent 𝓤 (onEntry 𝓤 H A fun.signature (b .0) (b .1) (b .3) (b .4))
       (WpFn 𝓤 H (𝓣 .C) (𝓣 .Λ) code.function arguments (Post 𝓤 H A mem run f))
   walk =
-      qed W
-      ((token (f .settings) ⊛ (token (f .sites) ⊛ (token (f .coordinator) ⊛ (token (f .arrivals)
-      ⊛ (token (f .siteMemory) ⊛ (token (f .coordinatorMemory) ⊛ (token (f .log)
-      ⊛ (token (f .out) ⊛ ‵ ftrue))))))))
-      ∷ ‵ (owns
-      (ShrSlice (named 0) (f .settings .life) u32 ∷ MutSlice (named 1) (f .sites .life) u64
-      ∷ MutSlice (named 2) (f .coordinator .life) u64
-      ∷ ShrSlice (named 3) (f .arrivals .life) T.the-row
-      ∷ MutSlice (named 4) (f .siteMemory .life) u32
-      ∷ MutSlice (named 5) (f .coordinatorMemory .life) u64
-      ∷ MutSlice (named 6) (f .log .life) u64 ∷ MutSlice (named 7) (f .out .life) u64 ∷ [])
-      (bound 𝓤 H A mem run f .0 .3) (bound 𝓤 H A mem run f .0 .4)) ∷ []) ∵
-      enter ! (𝓣 .C) (𝓣 .Λ) code.function arguments _ $
-      alloc1 ! (λ l₀. alloc1 ! (λ l₁. alloc1 ! (λ l₂. alloc1 ! (λ l₃. alloc1 ! (λ l₄.
-      alloc1 ! (λ l₅. alloc1 ! (λ l₆. alloc1 ! (λ l₇. alloc1 ! (λ l₈. alloc1 ! (λ l₉.
-      alloc1 ! (λ l₁₀. alloc1 ! (λ l₁₁. alloc1 ! (λ l₁₂. alloc1 ! (λ l₁₃. alloc1 ! (λ l₁₄.
-      alloc1 ! (λ l₁₅. alloc1 ! (λ l₁₆. alloc1 ! (λ l₁₇. alloc1 ! (λ l₁₈. alloc1 ! (λ l₁₉.
-      alloc1 ! (λ l₂₀. alloc1 ! (λ l₂₁. alloc1 ! (λ l₂₂. alloc1 ! (λ l₂₃. alloc1 ! (λ l₂₄.
-      alloc1 ! (λ l₂₅. alloc1 ! (λ l₂₆. alloc1 ! (λ l₂₇.
-      alloc0 ! $ params1 ! $
-      pass1 ! (init ! 52 refl (tt, (tt, (record { fits = room .settings-room .0 }, tt)))) $
-      pass1 ! (init ! 50 refl (tt, (tt, (record { fits = room .sites-room .0 }, tt)))) $
-      pass1 ! (init ! 48 refl (tt, (tt, (record { fits = room .coordinator-room .0 }, tt)))) $
-      pass1 ! (init ! 46 refl (tt, (tt, (record { fits = room .arrivals-room .0 }, tt)))) $
-      pass1 ! (init ! 44 refl (tt, (tt, (record { fits = room .site-memory-room .0 }, tt)))) $
-      pass1 ! (init ! 42 refl
-      (tt, (tt, (record { fits = room .coordinator-memory-room .0 }, tt)))) $
-      pass1 ! (init ! 40 refl (tt, (tt, (record { fits = room .log-room .0 }, tt)))) $
-      pass1 ! (init ! 38 refl (tt, (tt, (record { fits = room .out-room .0 }, tt)))) $
-      pass0 ! $
-      -- the tokens and what is owned
-      move ! (56 ∷ []) $ split ! $ move ! (1 ∷ []) $ split ! $ move ! (1 ∷ []) $ split ! $
-      move ! (1 ∷ []) $ split ! $ move ! (1 ∷ []) $ split ! $ move ! (1 ∷ []) $ split ! $
-      move ! (1 ∷ []) $ split ! $ move ! (1 ∷ []) $ split ! $ move ! (1 ∷ []) $ drop ! $
-      move ! (64 ∷ []) $ fsplit ! $ move ! (1 ∷ []) $ fsplit ! $ move ! (1 ∷ []) $ fsplit ! $
-      move ! (1 ∷ []) $ fsplit ! $ move ! (1 ∷ []) $ fsplit ! $ move ! (1 ∷ []) $ fsplit ! $
-      move ! (1 ∷ []) $ fsplit ! $ move ! (1 ∷ []) $ fsplit ! $ move ! (1 ∷ []) $ drop ! $
-      begins logic f room (placed (l₀ ∷ l₁ ∷ l₂ ∷ l₃ ∷ l₄ ∷ l₅ ∷ l₆ ∷ l₇ ∷ l₈ ∷ l₉ ∷
-      l₁₀ ∷ l₁₁ ∷ l₁₂ ∷ l₁₃ ∷ l₁₄ ∷ l₁₅ ∷ l₁₆ ∷ l₁₇ ∷ l₁₈ ∷ l₁₉ ∷ l₂₀ ∷ l₂₁ ∷ l₂₂ ∷ l₂₃ ∷
-      l₂₄ ∷ l₂₅ ∷ l₂₆ ∷ l₂₇ ∷ []))))))))))))))))))))))))))))))
+      walks-in W (𝓣 .C) (𝓣 .Λ) code.function arguments (Post 𝓤 H A mem run f)
+      (‵ (wholes 𝓤 H A (lent-for f)) ∷ ‵ (wholes 𝓤 H A (lent-as f)) ∷ [])
+      (slice-typed (room .settings-room .0) & slice-typed (room .sites-room .0)
+      & slice-typed (room .coordinator-room .0) & slice-typed (room .arrivals-room .0)
+      & slice-typed (room .site-memory-room .0) & slice-typed (room .coordinator-memory-room .0)
+      & slice-typed (room .log-room .0) & slice-typed (room .out-room .0) & tt)
+      (λ bs. spread ! (lent-for f) $ move ! (8 ∷ []) $ spread ! (lent-as f) $
+      begins logic f room (placed bs))
 
 -- ---- What is given at entry, put in order
 
 module _ {M : Type 1} (logic : Logic M) where
   open Logic logic using (𝓤, H, A, W, mem, run, 𝓣)
 
-  walks : Walks 𝓤 H A fun.ended stayed (WpFn 𝓤 H (𝓣 .C) (𝓣 .Λ) code.function)
-      (fun.clauses 𝓤 H A mem run)
-  walks =
-      walked 𝓤 H A fun.ended stayed (fun.clauses 𝓤 H A mem run)
-      (WpFn 𝓤 H (𝓣 .C) (𝓣 .Λ) code.function)
-      (λ κs. (
-        slice-vals,
-        (
-          slice-vals,
-          (
-            slice-vals,
-            (
-              slice-vals,
-              (slice-vals, (slice-vals, (slice-vals, (slice-vals, tt)))),
-            ),
-          ),
-        ),
-      ))
-      (λ κs. (
-        shr-slice-tells (named 0) (κs .0) u32,
-        (
-          mut-slice-tells (named 1) (κs .1 .0) u64,
-          (
-            mut-slice-tells (named 2) (κs .1 .1 .0) u64,
-            (
-              shr-slice-tells (named 3) (κs .1 .1 .1 .0) T.the-row,
-              (
-                mut-slice-tells (named 4) (κs .1 .1 .1 .1 .0) u32,
-                (
-                  mut-slice-tells (named 5) (κs .1 .1 .1 .1 .1 .0) u64,
-                  (
-                    mut-slice-tells (named 6) (κs .1 .1 .1 .1 .1 .1 .0) u64,
-                    (
-                      mut-slice-tells (named 7) (κs .1 .1 .1 .1 .1 .1 .1 .0) u64,
-                      tt,
-                    ),
-                  ),
-                ),
-              ),
-            ),
-          ),
-        ),
-      ))
+  meets : Meets 𝓤 H A fun.signature (WpFn 𝓤 H (𝓣 .C) (𝓣 .Λ) code.function)
+      (fun.spec 𝓤 H A mem run)
+  meets =
+      meets-by W 𝓣 code.function fun.ended parameters (fun.clauses 𝓤 H A mem run)
       (λ κs qs bounds a g are. via 𝓤 _ (fst∗ 𝓤 _ (emp 𝓤)) (walk logic
       (record {
         settings = lending (κs .0) (qs .0) (a .0);
@@ -185,34 +96,6 @@ module _ {M : Type 1} (logic : Logic M) where
         log-room = are .1 .1 .1 .1 .1 .1 .0 .0 .1;
         out-room = are .1 .1 .1 .1 .1 .1 .1 .0 .0 .1;
       })))
-
-  meets : Meets 𝓤 H A fun.signature (WpFn 𝓤 H (𝓣 .C) (𝓣 .Λ) code.function)
-      (fun.spec 𝓤 H A mem run)
-  meets =
-      walk-meets 𝓤 H A fun.ended stayed W (
-        goes-none-slice 𝓤 H A W 8 (0 ∷ []) tt (plain (λ _. u32)) yes,
-        (
-          goes-gave-slice 𝓤 H A W 8 1 tt (plain (λ _. u64)),
-          (
-            goes-gave-slice 𝓤 H A W 8 2 tt (plain (λ _. u64)),
-            (
-              goes-none-slice 𝓤 H A W 8 (3 ∷ []) tt (plain (λ _. T.the-row)) yes,
-              (
-                goes-gave-slice 𝓤 H A W 8 4 tt (plain (λ _. u32)),
-                (
-                  goes-gave-slice 𝓤 H A W 8 5 tt (plain (λ _. u64)),
-                  (
-                    goes-gave-slice 𝓤 H A W 8 6 tt (plain (λ _. u64)),
-                    (goes-gave-slice 𝓤 H A W 8 7 tt (plain (λ _. u64)), tt),
-                  ),
-                ),
-              ),
-            ),
-          ),
-        ),
-      )
-      (fun.clauses 𝓤 H A mem run) (WpFn 𝓤 H (𝓣 .C) (𝓣 .Λ) code.function)
-      (WpFn-mono 𝓤 H (W .laws) 𝓣 code.function) walks
 
 pub testing-run-batch-spec : {M : Type 1} → stated.statement M
 unfolding code.routine tablesOf

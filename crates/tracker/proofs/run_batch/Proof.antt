@@ -5,8 +5,7 @@
 -- All that the proof knows of these functions is that they meet their contracts.
 --
 --   Parameters   what the function is called with, and what it has to hand back
---   Lends        what the start's call is given
---   LendsTurn    what the calls of a turn are given
+--   Lends        what the calls are given
 --   Locals       its locals, where the body begins, at the loop's test and within a turn
 --   Sending      the end of a turn: its messages are delivered
 --   Counting     before that: its record is stored, and it is counted
@@ -19,7 +18,6 @@
 -- Letters: κ lifetimes, q shares, l the places of the locals.
 mod Parameters
 mod Lends
-mod LendsTurn
 mod Locals
 mod Sending
 mod Counting
@@ -28,36 +26,14 @@ mod Turn
 mod Ending
 mod Loop
 mod Start
-use mathlib.Core.Path.{refl}
-use mathlib.Core.List.{List, [], _∷_}
-use mir.Syntax.{named}
-use mir.Val.{Val}
-use base.Logic.{ent, emp, via, fst∗}
-use base.Fml.{ftrue, flft}
-use prog.Wp.{WpFn}
-use contract.Running.{givenOf, tables, tablesOf}
-use types.Kit.{‵, _⊛_, _$_, _∵_, !, qed, move, drop, split, fsplit}
-use types.Run.{init, enter, alloc1, alloc0, params1, pass1, pass0}
-use sound.WpLaws.{WpFn-mono}
-use denote.RattleType.{owns}
-use denote.Builtin.{u32, u64}
-use denote.Signature.{plain}
-use denote.Slice.{ShrSlice, MutSlice, slice-vals, shr-slice-tells, mut-slice-tells}
-use denote.Struct.Laws as LL
-use denote.Triple.Entry.{onEntry}
-use denote.Triple.Spec.{Meets, tripleOf}
-use denote.Triple.Table.{entered, cited}
-use denote.Triple.Walked.{goes-none, goes-none-slice, goes-slice, Walks, walked, walk-meets}
-use denote.Exit.{yes}
-use Rattle.model.proofs.Settings as S
-use Rattle.model.proofs.Settings.Laws as S′
-use Rattle.model.proofs.Sites as P
-use Rattle.model.proofs.Sites.Laws as P′
-use Rattle.model.proofs.CoordinatorRecord as D
-use Rattle.model.proofs.CoordinatorRecord.Laws as D′
-use Rattle.model.proofs.Arrival as T
-use Rattle.tracker.proofs.Frame.{placed}
-use Rattle.tracker.proofs.Lending.{lending, value}
+use Rattle.walks.proofs.Kit.{List, [], _∷_, Val, ent, emp, via, fst∗, WpFn, givenOf, tables, tablesOf, ‵, _$_, !, move, onEntry, Meets, tripleOf, entered, cited}
+use Rattle.walks.proofs.Data.{is-typed}
+use Rattle.walks.proofs.Handing.{wholes, spread}
+use Rattle.walks.proofs.Locals.{placed, walks-in}
+use Rattle.walks.proofs.Lending.{lending, value}
+use Rattle.walks.proofs.Meeting.{_&_, meets-by}
+use Rattle.walks.proofs.Reborrow.{slice-typed}
+use Rattle.tracker.proofs.Types.{settings-data, sites-data, coordinator-data, VS, VP, VD}
 use Rattle.tracker_steps.proofs.open_batch.Symbol as open-def
 use Rattle.tracker_steps.proofs.open_batch.Symbol.{name as #steps·open-batch}
 use Rattle.tracker_steps.proofs.open_batch.Met as open-thm
@@ -74,8 +50,7 @@ use Rattle.tracker.proofs.run_batch.Key.{name as #tracker·run-batch}
 use Rattle.tracker.proofs.run_batch as fun
 use Rattle.tracker.proofs.run_batch.Statement as stated
 use Rattle.tracker.proofs.run_batch.Code as code
-use Rattle.tracker.proofs.run_batch.Proof.Parameters.{VS, VP, VD, Called, Typed, stayed, bound, Post, Opens, Finds, Takes, Delivers, Logic}
-use Rattle.tracker.proofs.run_batch.Proof.Locals.{behind}
+use Rattle.tracker.proofs.run_batch.Proof.Parameters.{Called, Typed, lentOf, lent-for, had, parameters, bound, Post, Opens, Finds, Takes, Delivers, Logic}
 use Rattle.tracker.proofs.run_batch.Proof.Start.{begins}
 
 module _ {M : Type 1} (logic : Logic M) (f : Called) (ok : Typed f) where
@@ -91,95 +66,28 @@ module _ {M : Type 1} (logic : Logic M) (f : Called) (ok : Typed f) where
       ent 𝓤 (onEntry 𝓤 H A fun.signature (b .0) (b .1) (b .3) (b .4))
       (WpFn 𝓤 H (𝓣 .C) (𝓣 .Λ) code.function arguments (Post 𝓤 H A mem run f))
   walk =
-      let a = f .arrivals in
-      let s = f .siteMemory in
-      let c = f .coordinatorMemory in
-      let g = f .log in
-      qed W ((‵ (flft (a .life) (a .share)) ⊛ (‵ (flft (s .life) (s .share))
-      ⊛ (‵ (flft (c .life) (c .share)) ⊛ (‵ (flft (g .life) (g .share)) ⊛ ‵ ftrue))))
-      ∷ ‵ (owns (S.the-row ∷ P.the-row ∷ D.the-row ∷ ShrSlice (named 0) (a .life) T.the-row
-      ∷ MutSlice (named 1) (s .life) u32 ∷ MutSlice (named 2) (c .life) u64
-      ∷ MutSlice (named 3) (g .life) u64 ∷ [])
-      (bound 𝓤 H A mem run f .0 .3) (bound 𝓤 H A mem run f .0 .4)) ∷ []) ∵
-      enter ! (𝓣 .C) (𝓣 .Λ) code.function arguments _ $
-      alloc1 ! (λ l₀. alloc1 ! (λ l₁. alloc1 ! (λ l₂. alloc1 ! (λ l₃. alloc1 ! (λ l₄.
-      alloc1 ! (λ l₅. alloc1 ! (λ l₆. alloc1 ! (λ l₇. alloc1 ! (λ l₈. alloc1 ! (λ l₉.
-      alloc1 ! (λ l₁₀. alloc1 ! (λ l₁₁. alloc1 ! (λ l₁₂. alloc1 ! (λ l₁₃. alloc1 ! (λ l₁₄.
-      alloc1 ! (λ l₁₅. alloc1 ! (λ l₁₆. alloc1 ! (λ l₁₇. alloc1 ! (λ l₁₈. alloc1 ! (λ l₁₉.
-      alloc1 ! (λ l₂₀. alloc1 ! (λ l₂₁. alloc1 ! (λ l₂₂. alloc1 ! (λ l₂₃. alloc1 ! (λ l₂₄.
-      alloc1 ! (λ l₂₅. alloc1 ! (λ l₂₆. alloc1 ! (λ l₂₇. alloc1 ! (λ l₂₈. alloc1 ! (λ l₂₉.
-      alloc1 ! (λ l₃₀. alloc1 ! (λ l₃₁. alloc1 ! (λ l₃₂. alloc1 ! (λ l₃₃. alloc1 ! (λ l₃₄.
-      alloc1 ! (λ l₃₅. alloc1 ! (λ l₃₆. alloc1 ! (λ l₃₇. alloc1 ! (λ l₃₈. alloc1 ! (λ l₃₉.
-      alloc1 ! (λ l₄₀. alloc1 ! (λ l₄₁. alloc1 ! (λ l₄₂.
-      alloc0 ! $ params1 ! $
-      pass1 ! (init ! (behind 0 1) refl
-      (LL.lawful S.the-type S′.the-laws 𝓤 H A W .typed (f .settings) _ (ok .settings-good) .0)) $
-      pass1 ! (init ! (behind 0 2) refl
-      (LL.lawful P.the-type P′.the-laws 𝓤 H A W .typed (f .sites) _ (ok .sites-good) .0)) $
-      pass1 ! (init ! (behind 0 3) refl
-      (LL.lawful D.the-type D′.the-laws 𝓤 H A W .typed (f .coordinator) _
-      (ok .coordinator-good) .0)) $
-      pass1 ! (init ! (behind 0 4) refl (tt, (tt, (record { fits = ok .arrivals-room .0 }, tt)))) $
-      pass1 ! (init ! (behind 0 5) refl
-      (tt, (tt, (record { fits = ok .site-memory-room .0 }, tt)))) $
-      pass1 ! (init ! (behind 0 6) refl
-      (tt, (tt, (record { fits = ok .coordinator-memory-room .0 }, tt)))) $
-      pass1 ! (init ! (behind 0 7) refl (tt, (tt, (record { fits = ok .log-room .0 }, tt)))) $
-      pass0 ! $
-      -- [_42; …; _0; …; the tokens; what is owned]
-      move ! (86 ∷ []) $ split ! $ move ! (1 ∷ []) $ split ! $ move ! (1 ∷ []) $ split ! $
-      move ! (1 ∷ []) $ split ! $ move ! (1 ∷ []) $ drop ! $
-      -- [κ₃; κ₂; κ₁; κ; _42; …; what is owned]
-      move ! (90 ∷ []) $ fsplit ! $ drop ! $ fsplit ! $ drop ! $ fsplit ! $ drop ! $
-      fsplit ! $ move ! (1 ∷ []) $ fsplit ! $ move ! (1 ∷ []) $ fsplit ! $ move ! (1 ∷ []) $
-      fsplit ! $ move ! (1 ∷ []) $ drop ! $
-      -- [log; coordinator's; sites'; the run; κ₃; κ₂; κ₁; κ; _42; …]
-      move ! (3 ∷ 7 ∷ 2 ∷ 6 ∷ 1 ∷ 5 ∷ 0 ∷ 4 ∷ []) $
-      begins logic f ok (placed (l₀ ∷ l₁ ∷ l₂ ∷ l₃ ∷ l₄ ∷ l₅ ∷ l₆ ∷ l₇ ∷ l₈ ∷ l₉ ∷ l₁₀ ∷
-      l₁₁ ∷ l₁₂ ∷ l₁₃ ∷ l₁₄ ∷ l₁₅ ∷ l₁₆ ∷ l₁₇ ∷ l₁₈ ∷ l₁₉ ∷ l₂₀ ∷ l₂₁ ∷ l₂₂ ∷ l₂₃ ∷ l₂₄ ∷
-      l₂₅ ∷ l₂₆ ∷ l₂₇ ∷ l₂₈ ∷ l₂₉ ∷ l₃₀ ∷ l₃₁ ∷ l₃₂ ∷ l₃₃ ∷ l₃₄ ∷ l₃₅ ∷ l₃₆ ∷ l₃₇ ∷ l₃₈ ∷
-      l₃₉ ∷ l₄₀ ∷ l₄₁ ∷ l₄₂ ∷ []))
-      )))))))))))))))))))))))))))))))))))))))))))
+      let ps = had W f ok
+      (lentOf (f .siteMemory .list) (f .coordinatorMemory .list) (f .log .list)) in
+      walks-in W (𝓣 .C) (𝓣 .Λ) code.function arguments (Post 𝓤 H A mem run f)
+      (‵ (wholes 𝓤 H A (lent-for f)) ∷ ‵ (wholes 𝓤 H A ps) ∷ [])
+      (is-typed W settings-data (f .settings) (ok .settings-good) .0
+      & is-typed W sites-data (f .sites) (ok .sites-good) .0
+      & is-typed W coordinator-data (f .coordinator) (ok .coordinator-good) .0
+      & slice-typed (ok .arrivals-room .0) & slice-typed (ok .site-memory-room .0)
+      & slice-typed (ok .coordinator-memory-room .0) & slice-typed (ok .log-room .0) & tt)
+      (λ bs. spread ! (lent-for f) $ move ! (4 ∷ []) $ spread ! ps $
+      -- [the run; sites'; coordinator's; log; κ; κ₁; κ₂; κ₃; _42; …]
+      move ! (0 ∷ 4 ∷ 1 ∷ 5 ∷ 2 ∷ 6 ∷ 3 ∷ 7 ∷ []) $ begins logic f ok (placed bs))
 
 -- ---- What is given at entry, put in order
 
 module _ {M : Type 1} (logic : Logic M) where
   open Logic logic using (𝓤, H, A, W, mem, run, 𝓣)
 
-  walks : Walks 𝓤 H A fun.ended stayed (WpFn 𝓤 H (𝓣 .C) (𝓣 .Λ) code.function)
-      (fun.clauses 𝓤 H A mem run)
-  walks =
-      walked 𝓤 H A fun.ended stayed (fun.clauses 𝓤 H A mem run)
-      (WpFn 𝓤 H (𝓣 .C) (𝓣 .Λ) code.function)
-      (λ κs. (
-        LL.vals S.the-type S′.the-laws,
-        (
-          LL.vals P.the-type P′.the-laws,
-          (
-            LL.vals D.the-type D′.the-laws,
-            (slice-vals, (slice-vals, (slice-vals, (slice-vals, tt)))),
-          ),
-        ),
-      ))
-      (λ κs. (
-        LL.tells S.the-type S′.the-laws,
-        (
-          LL.tells P.the-type P′.the-laws,
-          (
-            LL.tells D.the-type D′.the-laws,
-            (
-              shr-slice-tells (named 0) (κs .0) T.the-row,
-              (
-                mut-slice-tells (named 1) (κs .1 .0) u32,
-                (
-                  mut-slice-tells (named 2) (κs .1 .1 .0) u64,
-                  (mut-slice-tells (named 3) (κs .1 .1 .1 .0) u64, tt),
-                ),
-              ),
-            ),
-          ),
-        ),
-      ))
+  meets : Meets 𝓤 H A fun.signature (WpFn 𝓤 H (𝓣 .C) (𝓣 .Λ) code.function)
+      (fun.spec 𝓤 H A mem run)
+  meets =
+      meets-by W 𝓣 code.function fun.ended parameters (fun.clauses 𝓤 H A mem run)
       (λ κs qs bounds a g are. via 𝓤 _ (fst∗ 𝓤 _ (emp 𝓤)) (walk logic
       (record {
         settings = a .0;
@@ -199,31 +107,6 @@ module _ {M : Type 1} (logic : Logic M) where
         coordinator-memory-room = are .1 .1 .1 .1 .1 .0 .0 .1;
         log-room = are .1 .1 .1 .1 .1 .1 .0 .0 .1;
       })))
-
-  meets : Meets 𝓤 H A fun.signature (WpFn 𝓤 H (𝓣 .C) (𝓣 .Λ) code.function)
-      (fun.spec 𝓤 H A mem run)
-  meets =
-      walk-meets 𝓤 H A fun.ended stayed W (
-        goes-none 𝓤 H A W 4 (λ _. S.the-row) yes (λ κs x e. refl),
-        (
-          goes-none 𝓤 H A W 4 (λ _. P.the-row) yes (λ κs x e. refl),
-          (
-            goes-none 𝓤 H A W 4 (λ _. D.the-row) yes (λ κs x e. refl),
-            (
-              goes-none-slice 𝓤 H A W 4 (0 ∷ []) tt (plain (λ _. T.the-row)) yes,
-              (
-                goes-slice 𝓤 H A W 4 1 tt (plain (λ _. u32)),
-                (
-                  goes-slice 𝓤 H A W 4 2 tt (plain (λ _. u64)),
-                  (goes-slice 𝓤 H A W 4 3 tt (plain (λ _. u64)), tt),
-                ),
-              ),
-            ),
-          ),
-        ),
-      )
-      (fun.clauses 𝓤 H A mem run) (WpFn 𝓤 H (𝓣 .C) (𝓣 .Λ) code.function)
-      (WpFn-mono 𝓤 H (W .laws) 𝓣 code.function) walks
 
 pub run-batch-spec : {M : Type 1} → stated.statement M
 unfolding code.routine tablesOf

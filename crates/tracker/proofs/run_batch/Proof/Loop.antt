@@ -3,23 +3,12 @@
 --
 --   loops    from the loop's test to the end of the body, with so much of the run left
 --   starts   the loop from the first arrival on
-use mathlib.Core.Path.{_≡_, refl, subst}
-use mathlib.Core.Bool.{Bool, true, false}
-use Prim.Native.Nat.{ℕ, _+_}
-use mathlib.Core.List.{List, [], _∷_}
-use lib.Dec.{eqb}
-use borrow.Author.Tests.{eqb-true, eqb-false}
-use mir.Syntax.{loop}
-use base.Logic.{SProp, ent, via, id⊢}
-use prog.Wp.{Wp, afterTurn}
-use types.Kit.{⋆, atRet, Sq, runs, _$_, !, by}
-use types.Run.{first, blocks}
-use sound.Loop.{unroll}
+use Rattle.walks.proofs.Kit.{_≡_, refl, subst, Bool, true, false, ℕ, _+_, List, [], _∷_, eqb, eqb-true, eqb-false, loop, SProp, ent, via, id⊢, Wp, afterTurn, ⋆, atRet, Sq, runs, _$_, !, by, first, blocks, unroll}
 use Rattle.model.specs.declared.Arrival.{Arrival}
 use Rattle.tracker_steps.specs.Steps.{OneSays}
 use Rattle.tracker.proofs.WalkLaws.{Walked, walked-asks, walked-step, walked-done, walked-stopped}
-use Rattle.tracker.proofs.Tail.{Tail, all-left, within, is-head, after, past-end}
-use Rattle.tracker.proofs.Frame.{Places}
+use Rattle.walks.proofs.Tail.{Tail, all-left, within, is-head, after, past-end}
+use Rattle.walks.proofs.Locals.{Places}
 use Rattle.tracker.proofs.run_batch.Code.Mir as m
 use Rattle.tracker.proofs.run_batch.Proof.Parameters.{Called, Typed, asked, none, Point, Post, Logic, heldAt}
 use Rattle.tracker.proofs.run_batch.Proof.Locals.{locals, At, Left}

@@ -1,16 +1,11 @@
--- A slice that a function was lent, as the machine and the ghost state have it. It says nothing
--- of the crate.
+-- A slice that a function was lent, as the machine and the ghost state have it.
 --
 --   Lending      the lent slice
+--   lending      a reference as a function is handed it
 --   listed       the reference under a ghost name, at a list
+--   as-lent      the same, as it was lent
 --   value        the machine's value of it: the pointer and the length
-use Prim.Native.Nat.{ℕ}
-use mathlib.Core.List.{List}
-use lib.ListN.{length}
-use mir.Val.{Val}
-use base.Fml.{Lft, GName, Share}
-use denote.Ref.{RefT}
-use denote.Slice.{sliceVal}
+use Rattle.walks.proofs.Kit.{ℕ, List, length, Val, Lft, GName, Share, RefT, sliceVal}
 
 -- Its lifetime and the share of the lifetime's token, where it points, its ghost name, and the
 -- list.
@@ -24,6 +19,9 @@ pub record Lending (X : Type 0) : Type 0 where
 
 abbrev pub listed : {X : Type 0} → Lending X → GName → List X → RefT (List X)
 listed e δ xs = record { ptr = (e .block, e .offset); name = δ; now = xs }
+
+abbrev pub as-lent : {X : Type 0} → Lending X → RefT (List X)
+as-lent e = listed e (e .name) (e .list)
 
 abbrev pub value : {X : Type 0} → Lending X → Val
 value e = sliceVal (e .block, e .offset) (length (e .list))

@@ -35,7 +35,7 @@ pub use contract.BorrowLft.{meet-⊑-right}
 pub use contract.Lifetimes.{AllOutlive, Lfts, Shares, toks}
 pub use contract.Monad.{Fun, fact, factI}
 pub use contract.Running.{givenOf, tables}
-pub use types.Kit.{!, ++⊢, Given, Go, Goal, Item, Post, Seq, Soaks, Sq, Step, _$_, _∵_, _⊛_, aim}
+pub use types.Kit.{++⊢, !, Given, Go, Goal, Item, Post, Seq, Soaks, Sq, Step, _$_, _∵_, _⊛_, aim}
 pub use types.Kit.{allocs, anyQ, assume, now as at-once, atRet, await, by, cut, done, drop, each}
 pub use types.Kit.{feqI, feqL, fjoin, fjoin3, fpack, fpick, frame, frees, fsplit, fsplit3, given}
 pub use types.Kit.{join, keep, lands, later, learn, mean, move, nth, params′, pick, pop, prop, push}

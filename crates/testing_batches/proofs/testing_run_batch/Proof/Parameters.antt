@@ -148,13 +148,16 @@ module _ {M : Type 1} (𝓤 : URA M) (H : Heap 𝓤) (A : Atoms 𝓤) (mem : Mem
       let s = f .siteMemory in
       let c = f .coordinatorMemory in
       let l = f .log in
-      let o = f .out in
-      (bound-at fun.ended parameters 𝓤 H A
-      (e .life & p .life & d .life & a .life & s .life & c .life & l .life & o .life & tt)
-      (e .share & p .share & d .share & a .share & s .share & c .share & l .share & o .share & tt)
-      tt
-      (as-lent e & as-lent p & as-lent d & as-lent a & as-lent s & as-lent c & as-lent l
-      & as-lent o & tt), tt)
+      let o = f .out in (
+        bound-at fun.ended parameters 𝓤 H A
+            (e .life & p .life & d .life & a .life & s .life & c .life & l .life & o .life & tt)
+            (e .share & p .share & d .share & a .share & s .share & c .share & l .share & o .share
+            & tt)
+            tt
+            (as-lent e & as-lent p & as-lent d & as-lent a & as-lent s & as-lent c & as-lent l
+            & as-lent o & tt),
+        tt,
+      )
 
   abbrev pub Post : Called → Val → SProp 𝓤
   Post f = walkOf 𝓤 H A fun.ended stayed (fun.clauses 𝓤 H A mem run) .post (bound f)

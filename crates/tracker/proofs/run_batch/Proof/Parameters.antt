@@ -159,12 +159,14 @@ module _ {M : Type 1} (𝓤 : URA M) (H : Heap 𝓤) (A : Atoms 𝓤) (mem : Mem
       let a = f .arrivals in
       let s = f .siteMemory in
       let c = f .coordinatorMemory in
-      let l = f .log in
-      (bound-at fun.ended parameters 𝓤 H A
-      (a .life & s .life & c .life & l .life & tt)
-      (a .share & s .share & c .share & l .share & tt) tt
-      (f .settings & f .sites & f .coordinator & as-lent a & as-lent s & as-lent c & as-lent l
-      & tt), tt)
+      let l = f .log in (
+        bound-at fun.ended parameters 𝓤 H A
+            (a .life & s .life & c .life & l .life & tt)
+            (a .share & s .share & c .share & l .share & tt) tt
+            (f .settings & f .sites & f .coordinator & as-lent a & as-lent s & as-lent c & as-lent l
+            & tt),
+        tt,
+      )
 
   abbrev pub Post : Called → Val → SProp 𝓤
   Post f = walkOf 𝓤 H A fun.ended stayed (fun.clauses 𝓤 H A mem run) .post (bound f)

@@ -12,6 +12,7 @@ use Rattle.model.specs.declared.Settings.{Settings}
 use Rattle.model.specs.declared.Arrival.{Arrival}
 use Rattle.model.specs.declared.SiteRecord.{SiteRecord}
 use Rattle.model.specs.Limits.{mostSites}
+use Rattle.model.specs.Messages.{messageWidth}
 use Rattle.model.specs.Site.{Site, arrivalRefusal}
 use Rattle.model.specs.Network.{Network, siteAt}
 use Rattle.model.specs.Runs.{batchRefusal}

@@ -4,6 +4,7 @@ use Prim.Native.Nat.{_-_, _/_}
 use borrow.Author.Tests.{lt-ltb, le-ltb}
 use borrow.Author.Needs.{needs}
 use Rattle.model.specs.Limits.{mostMessages}
+use Rattle.model.specs.Messages.{messageWidth}
 use Rattle.model.proofs.RefusalLaws.{Still, begin, pass, pass-part, refuse, refuse-part, end, told}
 use Rattle.tracker_steps.specs.Steps.{placesRefusal}
 use Rattle.tracker_steps.proofs.one_refusal.Statement.{statement}
@@ -19,14 +20,14 @@ returns-2 : tie.Need-returns-2
 returns-2 c =
     let a = c .before .before .before .before .args in
     refuse _ _ _ (past-arrival (c .before .before)) refl
-    (lt-ltb (a .numbers / 4 - a .written) (mostMessages (a .settings .sites))
+    (lt-ltb (a .numbers / messageWidth - a .written) (mostMessages (a .settings))
     (rw (← c .before .most-messages .ensures) (c .if2 .taken)))
 
 returns-3 : tie.Need-returns-3
 returns-3 c =
     let a = c .before .before .before .before .args in
     end (pass _ _ _ (past-arrival (c .before .before)) refl
-    (le-ltb (a .numbers / 4 - a .written) (mostMessages (a .settings .sites))
+    (le-ltb (a .numbers / messageWidth - a .written) (mostMessages (a .settings))
     (rw (← c .before .most-messages .ensures) (c .if2 .left)))) refl
 
 pub one-refusal-spec : {M : Type 1} → statement M

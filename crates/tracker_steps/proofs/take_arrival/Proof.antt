@@ -1,10 +1,16 @@
 -- `tracker_steps::take_arrival` meets its contract: the turn, its count and its messages.
-use Rattle.tracker_steps.specs.Steps.{batchHeld}
+use Rattle.tracker_steps.specs.Steps.{BatchHeld, batchHeld}
 use Rattle.tracker_steps.proofs.TurnLaws.{turn-asks, count-asks, deliver-asks, quiet-says, loud-says}
 use Rattle.tracker_steps.proofs.RefusalLaws.{place-within}
 use borrow.Author.Needs.{needs}
 use Rattle.tracker_steps.proofs.take_arrival.Statement.{statement}
 use Rattle.tracker_steps.proofs.take_arrival.Tie as tie
+
+-- What is held before the arrival.
+abbrev held-now : tie.Start → BatchHeld
+held-now start =
+    let a = start .args in
+    batchHeld (a .answer) (a .site-memory .now) (a .coordinator-memory .now) (a .log .now)
 
 record-of-requires : tie.Need-record-of-requires
 record-of-requires c κs =
@@ -26,11 +32,8 @@ count-turn-requires c κs =
     let reads = takes .before .before in
     let places = reads .before .before in
     let start = places .before .before .before .before in
-    let a = start .args in
-    let now = batchHeld (a .answer) (a .site-memory .now) (a .coordinator-memory .now)
-    (a .log .now) in
     rw (places .place-of .ensures)
-    (count-asks now (a .arrival)
+    (count-asks (held-now start) (start .args .arrival)
     (rw (places .place-of .ensures) at (reads .record-of .ensures)) (takes .take-turn .ensures)
     (start .pre))
 
@@ -40,10 +43,8 @@ returns c =
     let takes = counts .before .before .before in
     let reads = takes .before .before in
     let places = reads .before .before in
-    let a = places .before .before .before .before .args in
-    let now = batchHeld (a .answer) (a .site-memory .now) (a .coordinator-memory .now)
-    (a .log .now) in
-    quiet-says now (a .arrival)
+    let start = places .before .before .before .before in
+    quiet-says (held-now start) (start .args .arrival)
     (rw (places .place-of .ensures) at (reads .record-of .ensures)) (takes .take-turn .ensures)
     (counts .count-turn .result) (rw (places .place-of .ensures) at (counts .count-turn .ensures))
     (c .if1 .taken)
@@ -56,10 +57,7 @@ deliver-turn-requires c κs =
     let reads = takes .before .before in
     let places = reads .before .before in
     let start = places .before .before .before .before in
-    let a = start .args in
-    let now = batchHeld (a .answer) (a .site-memory .now) (a .coordinator-memory .now)
-    (a .log .now) in
-    deliver-asks now (a .arrival)
+    deliver-asks (held-now start) (start .args .arrival)
     (rw (places .place-of .ensures) at (reads .record-of .ensures)) (takes .take-turn .ensures)
     (counts .count-turn .result) (rw (places .place-of .ensures) at (counts .count-turn .ensures))
     (start .pre) (some .if1 .left)
@@ -72,10 +70,8 @@ returns-2 c =
     let takes = counts .before .before .before in
     let reads = takes .before .before in
     let places = reads .before .before in
-    let a = places .before .before .before .before .args in
-    let now = batchHeld (a .answer) (a .site-memory .now) (a .coordinator-memory .now)
-    (a .log .now) in
-    loud-says now (a .arrival)
+    let start = places .before .before .before .before in
+    loud-says (held-now start) (start .args .arrival)
     (rw (places .place-of .ensures) at (reads .record-of .ensures)) (takes .take-turn .ensures)
     (counts .count-turn .result) (rw (places .place-of .ensures) at (counts .count-turn .ensures))
     (some .if1 .left) (delivers .deliver-turn .ensures)

@@ -59,7 +59,7 @@ module _ {settings : Settings} (passes : settingsRefusal settings ≡ accepted) 
       → recordAt held j .used ≤ settings .capacity
   used-at sound j known =
       let records = held .sites .records in
-      used-within (siteRecord freshSite) (settings .sites) settings records (held .siteMemory)
+      used-within noRecord (settings .sites) settings records (held .siteMemory)
       (length-sitesIn (settings .sites) settings records (held .siteMemory) enough) j known
       (sound j known)
 

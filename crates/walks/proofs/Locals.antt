@@ -185,7 +185,8 @@ module _ {M : Type 1} {𝓤 : URA M} {H : Heap 𝓤} {A : Atoms 𝓤} (W : Given
       enters (local τ h ∷ ls) ok Kt k =
           allocated (local τ h ∷ ls) Γ (λ E. params′ E vs (Kt E)) (λ bs. by !
           (stored (types-of ls) vs (shift (placed bs))
-          (‵ (froom τ (first bs) 0) ∷ ‵ (fdies τ (first bs)) ∷ Γ) _ ok (via 𝓤 _ (to-front 𝓤 H A (τ ∷ types-of ls) (free ∷ map holds vs) (placed bs) Γ)
+          (‵ (froom τ (first bs) 0) ∷ ‵ (fdies τ (first bs)) ∷ Γ) _ ok
+          (via 𝓤 _ (to-front 𝓤 H A (τ ∷ types-of ls) (free ∷ map holds vs) (placed bs) Γ)
           (k bs .prf))))
 
   -- ---- The return

@@ -5,6 +5,8 @@
 --   Content           a local has room, or holds a value
 --   cells             the locals at their places with their contents, before other items; a list of
 --                     contents that is too short leaves the rest free
+--   types-of          the types of a function's locals. Where they are large structs, a walk that
+--                     writes them by name (`tracker`'s) is checked three times as fast
 --   env               their types and places, as the machine's rules read them
 --   behind            where the ith of so many locals stands in a context, behind so many items
 --   walks-in          the function is entered: its locals are made and its arguments stored
@@ -50,18 +52,22 @@ behind many items i = items + ((many + many) - (2 + (i + i)))
 
 -- ---- The context
 
-abbrev pub env : {M : Type 1} (𝓤 : URA M) (H : Heap 𝓤) → List Local → Places → Env 𝓤 H
+abbrev pub types-of : List Local → List Ty
+types-of [] = []
+types-of (local τ h ∷ ls) = τ ∷ types-of ls
+
+abbrev pub env : {M : Type 1} (𝓤 : URA M) (H : Heap 𝓤) → List Ty → Places → Env 𝓤 H
 env 𝓤 H [] l = []
-env 𝓤 H (local τ h ∷ ls) l = (τ, l 0) ∷ env 𝓤 H ls (shift l)
+env 𝓤 H (τ ∷ ls) l = (τ, l 0) ∷ env 𝓤 H ls (shift l)
 
 module _ {M : Type 1} {𝓤 : URA M} where
   abbrev at-place : Ty → ℕ → Content → Item 𝓤
   at-place τ b free = ‵ (froom τ b 0)
   at-place τ b (holds v) = ‵ (fat fullShare τ b 0 v)
 
-  abbrev pub cells : List Local → List Content → Places → List (Item 𝓤) → List (Item 𝓤)
+  abbrev pub cells : List Ty → List Content → Places → List (Item 𝓤) → List (Item 𝓤)
   cells [] cs l Γ = Γ
-  cells (local τ h ∷ ls) cs l Γ =
+  cells (τ ∷ ls) cs l Γ =
       cells ls (later cs) (shift l) (at-place τ (l 0) (next cs) ∷ ‵ (fdies τ (l 0)) ∷ Γ)
 
 -- ---- An item is taken out from behind the cells, and put there
@@ -73,21 +79,21 @@ module _ {M : Type 1} (𝓤 : URA M) (H : Heap 𝓤) (A : Atoms 𝓤) where
       via 𝓤 (sep 𝓤 (mean 𝓤 H A i) (⋆ 𝓤 H A Γ)) (pop 𝓤 H A i Γ)
       (via 𝓤 (sep 𝓤 (mean 𝓤 H A i) (⋆ 𝓤 H A Γ′)) (monoR 𝓤 (mean 𝓤 H A i) h) (push 𝓤 H A i Γ′))
 
-  cells-mono : (ls : List Local) (cs : List Content) (l : Places) (Γ Γ′ : List (Item 𝓤))
+  cells-mono : (ls : List Ty) (cs : List Content) (l : Places) (Γ Γ′ : List (Item 𝓤))
       → ent 𝓤 (⋆ 𝓤 H A Γ) (⋆ 𝓤 H A Γ′)
       → ent 𝓤 (⋆ 𝓤 H A (cells ls cs l Γ)) (⋆ 𝓤 H A (cells ls cs l Γ′))
   cells-mono [] cs l Γ Γ′ h = h
-  cells-mono (local τ _ ∷ ls) cs l Γ Γ′ h =
+  cells-mono (τ ∷ ls) cs l Γ Γ′ h =
       let c = at-place τ (l 0) (next cs) in
       let d = ‵ (fdies τ (l 0)) in
       cells-mono ls (later cs) (shift l) (c ∷ d ∷ Γ) (c ∷ d ∷ Γ′)
       (cons-mono c (d ∷ Γ) (d ∷ Γ′) (cons-mono d Γ Γ′ h))
 
-  taken-out : (ls : List Local) (cs : List Content) (l : Places) (x : Item 𝓤) (Γ : List (Item 𝓤))
+  taken-out : (ls : List Ty) (cs : List Content) (l : Places) (x : Item 𝓤) (Γ : List (Item 𝓤))
       → ent 𝓤 (⋆ 𝓤 H A (cells ls cs l (x ∷ Γ)))
       (sep 𝓤 (mean 𝓤 H A x) (⋆ 𝓤 H A (cells ls cs l Γ)))
   taken-out [] cs l x Γ = pop 𝓤 H A x Γ
-  taken-out (local τ _ ∷ ls) cs l x Γ =
+  taken-out (τ ∷ ls) cs l x Γ =
       let c = at-place τ (l 0) (next cs) in
       let d = ‵ (fdies τ (l 0)) in
       via 𝓤 _
@@ -95,11 +101,11 @@ module _ {M : Type 1} (𝓤 : URA M) (H : Heap 𝓤) (A : Atoms 𝓤) where
       (sel⊢ 𝓤 H A (2 ∷ []) (c ∷ d ∷ x ∷ Γ)))
       (taken-out ls (later cs) (shift l) x (c ∷ d ∷ Γ))
 
-  put-in : (ls : List Local) (cs : List Content) (l : Places) (x : Item 𝓤) (Γ : List (Item 𝓤))
+  put-in : (ls : List Ty) (cs : List Content) (l : Places) (x : Item 𝓤) (Γ : List (Item 𝓤))
       → ent 𝓤 (sep 𝓤 (mean 𝓤 H A x) (⋆ 𝓤 H A (cells ls cs l Γ)))
       (⋆ 𝓤 H A (cells ls cs l (x ∷ Γ)))
   put-in [] cs l x Γ = push 𝓤 H A x Γ
-  put-in (local τ _ ∷ ls) cs l x Γ =
+  put-in (τ ∷ ls) cs l x Γ =
       let c = at-place τ (l 0) (next cs) in
       let d = ‵ (fdies τ (l 0)) in
       via 𝓤 _
@@ -108,13 +114,13 @@ module _ {M : Type 1} (𝓤 : URA M) (H : Heap 𝓤) (A : Atoms 𝓤) where
       (sel⊢ 𝓤 H A (1 ∷ 1 ∷ []) (x ∷ c ∷ d ∷ Γ)))
 
   -- All that stands behind the cells comes before them, and goes back.
-  to-front : (ls : List Local) (cs : List Content) (l : Places) (Γ : List (Item 𝓤))
+  to-front : (ls : List Ty) (cs : List Content) (l : Places) (Γ : List (Item 𝓤))
       → ent 𝓤 (⋆ 𝓤 H A (cells ls cs l Γ)) (⋆ 𝓤 H A (Γ ++ cells ls cs l []))
   to-front ls cs l Γ =
       via 𝓤 _ (cells-mono ls cs l Γ (raw (⋆ 𝓤 H A Γ) ∷ []) (id⊢ 𝓤 (⋆ 𝓤 H A Γ)))
       (via 𝓤 _ (taken-out ls cs l (raw (⋆ 𝓤 H A Γ)) []) (++⊢ 𝓤 H A Γ (cells ls cs l [])))
 
-  to-back : (ls : List Local) (cs : List Content) (l : Places) (Γ : List (Item 𝓤))
+  to-back : (ls : List Ty) (cs : List Content) (l : Places) (Γ : List (Item 𝓤))
       → ent 𝓤 (⋆ 𝓤 H A (Γ ++ cells ls cs l [])) (⋆ 𝓤 H A (cells ls cs l Γ))
   to-back ls cs l Γ =
       via 𝓤 _ (⊢++ 𝓤 H A Γ (cells ls cs l []))
@@ -124,24 +130,24 @@ module _ {M : Type 1} (𝓤 : URA M) (H : Heap 𝓤) (A : Atoms 𝓤) where
 -- ---- The arguments
 
 -- Each value has its local's type.
-abbrev Typed : List Local → List Val → Type 0
+abbrev Typed : List Ty → List Val → Type 0
 Typed ls [] = Unit {0}
 Typed [] (v ∷ vs) = ⊥
-Typed (local τ h ∷ ls) (v ∷ vs) = (Holds (hasTy τ v) × WT v) × Typed ls vs
+Typed (τ ∷ ls) (v ∷ vs) = (Holds (hasTy τ v) × WT v) × Typed ls vs
 
 -- The parameters are the locals after the result.
-abbrev pub Fitting : List Local → List Val → Type 0
+abbrev pub Fitting : List Ty → List Val → Type 0
 Fitting [] vs = ⊥
 Fitting (l ∷ ls) vs = Typed ls vs
 
 module _ {M : Type 1} {𝓤 : URA M} {H : Heap 𝓤} {A : Atoms 𝓤} (W : Given 𝓤 H A) where
-  stored : (ls : List Local) (vs : List Val) (l : Places) (Γ : List (Item 𝓤)) (P : SProp 𝓤)
+  stored : (ls : List Ty) (vs : List Val) (l : Places) (Γ : List (Item 𝓤)) (P : SProp 𝓤)
       → Typed ls vs
       → ent 𝓤 (⋆ 𝓤 H A (cells ls (map holds vs) l Γ)) P
       → ent 𝓤 (⋆ 𝓤 H A (cells ls [] l Γ)) (pass 𝓤 H (env 𝓤 H ls l) vs P)
   stored ls [] l Γ P ok h = h
   stored [] (v ∷ vs) l Γ P ok h = absurd ok
-  stored (local τ _ ∷ ls) (v ∷ vs) l Γ P ok h =
+  stored (τ ∷ ls) (v ∷ vs) l Γ P ok h =
       let d = ‵ (fdies τ (l 0)) in
       let others = raw (⋆ 𝓤 H A (cells ls [] (shift l) (d ∷ Γ))) in
       let now : Item 𝓤 = ‵ (fat fullShare τ (l 0) 0 v) in
@@ -151,7 +157,8 @@ module _ {M : Type 1} {𝓤 : URA M} {H : Heap 𝓤} {A : Atoms 𝓤} (W : Given
       (stored ls vs (shift l) (now ∷ d ∷ Γ) P (ok .1) h)))
 
   allocated : (ls : List Local) (Γ : List (Item 𝓤)) (Kt : Env 𝓤 H → Goal 𝓤 H)
-      → ((bs : List ℕ) → Sq W (cells ls [] (placed bs) Γ) (Kt (env 𝓤 H ls (placed bs))))
+      → ((bs : List ℕ)
+      → Sq W (cells (types-of ls) [] (placed bs) Γ) (Kt (env 𝓤 H (types-of ls) (placed bs))))
       → Sq W Γ (allocs ls Kt)
   allocated [] Γ Kt k = alloc0 ! $ k []
   allocated (local τ h ∷ ls) Γ Kt k =
@@ -159,25 +166,27 @@ module _ {M : Type 1} {𝓤 : URA M} {H : Heap 𝓤} {A : Atoms 𝓤} (W : Given
       (λ E. Kt ((τ, b) ∷ E)) (λ bs. k (b ∷ bs)))
 
   pub walks-in : (C : Calls 𝓤 H) (Λ : Loops 𝓤 H) (f : Fn) (vs : List Val) (Q : Val → SProp 𝓤)
-      (Γ : List (Item 𝓤)) → Fitting (f .locals) vs
+      (Γ : List (Item 𝓤)) → Fitting (types-of (f .locals)) vs
       → ((bs : List ℕ)
-      → Sq W (Γ ++ cells (f .locals) (free ∷ map holds vs) (placed bs) [])
-      (runs C Λ (env 𝓤 H (f .locals) (placed bs)) (f .body)
-      (atRet (env 𝓤 H (f .locals) (placed bs)) Q)))
+      → Sq W (Γ ++ cells (types-of (f .locals)) (free ∷ map holds vs) (placed bs) [])
+      (runs C Λ (env 𝓤 H (types-of (f .locals)) (placed bs)) (f .body)
+      (atRet (env 𝓤 H (types-of (f .locals)) (placed bs)) Q)))
       → ent 𝓤 (⋆ 𝓤 H A Γ) (WpFn 𝓤 H C Λ f vs Q)
   walks-in C Λ f vs Q Γ ok k =
       qed W Γ ∵ enter ! C Λ f vs Q $
       enters (f .locals) ok (λ E. runs C Λ E (f .body) (atRet E Q)) k
     where
-      enters : (ls : List Local) → Fitting ls vs → (Kt : Env 𝓤 H → Goal 𝓤 H)
+      enters : (ls : List Local) → Fitting (types-of ls) vs → (Kt : Env 𝓤 H → Goal 𝓤 H)
           → ((bs : List ℕ)
-          → Sq W (Γ ++ cells ls (free ∷ map holds vs) (placed bs) []) (Kt (env 𝓤 H ls (placed bs))))
+          → Sq W (Γ ++ cells (types-of ls) (free ∷ map holds vs) (placed bs) [])
+          (Kt (env 𝓤 H (types-of ls) (placed bs))))
           → Sq W Γ (allocs ls (λ E. params′ E vs (Kt E)))
       enters [] bad Kt k = absurd bad
       enters (local τ h ∷ ls) ok Kt k =
           allocated (local τ h ∷ ls) Γ (λ E. params′ E vs (Kt E)) (λ bs. by !
-          (stored ls vs (shift (placed bs)) (‵ (froom τ (first bs) 0) ∷ ‵ (fdies τ (first bs)) ∷ Γ)
-          _ ok (via 𝓤 _ (to-front 𝓤 H A (local τ h ∷ ls) (free ∷ map holds vs) (placed bs) Γ)
+          (stored (types-of ls) vs (shift (placed bs))
+          (‵ (froom τ (first bs) 0) ∷ ‵ (fdies τ (first bs)) ∷ Γ) _ ok
+          (via 𝓤 _ (to-front 𝓤 H A (τ ∷ types-of ls) (free ∷ map holds vs) (placed bs) Γ)
           (k bs .prf))))
 
   -- ---- The return
@@ -187,11 +196,11 @@ module _ {M : Type 1} {𝓤 : URA M} {H : Heap 𝓤} {A : Atoms 𝓤} (W : Given
   emptied τ b free = id⊢ 𝓤 (H .room τ b 0)
   emptied τ b (holds v) = W .laws .at-room τ b 0 v
 
-  released : (ls : List Local) (cs : List Content) (l : Places) (Γ : List (Item 𝓤)) (P : SProp 𝓤)
+  released : (ls : List Ty) (cs : List Content) (l : Places) (Γ : List (Item 𝓤)) (P : SProp 𝓤)
       → ent 𝓤 (⋆ 𝓤 H A Γ) P
       → ent 𝓤 (⋆ 𝓤 H A (cells ls cs l Γ)) (release 𝓤 H (env 𝓤 H ls l) P)
   released [] cs l Γ P h = h
-  released (local τ _ ∷ ls) cs l Γ P h =
+  released (τ ∷ ls) cs l Γ P h =
       let c = at-place τ (l 0) (next cs) in
       let d = ‵ (fdies τ (l 0)) in
       via 𝓤 _ (taken-out 𝓤 H A ls (later cs) (shift l) c (d ∷ Γ))
@@ -202,7 +211,7 @@ module _ {M : Type 1} {𝓤 : URA M} {H : Heap 𝓤} {A : Atoms 𝓤} (W : Given
       (release 𝓤 H (env 𝓤 H ls (shift l)) P)))
 
 module _ {M : Type 1} {𝓤 : URA M} {H : Heap 𝓤} {A : Atoms 𝓤} {K : Type 0} {W : Given 𝓤 H A} where
-  pub freed : K → (ls : List Local) (cs : List Content) (l : Places) (Γ : List (Item 𝓤))
+  pub freed : K → (ls : List Ty) (cs : List Content) (l : Places) (Γ : List (Item 𝓤))
       {P : SProp 𝓤}
       → Step K W Γ (prop P) (Γ ++ cells ls cs l []) (frees (env 𝓤 H ls l) (prop P))
   freed t ls cs l Γ {P} = step (λ s. by t

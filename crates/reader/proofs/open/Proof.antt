@@ -2,7 +2,7 @@
 -- function's steps by hand. A `&[u8]` is Copy, so what it owns is had twice: once for the exit and
 -- once inside the result, beside the facts of the two numbers.
 use Rattle.walks.proofs.Kit.{refl, ℕ, List, [], _∷_, lit<, length, URA, named, w64, Val, SProp, ent, emp, via, fst∗, Lft, Share, Fml, ftrue, flft, Memory, Routine, Heap, Calls, Loops, WpFn, Tables, Atoms, Fun, givenOf, tables, tablesOf, Given, ‵, raw, _⊛_, _$_, _∵_, !, qed, by, move, use1, split, fsplit, fjoin, suffices, frame, agg, look, init, stop, from, load, lit, and-then, no-more, assigns, returns, owns, Is, uint-makes, u8, usize, RefT, NamedLft, namedLft, sliceVal, ShrSlice, shr-slice-lawful, shr-slice-copy, nothing, owned, own-shut, onEntry, Meets, tripleOf, entered, says, Stays, walkOf, ends-at}
-use Rattle.walks.proofs.Locals.{placed, holds, walks-in, freed}
+use Rattle.walks.proofs.Locals.{types-of, placed, holds, walks-in, freed}
 use Rattle.walks.proofs.Meeting.{_&_, Params, shared, stays-of, meets-by}
 use Rattle.reader.specs.declared.Reader.{Reader}
 use Rattle.reader.proofs.Reader as T
@@ -93,8 +93,8 @@ module _ {M : Type 1} (𝓤 : URA M) (H : Heap 𝓤) (A : Atoms 𝓤) (W : Given
         (init ! 3 refl
         (tt, typed .1 & record { fits = lit< tt } & record { fits = lit< tt } & tt)) $
         returns ! (look ! 3 refl) $
-        freed ! (code.function .locals) (holds (T′.lowered made) ∷ holds v ∷ []) (placed bs)
-        (given ∷ []) $
+        freed ! (types-of (code.function .locals)) (holds (T′.lowered made) ∷ holds v ∷ [])
+        (placed bs) (given ∷ []) $
         by ! exits)
 
 meets : {M : Type 1} (𝓤 : URA M) (H : Heap 𝓤) (A : Atoms 𝓤) → Given 𝓤 H A

@@ -7,7 +7,7 @@ use Rattle.walks.proofs.Calling.{Says, calls-by}
 use Rattle.walks.proofs.Data.{number, Good, is-typed}
 use Rattle.walks.proofs.Handing.{Part, handing, asking-nothing}
 use Rattle.walks.proofs.LentLocal.{Lent, lends, returned}
-use Rattle.walks.proofs.Locals.{placed, holds, walks-in, freed}
+use Rattle.walks.proofs.Locals.{types-of, placed, holds, walks-in, freed}
 use Rattle.walks.proofs.Meeting.{_&_, Params, by-value, shared, stays-of, meets-by}
 use Rattle.reader.specs.Reading.{Stepped}
 use Rattle.reader.specs.Walk.{stepAt}
@@ -181,7 +181,7 @@ module _ {M : Type 1} (𝓤 : URA M) (H : Heap 𝓤) (A : Atoms 𝓤) (W : Given
         -- [_4; what the reader owns; the token; true; the bytes; the numbers; _5 at 6; _4's end
         -- at 8; …; _0 at 15]
         returns ! (look ! 15 refl) $ move ! (2 ∷ 4 ∷ 5 ∷ 1 ∷ 3 ∷ 6 ∷ 7 ∷ 0 ∷ []) $
-        freed ! (code.function .locals)
+        freed ! (types-of (code.function .locals))
         (holds (step-data .val r) ∷ holds v ∷ holds (vint w64 at) ∷ holds (vint w64 line)
         ∷ holds (T′.lowered (ws .0)) ∷ holds (vptr l₄ 0) ∷ []) (placed bs)
         (‵ (flft κ q) ∷ ‵ Own ∷ ‵ Numbers

@@ -9,7 +9,7 @@ use denote.Struct.Laws as LL
 use Rattle.walks.proofs.Calling.{Says, calls-by}
 use Rattle.walks.proofs.Data.{number, Good, is-typed}
 use Rattle.walks.proofs.Handing.{Part, handing, value-of, asking-nothing}
-use Rattle.walks.proofs.Locals.{placed, holds, walks-in, freed}
+use Rattle.walks.proofs.Locals.{types-of, placed, holds, walks-in, freed}
 use Rattle.walks.proofs.Meeting.{_&_, Params, kept-ref, stays-of, meets-by}
 use Rattle.reader.specs.Walk.{stepAt}
 use Rattle.reader.specs.declared.Reader.{Reader}
@@ -212,7 +212,7 @@ module _ {M : Type 1} (𝓤 : URA M) (H : Heap 𝓤) (A : Atoms 𝓤) (W : Given
         closes ! tt B (after r) (T′.lowered (after r) ∷ []) b o $
         -- [obs; the borrow; both tokens; true; true; _5 at 6; …; _0 at 16]
         returns ! (look ! 16 refl) $
-        freed ! (code.function .locals)
+        freed ! (types-of (code.function .locals))
         (holds (step-data .val r) ∷ holds (vptr b o) ∷ holds (step-data .val r) ∷ holds slice
         ∷ holds (vint w64 (reader .at)) ∷ holds (vint w64 (reader .line)) ∷ []) (placed bs)
         (‵ (fobs γ (B .coded .code (after r))) ∷ ‵ (fbor κ (Body (mem B) b o γ))

@@ -12,7 +12,7 @@ use Rattle.walks.proofs.Data.{number, Good, is-typed}
 use Rattle.walks.proofs.Elem.{Looked}
 use Rattle.walks.proofs.Handing.{Part, handing, handed, asking, ends}
 use Rattle.walks.proofs.Calling.{calls-by}
-use Rattle.walks.proofs.Locals.{Places, holds, freed}
+use Rattle.walks.proofs.Locals.{types-of, Places, holds, freed}
 use Rattle.walks.proofs.Meeting.{_&_}
 use Rattle.walks.proofs.Reborrow.{reborrows}
 use Rattle.tracker.proofs.Types.{arrival-data, VK}
@@ -117,7 +117,7 @@ module _ {M : Type 1} (logic : Logic M) (f : Called) (room : Rooms f) (l : Place
       returns ! (look ! (cell 0) refl) $
       move !
       (14 ∷ 3 ∷ 4 ∷ 9 ∷ 10 ∷ 11 ∷ 12 ∷ 5 ∷ 15 ∷ 2 ∷ 1 ∷ 13 ∷ 8 ∷ 7 ∷ 6 ∷ 0 ∷ []) $
-      freed ! (code.function .locals)
+      freed ! (types-of (code.function .locals))
       (contents f (holds (vint w32 r)) (holds (VO (o .opening)) ∷ holds (VK (b .answer)) ∷ []))
       l (Ended os) $
       by ! (exits r os good closed (last₁ ∙ o .sites-same) (last₂ ∙ o .coordinator-same)

@@ -13,7 +13,7 @@ use Rattle.walks.proofs.Lending.{Lending, value}
 use Rattle.walks.proofs.Again.{Held-at}
 use Rattle.walks.proofs.Elem.{Looked}
 use Rattle.walks.proofs.Handing.{handed}
-use Rattle.walks.proofs.Locals.{Places, Content, free, holds, behind, env, cells}
+use Rattle.walks.proofs.Locals.{types-of, Places, Content, free, holds, behind, env, cells}
 use Rattle.tracker.proofs.Types.{arrival-data, VK}
 use Rattle.testing_batches.proofs.testing_run_batch.Code as code
 use Rattle.testing_batches.proofs.testing_run_batch.Proof.Parameters.{VO, Called, lent-for, lent-as, AfterOpening, AfterBatch, Logic}
@@ -37,10 +37,10 @@ module _ {M : Type 1} (logic : Logic M) (f : Called) (l : Places) where
   open Logic logic using (𝓤, H, A)
 
   abbrev pub locals : Env 𝓤 H
-  locals = env 𝓤 H (code.function .locals) l
+  locals = env 𝓤 H (types-of (code.function .locals)) l
 
   abbrev hold : List Content → List (Item 𝓤)
-  hold cs = cells (code.function .locals) (contents f free cs) l []
+  hold cs = cells (types-of (code.function .locals)) (contents f free cs) l []
 
   -- The token of the lifetime that a slice is lent for.
   abbrev lft : {X : Type 0} → Lending X → Item 𝓤

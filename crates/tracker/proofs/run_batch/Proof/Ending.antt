@@ -15,10 +15,9 @@ use Rattle.walks.proofs.Meeting.{_&_}
 use Rattle.tracker.proofs.Types.{answer-data, VK}
 use Rattle.tracker.proofs.Records.{refusal-fits}
 use Rattle.tracker.proofs.run_batch as fun
-use Rattle.tracker.proofs.run_batch.Code as code
 use Rattle.tracker.proofs.run_batch.Code.Mir as m
 use Rattle.tracker.proofs.run_batch.Proof.Parameters.{Called, Typed, asked, Point, Owned, stayed, bound, Post, Logic, heldAt, lent-for, had}
-use Rattle.tracker.proofs.run_batch.Proof.Locals.{cell, locals, At, Left, standing}
+use Rattle.tracker.proofs.run_batch.Proof.Locals.{cell, locals, At, Left, standing, local-types}
 
 module _ {M : Type 1} (logic : Logic M) (f : Called) (ok : Typed f) where
   open Logic logic using (𝓤, H, A, W, mem, run, 𝓣)
@@ -47,7 +46,7 @@ module _ {M : Type 1} (logic : Logic M) (f : Called) (ok : Typed f) where
         assigns ! (of-opd ! (load ! (from ! (stop !)) (look ! (cell 8) refl))) (from ! (stop !))
         (init ! (cell 0) refl (is-typed W answer-data (s .answer) (s .good) .0)) $
         returns ! (look ! (cell 0) refl) $
-        freed ! (code.function .locals) (standing f (holds (VK (s .answer))) i s []) l
+        freed ! local-types (standing f (holds (VK (s .answer))) i s []) l
         (Owned f (s .lent) []) $
         by ! (exits s e)
 

@@ -4,21 +4,27 @@
 --
 --   at        where the ith of the 43 locals stands in a context, behind so many items
 --   cell      the same, behind the eight items that are owned between the statements
---   locals    their types and places
+--   local-types, locals   their types, as the MIR numbers them, and with their places
 --   Begun     the context where the body begins: only the parameters have values
 --   At        the context at the loop's test, at an index and a point of the loop
 --   Seen      the context when the arrival, its place and its site's record were read
 --   Told      the context when the turn was taken, which is not yet counted
 --   Counted   the context when it was counted, and its messages are not yet delivered
 --   Left      what is to hold where the loop is left: the rest of the body runs
-use Rattle.walks.proofs.Kit.{ℕ, List, [], _∷_, w64, vint, SProp, Out, Env, Wp, afterSeq, afterBlock, atReturn, Item}
+use Rattle.walks.proofs.Kit.{ℕ, List, [], _∷_, w64, vint, SProp, Out, Env, Wp, afterSeq, afterBlock, atReturn, Item, Ty, named, erased, imm, mut, w32, tyPtr, tyBool, tyInt, tyRef, sliceTy, pointee}
 use Rattle.model.specs.declared.Arrival.{Arrival}
 use Rattle.tracker_steps.specs.declared.Turn.{Turn}
 use Rattle.tracker_steps.specs.Turns.{placeOf, ownOf}
 use Rattle.walks.proofs.Lending.{value}
 use Rattle.walks.proofs.Locals.{Places, Content, free, holds, behind, env, cells}
-use Rattle.tracker.proofs.Types.{VS, VP, VD, VT, VR, VK, VN}
-use Rattle.tracker.proofs.run_batch.Code as code
+use Rattle.model.proofs.Settings.Laws as S′
+use Rattle.model.proofs.Sites.Laws as P′
+use Rattle.model.proofs.CoordinatorRecord.Laws as D′
+use Rattle.model.proofs.Arrival.Laws as T′
+use Rattle.model.proofs.SiteRecord.Laws as R′
+use Rattle.tracker_steps.proofs.BatchAnswer.Laws as K′
+use Rattle.tracker_steps.proofs.Turn.Laws as N′
+use Rattle.tracker.proofs.Types.{arrival-data, VS, VP, VD, VT, VR, VK, VN}
 use Rattle.tracker.proofs.run_batch.Code.Mir as m
 use Rattle.tracker.proofs.run_batch.Proof.Parameters.{Called, Point, Owned, Post, Logic, lentOf}
 
@@ -27,6 +33,26 @@ at = behind 43
 
 abbrev pub cell : ℕ → ℕ
 cell = at 8
+
+-- ---- Their types
+
+-- A reference that is lent again, to 32-bit and to 64-bit numbers.
+abbrev rm : Ty
+rm = tyRef erased mut (tyInt w32)
+
+abbrev rn : Ty
+rn = tyRef erased mut (tyInt w64)
+
+abbrev pub local-types : List Ty
+local-types =
+    K′.mir ∷ S′.mir ∷ P′.mir ∷ D′.mir
+    ∷ sliceTy (tyRef (named 0) imm (pointee (arrival-data .row .written)))
+    ∷ sliceTy (tyRef (named 1) mut (tyInt w32)) ∷ sliceTy (tyRef (named 2) mut (tyInt w64))
+    ∷ sliceTy (tyRef (named 3) mut (tyInt w64)) ∷ K′.mir ∷ tyInt w64 ∷ T′.mir ∷ tyInt w64
+    ∷ R′.mir ∷ N′.mir ∷ K′.mir ∷ rm ∷ sliceTy rm ∷ rn ∷ sliceTy rn ∷ tyBool ∷ tyInt w64
+    ∷ tyInt w32 ∷ tyBool ∷ tyPtr ∷ T′.mir ∷ tyPtr ∷ tyPtr ∷ R′.mir ∷ tyInt w64 ∷ rm
+    ∷ sliceTy rm ∷ tyPtr ∷ tyPtr ∷ tyInt w64 ∷ tyBool ∷ K′.mir ∷ K′.mir ∷ rm ∷ sliceTy rm
+    ∷ rn ∷ sliceTy rn ∷ rn ∷ sliceTy rn ∷ []
 
 -- ---- What the locals hold
 
@@ -48,10 +74,10 @@ module _ {M : Type 1} (logic : Logic M) (f : Called) (l : Places) where
   open Logic logic using (𝓤, H, A, W, mem, run, 𝓣)
 
   abbrev pub locals : Env 𝓤 H
-  locals = env 𝓤 H (code.function .locals) l
+  locals = env 𝓤 H local-types l
 
   abbrev hold : List Content → List (Item 𝓤)
-  hold cs = cells (code.function .locals) cs l []
+  hold cs = cells local-types cs l []
 
   abbrev pub Begun : List (Item 𝓤)
   Begun =

@@ -1,9 +1,10 @@
 // The three functions that the bench controller, written in C, calls: controller.h declares them.
 
+ghost use Rattle.model.specs.Lent.{before, after};
 ghost use mathlib.Core.Path.{_≡_};
 ghost use Rattle.model.specs.Settings.{settingsWith, settingsRefusal};
 ghost use Rattle.controller.specs.Contracts.{AllowanceExported, LineExported, lineNumbers};
-use model::ACCEPTED;
+use model::NO_REFUSAL;
 use model::Settings;
 use settings::message_allowance;
 use settings::test_settings;
@@ -58,11 +59,11 @@ pub extern "C" fn tracker_allowance(
     messages: &mut u64,
 ) -> u32
     ensures { λ r. ⌜ AllowanceExported (settingsWith sites epsilon phi rank capacity universe)
-        arrivals (now (messages .entry)) (now (messages .exit)) r ⌝ }
+        arrivals (before messages) (after messages) r ⌝ }
 {
     let settings = settings_from(sites, epsilon, phi, rank, capacity, universe);
     let allowance = message_allowance(settings, arrivals);
-    if allowance.refusal == ACCEPTED {
+    if allowance.refusal == NO_REFUSAL {
         *messages = allowance.messages;
     }
     allowance.refusal
@@ -77,13 +78,13 @@ pub extern "C" fn tracker_test_line(
     value: &mut u32,
     used: &mut usize,
 ) -> u32
-    ensures { λ r. ⌜ LineExported (now (bytes .entry)) (lineNumbers (now (site .entry))
-        (now (item .entry)) (now (value .entry)) (now (used .entry)))
-        (lineNumbers (now (site .exit)) (now (item .exit)) (now (value .exit)) (now (used .exit)))
+    ensures { λ r. ⌜ LineExported (before bytes) (lineNumbers (before site)
+        (before item) (before value) (before used))
+        (lineNumbers (after site) (after item) (after value) (after used))
         r ⌝ }
 {
     let line = test_line(bytes);
-    if line.refusal == ACCEPTED {
+    if line.refusal == NO_REFUSAL {
         *site = line.arrival.site;
         *item = line.arrival.item;
         *value = line.arrival.value;

@@ -2,7 +2,7 @@
 --
 --   fresh-memory                                       the fresh coordinator is zeros alone
 --   start-long, step-asks, announce-asks               what an accepted call may hand to a step
---   hands-refused, hands-accepted                      the record `Hands`
+--   hands-refused, hands-accepted                      the record `ReceivedSays`
 use mathlib.Core.Path.{_≡_, ap, sym, _∙_}
 use mathlib.Core.List.{List}
 use Prim.Native.Nat.{ℕ, _≤_}
@@ -12,20 +12,20 @@ use Rattle.model.specs.declared.Settings.{Settings}
 use Rattle.model.specs.declared.Message.{Message}
 use Rattle.model.specs.declared.CoordinatorRecord.{CoordinatorRecord}
 use Rattle.model.specs.Choice.{isZero}
-use Rattle.model.specs.Refusals.{accepted}
+use Rattle.model.specs.Refusals.{noRefusal}
 use Rattle.model.specs.Limits.{valueCount}
 use Rattle.model.specs.Messages.{noMessage}
 use Rattle.model.specs.SiteMemory.{overwrite}
 use Rattle.model.specs.Coordinator.{CoordinatorStep, freshCoordinator}
 use Rattle.model.specs.CoordinatorMemory.{coordinatorMemory, coordinatorWords, coordinatorMemoryRefusal}
-use Rattle.model.proofs.RefusalLaws.{both-accepted, accepts, refuses}
-use Rattle.model.proofs.TestedMemory.{length-tested, coordinator-tested}
+use Rattle.model.proofs.Thresholds.RefusalLaws.{both-accepted, accepts, refuses}
+use Rattle.model.proofs.Thresholds.TestedMemory.{length-tested, coordinator-tested}
 use Rattle.coordinator_kinds.specs.declared.Answered.{Answered}
 use Rattle.coordinator.specs.declared.Received.{Received}
 use Rattle.coordinator_kinds.specs.Steps.{answerOf}
 use Rattle.coordinator_steps.specs.Ready.{StepAsks, AnnounceAsks}
-use Rattle.coordinator.specs.Calls.{Hands, startRefusal, receiveRefusal, announceRefusal}
-use Rattle.coordinator_tests.proofs.ReadyLaws.{ready-of-consistent}
+use Rattle.coordinator.specs.Calls.{ReceivedSays, startRefusal, receiveRefusal, announceRefusal}
+use Rattle.coordinator_memory.proofs.ReadyLaws.{ready-of-consistent}
 
 -- ---- The fresh coordinator in memory
 
@@ -40,13 +40,13 @@ fresh-memory before settings =
 -- ---- What an accepted call may hand to a step
 
 pub start-long : (settings : Settings) (words : ℕ)
-    → startRefusal settings words ≡ accepted
+    → startRefusal settings words ≡ noRefusal
     → coordinatorWords settings ≤ words
 start-long settings words none =
     length-tested settings (coordinatorWords settings) words _ none .memory-long
 
 pub step-asks : (settings : Settings) (numbers : CoordinatorRecord) (m : Message) (memory : List ℕ)
-    → receiveRefusal settings numbers m memory ≡ accepted
+    → receiveRefusal settings numbers m memory ≡ noRefusal
     → StepAsks settings numbers m memory
 step-asks settings numbers m memory none =
     let rows = both-accepted (coordinatorMemoryRefusal settings numbers memory) _ none in
@@ -60,7 +60,7 @@ step-asks settings numbers m memory none =
     }
 
 pub announce-asks : (settings : Settings) (numbers : CoordinatorRecord) (memory : List ℕ)
-    → announceRefusal settings numbers memory ≡ accepted
+    → announceRefusal settings numbers memory ≡ noRefusal
     → AnnounceAsks settings numbers
 announce-asks settings numbers memory none =
     let rows = both-accepted (coordinatorMemoryRefusal settings numbers memory) _ none in
@@ -76,11 +76,11 @@ announce-asks settings numbers memory none =
 
 module _ (refusal : ℕ) (given : CoordinatorStep) (numbers : CoordinatorRecord) where
   pub hands-refused : (r : Received)
-      → (refusal ≡ accepted → ⊥)
+      → (refusal ≡ noRefusal → ⊥)
       → r .coordinator ≡ numbers
       → r .count ≡ 0
       → r .out ≡ noMessage
-      → Hands (isZero refusal) given numbers r
+      → ReceivedSays (isZero refusal) given numbers r
   hands-refused r some coordinator count out = record {
     coordinator = coordinator ∙ refuses refusal _ _ some;
     count = count ∙ refuses refusal _ _ some;
@@ -88,12 +88,12 @@ module _ (refusal : ℕ) (given : CoordinatorStep) (numbers : CoordinatorRecord)
   }
 
   pub hands-accepted : (r : Received) (answered : Answered)
-      → refusal ≡ accepted
+      → refusal ≡ noRefusal
       → answered ≡ answerOf given
       → r .coordinator ≡ answered .coordinator
       → r .count ≡ answered .count
       → r .out ≡ answered .out
-      → Hands (isZero refusal) given numbers r
+      → ReceivedSays (isZero refusal) given numbers r
   hands-accepted r answered none is coordinator count out = record {
     coordinator =
         coordinator ∙ ap (λ (x : Answered). x .coordinator) is ∙ accepts refusal _ _ none;

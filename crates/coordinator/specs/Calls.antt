@@ -3,7 +3,7 @@
 -- back no message, and 0 for their number; a refused start answers a fresh record all the same.
 --
 --   startRefusal, receiveRefusal, announceRefusal    the chains of tests
---   Starts, Receives, Announces                      the promises
+--   StartCoordinatorSays, CoordinatorReceiveSays, AnnounceSays                      the promises
 use mathlib.Core.Path.{_≡_}
 use mathlib.Core.Bool.{Bool}
 use mathlib.Core.List.{List}
@@ -14,7 +14,7 @@ use Rattle.model.specs.declared.Settings.{Settings}
 use Rattle.model.specs.declared.Message.{Message}
 use Rattle.model.specs.declared.CoordinatorRecord.{CoordinatorRecord}
 use Rattle.model.specs.Choice.{if_then_else_, isZero}
-use Rattle.model.specs.Refusals.{when, _orElse_, accepted, memoryTooShort}
+use Rattle.model.specs.Refusals.{when, _orElse_, noRefusal, memoryTooShort}
 use Rattle.model.specs.Settings.{settingsRefusal}
 use Rattle.model.specs.Messages.{noMessage}
 use Rattle.model.specs.Coordinator.{CoordinatorStep, freshCoordinator, coordinatorReceives, coordinatorRefusal, announced, announcementRefusal}
@@ -29,24 +29,25 @@ abbrev pub startRefusal : Settings → ℕ → ℕ
 startRefusal settings words =
     settingsRefusal settings
     orElse when (ltb words (coordinatorWords settings)) memoryTooShort
-    orElse accepted
+    orElse noRefusal
 
 -- "Started fresh, every number is 0, every threshold 1 and the desk idle"; what lies past the
 -- coordinator's numbers stays.
-pub record Starts (settings : Settings) (before after : List ℕ) (r : StartedCoordinator) : Type 0
-  where
-    pub refusal : r .refusal ≡ startRefusal settings (length before)
-    pub coordinator : r .coordinator ≡ coordinatorRecord (freshCoordinator settings)
-    pub memory :
-        after
-        ≡ (if isZero (startRefusal settings (length before))
-        then coordinatorMemory (freshCoordinator settings) before
-        else before)
+pub record StartCoordinatorSays (settings : Settings) (before after : List ℕ)
+    (r : StartedCoordinator)
+    : Type 0 where
+  pub refusal : r .refusal ≡ startRefusal settings (length before)
+  pub coordinator : r .coordinator ≡ coordinatorRecord (freshCoordinator settings)
+  pub memory :
+      after
+      ≡ (if isZero (startRefusal settings (length before))
+      then coordinatorMemory (freshCoordinator settings) before
+      else before)
 
 -- ---- Answers of a step
 
 -- What a call hands back that answers with a step of the coordinator where it accepts.
-pub record Hands (accepts : Bool) (given : CoordinatorStep) (numbers : CoordinatorRecord)
+pub record ReceivedSays (accepts : Bool) (given : CoordinatorStep) (numbers : CoordinatorRecord)
     (r : Received)
     : Type 0 where
   pub coordinator :
@@ -62,10 +63,10 @@ receiveRefusal settings numbers m memory =
     coordinatorMemoryRefusal settings numbers memory
     orElse coordinatorRefusal settings (coordinatorIn settings numbers memory) m
 
-pub record Receives (settings : Settings) (numbers : CoordinatorRecord) (m : Message)
+pub record CoordinatorReceiveSays (settings : Settings) (numbers : CoordinatorRecord) (m : Message)
     (before after : List ℕ) (r : Received) : Type 0 where
   pub refusal : r .refusal ≡ receiveRefusal settings numbers m before
-  pub answer : Hands (isZero (receiveRefusal settings numbers m before))
+  pub answer : ReceivedSays (isZero (receiveRefusal settings numbers m before))
       (coordinatorReceives settings (coordinatorIn settings numbers before) m) numbers r
   pub memory :
       after
@@ -82,9 +83,9 @@ announceRefusal settings numbers memory =
     coordinatorMemoryRefusal settings numbers memory
     orElse announcementRefusal (coordinatorIn settings numbers memory)
 
-pub record Announces (settings : Settings) (numbers : CoordinatorRecord) (memory : List ℕ)
+pub record AnnounceSays (settings : Settings) (numbers : CoordinatorRecord) (memory : List ℕ)
     (r : Received)
     : Type 0 where
   pub refusal : r .refusal ≡ announceRefusal settings numbers memory
-  pub answer : Hands (isZero (announceRefusal settings numbers memory))
+  pub answer : ReceivedSays (isZero (announceRefusal settings numbers memory))
       (announced settings (coordinatorIn settings numbers memory)) numbers r

@@ -2,6 +2,7 @@
 // for each item (the estimates), then 1024 value counts. The calls of this file test all that they
 // are given (1 to 4 and 11, then the message) and have no `requires`.
 
+ghost use Rattle.model.specs.Lent.{before, after};
 ghost use mathlib.Core.Path.{_≡_};
 ghost use mathlib.Core.Bool.{not};
 ghost use Prim.Native.Nat.{_≤_};
@@ -10,17 +11,17 @@ ghost use Rattle.model.specs.SiteMemory.{overwrite};
 ghost use Rattle.model.specs.Coordinator.{freshCoordinator, isAnnouncing};
 ghost use Rattle.model.specs.CoordinatorMemory.{coordinatorRecord};
 ghost use Rattle.model.specs.declared.Settings.{Settings};
-ghost use Rattle.coordinator.specs.Calls.{startRefusal, receiveRefusal, announceRefusal, Starts, Receives, Announces};
+ghost use Rattle.coordinator.specs.Calls.{startRefusal, receiveRefusal, announceRefusal, StartCoordinatorSays, CoordinatorReceiveSays, AnnounceSays};
+use coordinator_memory::coordinator_memory_refusal;
 use coordinator_refusals::message_refusal;
 use coordinator_steps::announce_step;
 use coordinator_steps::receive_step;
-use coordinator_tests::coordinator_memory_refusal;
 use messages::no_message;
-use model::ACCEPTED;
 use model::CoordinatorRecord;
 use model::MEMORY_TOO_SHORT;
 use model::MESSAGE_NOT_DUE;
 use model::Message;
+use model::NO_REFUSAL;
 use model::Phase;
 use model::Settings;
 use model::VALUE_COUNT;
@@ -58,7 +59,7 @@ fn fresh_record() -> CoordinatorRecord
 // The first numbers of the memory become 0.
 fn clear(memory: &mut [u64], count: usize)
     requires { ⌜ count ≤ length (now memory) ⌝ }
-    ensures { λ r. ⌜ now (memory .exit) ≡ overwrite (replicate count 0) (now (memory .entry)) ⌝ }
+    ensures { λ r. ⌜ after memory ≡ overwrite (replicate count 0) (before memory) ⌝ }
 {
     let mut i = 0;
     while i < count {
@@ -72,22 +73,22 @@ fn start_refusal(settings: Settings, words: usize) -> u32
     ensures { λ r. ⌜ r ≡ startRefusal settings words ⌝ }
 {
     let refusal = test_settings(settings);
-    if refusal != ACCEPTED {
+    if refusal != NO_REFUSAL {
         return refusal;
     }
     if words < (settings.universe as usize) + VALUE_COUNT {
         return MEMORY_TOO_SHORT;
     }
-    ACCEPTED
+    NO_REFUSAL
 }
 
-// Starts a coordinator fresh: its numbers in memory become 0.
+// StartCoordinatorSays a coordinator fresh: its numbers in memory become 0.
 pub fn start_coordinator(settings: Settings, memory: &mut [u64]) -> StartedCoordinator
-    ensures { λ r. ⌜ Starts settings (now (memory .entry)) (now (memory .exit)) r ⌝ }
+    ensures { λ r. ⌜ StartCoordinatorSays settings (before memory) (after memory) r ⌝ }
 {
     let coordinator = fresh_record();
     let refusal = start_refusal(settings, memory.len());
-    if refusal != ACCEPTED {
+    if refusal != NO_REFUSAL {
         return StartedCoordinator {
             refusal: refusal,
             coordinator: coordinator,
@@ -107,10 +108,10 @@ fn receive_refusal(
     message: Message,
     memory: &[u64],
 ) -> u32
-    ensures { λ r. ⌜ r ≡ receiveRefusal settings coordinator message (now (memory .entry)) ⌝ }
+    ensures { λ r. ⌜ r ≡ receiveRefusal settings coordinator message (before memory) ⌝ }
 {
     let refusal = coordinator_memory_refusal(settings, coordinator, memory);
-    if refusal != ACCEPTED {
+    if refusal != NO_REFUSAL {
         return refusal;
     }
     message_refusal(settings, coordinator, message)
@@ -123,11 +124,11 @@ pub fn receive(
     message: Message,
     memory: &mut [u64],
 ) -> Received
-    ensures { λ r. ⌜ Receives settings coordinator message (now (memory .entry))
-        (now (memory .exit)) r ⌝ }
+    ensures { λ r. ⌜ CoordinatorReceiveSays settings coordinator message (before memory)
+        (after memory) r ⌝ }
 {
     let refusal = receive_refusal(settings, coordinator, message, memory);
-    if refusal != ACCEPTED {
+    if refusal != NO_REFUSAL {
         return Received {
             refusal: refusal,
             coordinator: coordinator,
@@ -160,17 +161,17 @@ fn not_announcing(phase: Phase) -> bool
 
 // Why the wish for a kind 7 is refused, or 0.
 fn announce_refusal(settings: Settings, coordinator: CoordinatorRecord, memory: &[u64]) -> u32
-    ensures { λ r. ⌜ r ≡ announceRefusal settings coordinator (now (memory .entry)) ⌝ }
+    ensures { λ r. ⌜ r ≡ announceRefusal settings coordinator (before memory) ⌝ }
 {
     let refusal = coordinator_memory_refusal(settings, coordinator, memory);
-    if refusal != ACCEPTED {
+    if refusal != NO_REFUSAL {
         return refusal;
     }
     let phase = coordinator.phase;
     if not_announcing(phase) {
         return MESSAGE_NOT_DUE;
     }
-    ACCEPTED
+    NO_REFUSAL
 }
 
 // The next kind 7 of a coordinator that is announcing.
@@ -179,10 +180,10 @@ pub fn next_announcement(
     coordinator: CoordinatorRecord,
     memory: &[u64],
 ) -> Received
-    ensures { λ r. ⌜ Announces settings coordinator (now (memory .entry)) r ⌝ }
+    ensures { λ r. ⌜ AnnounceSays settings coordinator (before memory) r ⌝ }
 {
     let refusal = announce_refusal(settings, coordinator, memory);
-    if refusal != ACCEPTED {
+    if refusal != NO_REFUSAL {
         return Received {
             refusal: refusal,
             coordinator: coordinator,

@@ -2,12 +2,12 @@
 -- sum or product leaves 64 bits.
 --
 --   answerOf given                   the model's step as a function hands it back
---   Does given before after r        answer and memory of a step
+--   KindSays given before after r        answer and memory of a step
 --   inPhase, spoken, silent          a record in another phase; an answer with a message, and with
 --      none
 --   stepLimit                        the largest number that a step takes
 --   SettingsFit                      what accepted settings are worth to a step
---   ThresholdAsks, ItemAsks, ValueRoom, CountAsks, PollAsks, HalveAsks, ProbeAsks
+--   ThresholdAsks, ItemReportAsks, ValueRoom, CountReportAsks, PollAsks, HalveAsks, ProbeAsks
 use mathlib.Core.Path.{_≡_}
 use mathlib.Core.List.{List}
 use Prim.Native.Nat.{ℕ, _+_, _*_, _≤_, _<_}
@@ -31,7 +31,7 @@ answerOf given = record {
 }
 
 -- What a step on lent memory gives: the answer, and the memory with the coordinator written to it.
-pub record Does (given : CoordinatorStep) (before after : List ℕ) (r : Answered) : Type 0 where
+pub record KindSays (given : CoordinatorStep) (before after : List ℕ) (r : Answered) : Type 0 where
   pub answer : r ≡ answerOf given
   pub memory : after ≡ coordinatorMemory (given .coordinator) before
 
@@ -70,7 +70,7 @@ pub record ThresholdAsks (settings : Settings) (base : ℕ) : Type 0 where
   pub base-small : base ≤ stepLimit
 
 -- The place of an item's number, and room in it for the amount.
-pub record ItemAsks (settings : Settings) (m : Message) (memory : List ℕ) : Type 0 where
+pub record ItemReportAsks (settings : Settings) (m : Message) (memory : List ℕ) : Type 0 where
   pub memory-long : coordinatorWords settings ≤ length memory
   pub item-known : m .a < settings .universe
   pub number-small : getD memory (m .a) 0 + m .b ≤ stepLimit
@@ -82,7 +82,7 @@ pub record ValueRoom (settings : Settings) (value : ℕ) (memory : List ℕ) : T
   pub count-small : getD memory (settings .universe + value) 0 ≤ stepLimit
 
 -- Room for a value that is counted, for the amount and for one more signal.
-pub record CountAsks (settings : Settings) (numbers : CoordinatorRecord) (m : Message)
+pub record CountReportAsks (settings : Settings) (numbers : CoordinatorRecord) (m : Message)
     (memory : List ℕ)
     : Type 0 where
   pub settings-fit : SettingsFit settings

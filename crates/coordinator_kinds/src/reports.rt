@@ -1,6 +1,7 @@
 // Kinds 1 and 2, at a coordinator that is idle: the reports of an item and of a count. They touch
 // one number of the memory at most. The functions are internal: `receive_step` alone calls them,
 // and what they require follows from what it requires, which the tests of `receive` decide.
+ghost use Rattle.model.specs.Lent.{before, after};
 ghost use mathlib.Core.Path.{_≡_};
 ghost use Prim.Native.Nat.{_+_};
 ghost use lib.Dec.{eqb};
@@ -8,7 +9,7 @@ ghost use Rattle.model.specs.Choice.{if_then_else_};
 ghost use Rattle.model.specs.Site.{oneMoreAt};
 ghost use Rattle.model.specs.Coordinator.{takesItemReport, takesCountReport};
 ghost use Rattle.model.specs.CoordinatorMemory.{coordinatorIn};
-ghost use Rattle.coordinator_kinds.specs.Steps.{ItemAsks, CountAsks, ValueRoom, Does};
+ghost use Rattle.coordinator_kinds.specs.Steps.{ItemReportAsks, CountReportAsks, ValueRoom, KindSays};
 use crate::Answered;
 use crate::answers::keep_silent;
 use crate::answers::speak;
@@ -25,9 +26,9 @@ pub fn take_item_report(
     message: Message,
     memory: &mut [u64],
 ) -> Answered
-    requires { ⌜ ItemAsks settings message (now memory) ⌝ }
-    ensures { λ r. ⌜ Does (takesItemReport (coordinatorIn settings coordinator
-        (now (memory .entry))) message) (now (memory .entry)) (now (memory .exit)) r ⌝ }
+    requires { ⌜ ItemReportAsks settings message (now memory) ⌝ }
+    ensures { λ r. ⌜ KindSays (takesItemReport (coordinatorIn settings coordinator
+        (before memory)) message) (before memory) (after memory) r ⌝ }
 {
     let item = message.a as usize;
     memory[item] = memory[item] + message.b;
@@ -38,8 +39,8 @@ pub fn take_item_report(
 // While the threshold is 1, an arrival's value is counted.
 fn count_value(settings: Settings, threshold: u64, value: u64, memory: &mut [u64])
     requires { ⌜ (threshold ≡ 1 → ValueRoom settings value (now memory)) ⌝ }
-    ensures { λ r. ⌜ now (memory .exit) ≡ (if eqb threshold 1 then oneMoreAt (now (memory .entry))
-        (settings .universe + value) else now (memory .entry)) ⌝ }
+    ensures { λ r. ⌜ after memory ≡ (if eqb threshold 1 then oneMoreAt (before memory)
+        (settings .universe + value) else before memory) ⌝ }
 {
     if threshold == 1 {
         let place = (settings.universe as usize) + (value as usize);
@@ -55,10 +56,10 @@ pub fn take_count_report(
     message: Message,
     memory: &mut [u64],
 ) -> Answered
-    requires { ⌜ CountAsks settings coordinator message (now memory) ⌝ }
-    ensures { λ r. ⌜ Does (takesCountReport settings
-        (coordinatorIn settings coordinator (now (memory .entry))) message) (now (memory .entry))
-        (now (memory .exit)) r ⌝ }
+    requires { ⌜ CountReportAsks settings coordinator message (now memory) ⌝ }
+    ensures { λ r. ⌜ KindSays (takesCountReport settings
+        (coordinatorIn settings coordinator (before memory)) message) (before memory)
+        (after memory) r ⌝ }
 {
     count_value(settings, coordinator.threshold, message.b, memory);
     let mut next = coordinator;

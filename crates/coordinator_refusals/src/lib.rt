@@ -9,13 +9,13 @@ ghost use Rattle.model.specs.declared.Settings.{Settings};
 ghost use Rattle.model.specs.Messages.{isItemReport};
 ghost use Rattle.model.specs.Coordinator.{dueIn, askedValue, namesLargeValue, wrongAtCoordinator, coordinatorDueRefusal, coordinatorRefusal};
 ghost use Rattle.model.specs.CoordinatorMemory.{coordinatorIn};
-use model::ACCEPTED;
 use model::AMOUNT_NOT_DUE;
 use model::COUNT_REPORT;
 use model::CoordinatorRecord;
 use model::ITEM_REPORT;
 use model::MESSAGE_NOT_DUE;
 use model::Message;
+use model::NO_REFUSAL;
 use model::POLL_ANSWER;
 use model::PROBE_ANSWER;
 use model::Phase;
@@ -143,7 +143,7 @@ fn due_refusal(settings: Settings, coordinator: CoordinatorRecord, message: Mess
     if wrong_amount(coordinator, message) {
         return AMOUNT_NOT_DUE;
     }
-    ACCEPTED
+    NO_REFUSAL
 }
 
 // The refusal of a message, or 0: 5; then 9, 6, 7, 10.

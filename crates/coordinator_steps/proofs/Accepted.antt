@@ -15,12 +15,12 @@ use Rattle.laws.proofs.Tests.{both-true, neither-of-or}
 use Rattle.model.specs.declared.Settings.{Settings}
 use Rattle.model.specs.declared.Message.{Message}
 use Rattle.model.specs.declared.Phase.the-variants.{Idle, Collecting, Probing}
-use Rattle.model.specs.Refusals.{accepted, unknownSite, messageNotDue, unknownItem, valueTooLarge, amountNotDue}
+use Rattle.model.specs.Refusals.{noRefusal, unknownSite, messageNotDue, unknownItem, valueTooLarge, amountNotDue}
 use Rattle.model.specs.Choice.{isZero}
 use Rattle.model.specs.Limits.{topValue, siteLimit}
 use Rattle.model.specs.Messages.{isItemReport, isCountReport, isPollAnswer, isProbeAnswer}
 use Rattle.model.specs.Coordinator.{Coordinator, dueIn, askedValue, namesLargeValue, wrongAtCoordinator, coordinatorDueRefusal, coordinatorRefusal}
-use Rattle.model.proofs.RefusalLaws.{passed}
+use Rattle.model.proofs.Thresholds.RefusalLaws.{passed}
 
 -- ---- The rows of the chain
 
@@ -56,7 +56,7 @@ pub record MessageAccepted (settings : Settings) (c : Coordinator) (m : Message)
   pub amount-due : NothingWrong c m
 
 pub message-accepted : (settings : Settings) (c : Coordinator) (m : Message)
-    → coordinatorRefusal settings c m ≡ accepted
+    → coordinatorRefusal settings c m ≡ noRefusal
     → MessageAccepted settings c m
 message-accepted settings c m none =
     let site-row = passed (leb (settings .sites) (m .site)) unknownSite

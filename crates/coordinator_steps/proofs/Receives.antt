@@ -14,7 +14,7 @@ use Rattle.model.specs.declared.CoordinatorRecord.{CoordinatorRecord}
 use Rattle.model.specs.Coordinator.{Coordinator, CoordinatorStep, step, coordinatorReceives, takesItemReport, takesCountReport, takesPollAnswer, takesProbeAnswer}
 use Rattle.model.specs.CoordinatorMemory.{coordinatorIn, coordinatorWords}
 use Rattle.coordinator_kinds.specs.declared.Answered.{Answered}
-use Rattle.coordinator_kinds.specs.Steps.{answerOf, Does}
+use Rattle.coordinator_kinds.specs.Steps.{answerOf, KindSays}
 use Rattle.coordinator_kinds.proofs.MemoryLaws.{memory-kept}
 use Rattle.coordinator_steps.proofs.StepLaws.{poll-kept, probe-kept, memory-of-kept}
 
@@ -25,30 +25,30 @@ module _ (settings : Settings) (numbers : CoordinatorRecord) (m : Message) (befo
   -- What holds of a step that the message is, holds of what the coordinator does on receiving it.
   does-as : {given : CoordinatorStep} {after : List ℕ} {r : Answered}
       → coordinatorReceives settings here m ≡ given
-      → Does given before after r
-      → Does (coordinatorReceives settings here m) before after r
+      → KindSays given before after r
+      → KindSays (coordinatorReceives settings here m) before after r
   does-as {given} {after} {r} same does =
-      subst (λ (x : CoordinatorStep). Does x before after r) (sym same) does
+      subst (λ (x : CoordinatorStep). KindSays x before after r) (sym same) does
 
   pub does-item : {after : List ℕ} {r : Answered}
       → numbers .phase ≡ Idle
       → m .kind ≡ 1
-      → Does (takesItemReport here m) before after r
-      → Does (coordinatorReceives settings here m) before after r
+      → KindSays (takesItemReport here m) before after r
+      → KindSays (coordinatorReceives settings here m) before after r
   does-item idle is does = does-as (rw (idle, is)) does
 
   pub does-count : {after : List ℕ} {r : Answered}
       → numbers .phase ≡ Idle
       → (m .kind ≡ 1 → ⊥)
-      → Does (takesCountReport settings here m) before after r
-      → Does (coordinatorReceives settings here m) before after r
+      → KindSays (takesCountReport settings here m) before after r
+      → KindSays (coordinatorReceives settings here m) before after r
   does-count idle other does = does-as (rw (idle, ne-eqb (m .kind) 1 other)) does
 
   module _ (long : coordinatorWords settings ≤ length before) {r : Answered} where
     pub does-poll : (site : ℕ)
         → numbers .phase ≡ Collecting site
         → r ≡ answerOf (takesPollAnswer settings here site m)
-        → Does (coordinatorReceives settings here m) before before r
+        → KindSays (coordinatorReceives settings here m) before before r
     does-poll site collecting answers =
         does-as {given = takesPollAnswer settings here site m} (rw collecting)
         (record {
@@ -59,7 +59,7 @@ module _ (settings : Settings) (numbers : CoordinatorRecord) (m : Message) (befo
     pub does-probe : (site low high total : ℕ)
         → numbers .phase ≡ Probing site low high total
         → r ≡ answerOf (takesProbeAnswer settings here site low high total m)
-        → Does (coordinatorReceives settings here m) before before r
+        → KindSays (coordinatorReceives settings here m) before before r
     does-probe site low high total probing answers =
         does-as {given = takesProbeAnswer settings here site low high total m} (rw probing)
         (record {
@@ -71,7 +71,7 @@ module _ (settings : Settings) (numbers : CoordinatorRecord) (m : Message) (befo
     pub does-nothing : (site : ℕ)
         → numbers .phase ≡ Announcing site
         → r ≡ answerOf (step here [])
-        → Does (coordinatorReceives settings here m) before before r
+        → KindSays (coordinatorReceives settings here m) before before r
     does-nothing site announcing answers =
         does-as {given = step here []} (rw announcing)
         (record { answer = answers; memory = memory-kept settings numbers before long })

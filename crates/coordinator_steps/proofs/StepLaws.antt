@@ -17,22 +17,22 @@ use Rattle.model.specs.declared.Settings.{Settings}
 use Rattle.model.specs.declared.Message.{Message}
 use Rattle.model.specs.declared.Phase.the-variants.{Idle, Collecting, Probing}
 use Rattle.model.specs.declared.CoordinatorRecord.{CoordinatorRecord}
-use Rattle.model.specs.Refusals.{accepted}
+use Rattle.model.specs.Refusals.{noRefusal}
 use Rattle.model.specs.Limits.{valueCount, siteLimit}
 use Rattle.model.specs.Settings.{settingsRefusal, thresholdOf}
 use Rattle.model.specs.Coordinator.{Coordinator, enough, closed, narrowed, halved, takesPollAnswer, takesProbeAnswer, middle}
 use Rattle.model.specs.CoordinatorMemory.{coordinatorIn, coordinatorMemory, coordinatorWords}
 use Rattle.model.specs.SoundNetwork.{SoundPhase}
-use Rattle.model.proofs.SettingsLaws.{settled}
-use Rattle.model.proofs.ReportLaws.{value-counted}
-use Rattle.coordinator_kinds.specs.Steps.{SettingsFit, ItemAsks, ValueRoom, CountAsks, PollAsks, ProbeAsks}
+use Rattle.model.proofs.Thresholds.SettingsLaws.{settled}
+use Rattle.model.proofs.BetweenArrivals.ReportLaws.{value-counted}
+use Rattle.coordinator_kinds.specs.Steps.{SettingsFit, ItemReportAsks, ValueRoom, CountReportAsks, PollAsks, ProbeAsks}
 use Rattle.coordinator_steps.specs.Ready.{StepAsks, readyLimit}
 use Rattle.coordinator_steps.proofs.Accepted.{MessageAccepted, message-accepted, count-report-of-idle, kind-of-collecting, kind-of-probing, item-known-of-report, item-amount-of-report, count-amount-of-report, value-of-report, amount-of-poll-answer, amount-of-probe-answer}
 use Rattle.coordinator_kinds.proofs.MemoryLaws.{memory-kept}
 
 -- ---- Settings and threshold
 
-pub settings-fit : (settings : Settings) → settingsRefusal settings ≡ accepted → SettingsFit
+pub settings-fit : (settings : Settings) → settingsRefusal settings ≡ noRefusal → SettingsFit
     settings
 settings-fit settings none =
     let facts = settled settings none in
@@ -79,7 +79,7 @@ module _ (settings : Settings) (numbers : CoordinatorRecord) (m : Message) (memo
         threshold-small settings (numbers .base) fit,
       )
 
-  pub item-asks : m .kind ≡ 1 → ItemAsks settings m memory
+  pub item-asks : m .kind ≡ 1 → ItemReportAsks settings m memory
   item-asks is =
       let known : m .a < settings .universe = item-known-of-report settings here m taken is in
       let number : getD memory (m .a) 0 ≤ readyLimit =
@@ -104,7 +104,8 @@ module _ (settings : Settings) (numbers : CoordinatorRecord) (m : Message) (memo
       (asks .ready .within .histogram-within (m .b)) in
       record { value-known = known; memory-long = asks .memory-long; count-small = omega arith }
 
-  pub count-asks : numbers .phase ≡ Idle → (m .kind ≡ 1 → ⊥) → CountAsks settings numbers m memory
+  pub count-asks : numbers .phase ≡ Idle → (m .kind ≡ 1 → ⊥)
+      → CountReportAsks settings numbers m memory
   count-asks idle other =
       let is : m .kind ≡ 2 = count-report-of-idle settings here m taken idle other in
       let amount : m .a ≡ numbers .threshold = count-amount-of-report settings here m taken is in

@@ -12,7 +12,7 @@ use lib.ListN.{length, getD}
 use Rattle.model.specs.declared.Settings.{Settings}
 use Rattle.model.specs.declared.Message.{Message}
 use Rattle.model.specs.declared.CoordinatorRecord.{CoordinatorRecord}
-use Rattle.model.specs.Refusals.{accepted}
+use Rattle.model.specs.Refusals.{noRefusal}
 use Rattle.model.specs.Limits.{coordinatorLimit}
 use Rattle.model.specs.Settings.{settingsRefusal}
 use Rattle.model.specs.Coordinator.{Coordinator, coordinatorRefusal}
@@ -44,13 +44,13 @@ pub record CoordinatorReady (settings : Settings) (c : Coordinator) : Type 0 whe
 pub record StepAsks (settings : Settings) (numbers : CoordinatorRecord) (m : Message)
     (memory : List ℕ)
     : Type 0 where
-  pub settings-accepted : settingsRefusal settings ≡ accepted
+  pub settings-accepted : settingsRefusal settings ≡ noRefusal
   pub memory-long : coordinatorWords settings ≤ length memory
   pub ready : CoordinatorReady settings (coordinatorIn settings numbers memory)
   pub message-accepted :
-      coordinatorRefusal settings (coordinatorIn settings numbers memory) m ≡ accepted
+      coordinatorRefusal settings (coordinatorIn settings numbers memory) m ≡ noRefusal
 
 -- What the step for an announcement asks: no more than settings and phase.
 pub record AnnounceAsks (settings : Settings) (numbers : CoordinatorRecord) : Type 0 where
-  pub settings-accepted : settingsRefusal settings ≡ accepted
+  pub settings-accepted : settingsRefusal settings ≡ noRefusal
   pub phase-sound : SoundPhase settings (numbers .signals) (numbers .phase)

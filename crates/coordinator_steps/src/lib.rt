@@ -1,12 +1,13 @@
 // The steps of a coordinator, without tests: what a message that was accepted does to its record
 // and memory. They are internal: the calls of crate `coordinator` and the batch call, which have
 // tested settings, memory and message, call them.
+ghost use Rattle.model.specs.Lent.{before, after};
 ghost use mathlib.Core.Path.{_≡_};
 ghost use mathlib.Core.List.{List};
 ghost use Prim.Native.Nat.{ℕ};
 ghost use Rattle.model.specs.Coordinator.{coordinatorReceives, announced};
 ghost use Rattle.model.specs.CoordinatorMemory.{coordinatorIn};
-ghost use Rattle.coordinator_kinds.specs.Steps.{Does, answerOf};
+ghost use Rattle.coordinator_kinds.specs.Steps.{KindSays, answerOf};
 ghost use Rattle.coordinator_steps.specs.Ready.{StepAsks, AnnounceAsks};
 use coordinator_kinds::Answered;
 use coordinator_kinds::answers::keep_silent;
@@ -57,9 +58,9 @@ pub fn receive_step(
     memory: &mut [u64],
 ) -> Answered
     requires { ⌜ StepAsks settings coordinator message (now memory) ⌝ }
-    ensures { λ r. ⌜ Does (coordinatorReceives settings
-        (coordinatorIn settings coordinator (now (memory .entry))) message) (now (memory .entry))
-        (now (memory .exit)) r ⌝ }
+    ensures { λ r. ⌜ KindSays (coordinatorReceives settings
+        (coordinatorIn settings coordinator (before memory)) message) (before memory)
+        (after memory) r ⌝ }
 {
     let phase = coordinator.phase;
     match phase {

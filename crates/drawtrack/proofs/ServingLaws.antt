@@ -9,15 +9,15 @@ use mathlib.Core.List.{List, [], _++_}
 use Prim.Native.Nat.{ℕ, suc, _+_, _≤_}
 use native.Mathlib.Omega.{arith}
 use lib.ListN.{take}
-use Rattle.session_steps.specs.declared.Session.{Session}
-use Rattle.session_steps.specs.declared.Moved.{Moved}
-use Rattle.session_steps.specs.Outcome.{Buffers, buffers}
-use Rattle.session.specs.Limits.{inputRoom}
-use Rattle.session.specs.Begin.{BeginSays}
-use Rattle.session.specs.Advance.{AdvanceSays}
-use Rattle.session.specs.Course.{Course, begun, advanced}
-use Rattle.session.proofs.Theorem.{session-claims}
-use Rattle.drawtrack.specs.Serving.{Lends, Situation, situation, begunWith, withoutLists, afterBegin, situationOf, afterCall, afterCalls, Serving, ServeSays}
+use Rattle.drawtrack_steps.specs.declared.Session.{Session}
+use Rattle.drawtrack_steps.specs.declared.Moved.{Moved}
+use Rattle.drawtrack_steps.specs.Outcome.{Buffers, buffers}
+use Rattle.drawtrack_session.specs.Limits.{inputRoom}
+use Rattle.drawtrack_session.specs.Begin.{BeginSays}
+use Rattle.drawtrack_session.specs.Advance.{AdvanceSays}
+use Rattle.drawtrack_session.specs.Course.{Course, begun, advanced}
+use Rattle.drawtrack_session.proofs.Theorem.{session-claims}
+use Rattle.drawtrack.specs.Serving.{ServeAsks, Situation, situation, begunWith, withoutLists, afterBegin, situationOf, afterCall, afterCalls, Serving, ServeSays}
 
 -- ---- The first call, and the promise
 
@@ -30,7 +30,7 @@ module _ (input : List ℕ) (given : Buffers) (siteMemory coordinatorMemory out 
       situation (answer .session)
       (buffers siteMemory coordinatorMemory (given .log) (given .list) out)
 
-  pub serving-begins : Lends input given → Serving input first first 0
+  pub serving-begins : ServeAsks input given → Serving input first first 0
   serving-begins lends = record {
     lends = record {
       input-few = lends .input-few;

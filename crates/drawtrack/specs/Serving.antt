@@ -1,7 +1,7 @@
 -- The program's loop over the calls of a session: what it is lent, where it stands, and what comes
 -- of it.
 --
---   Lends ..                       the input and the memory that the program lends
+--   ServeAsks ..                       the input and the memory that the program lends
 --   Situation                      a session, and what the calls so far left in lent memory
 --   afterBegin input given         after `begin`
 --   afterCalls input first n       after n calls of `advance` more; 0: `first` itself
@@ -13,17 +13,17 @@ use mathlib.Core.List.{List, []}
 use Prim.Native.Nat.{ℕ, zero, suc, _≤_}
 use lib.ListN.{length, take}
 use Rattle.model.specs.Transcript.{transcript}
-use Rattle.reader.specs.Walk.{stepAt}
-use Rattle.session_steps.specs.declared.Session.{Session}
-use Rattle.session_steps.specs.Outcome.{Buffers, buffers, Outcome, SameLengths}
-use Rattle.session.specs.Limits.{siteRoom, coordinatorRoom, logRoom, listRoom, outRoom, inputRoom}
-use Rattle.session.specs.Begin.{beginOf}
-use Rattle.session.specs.Advance.{lineOf}
-use Rattle.session.specs.Course.{Course}
+use Rattle.worklist_reader.specs.Walk.{stepAt}
+use Rattle.drawtrack_steps.specs.declared.Session.{Session}
+use Rattle.drawtrack_steps.specs.Outcome.{Buffers, buffers, Outcome, SameLengths}
+use Rattle.drawtrack_session.specs.Limits.{siteRoom, coordinatorRoom, logRoom, listRoom, outRoom, inputRoom}
+use Rattle.drawtrack_session.specs.Begin.{beginOf}
+use Rattle.drawtrack_session.specs.Advance.{lineOf}
+use Rattle.drawtrack_session.specs.Course.{Course}
 
 -- "Its memory serves k up to 4, c up to 100, u up to 1000 and a worklist up to 8192 bytes": of the
 -- input no more bytes than matter; log, list and output for the longest answer.
-pub record Lends (input : List ℕ) (given : Buffers) : Type 0 where
+pub record ServeAsks (input : List ℕ) (given : Buffers) : Type 0 where
   pub input-few : length input ≤ inputRoom
   pub site-memory : siteRoom ≤ length (given .siteMemory)
   pub coordinator-memory : coordinatorRoom ≤ length (given .coordinatorMemory)
@@ -71,7 +71,7 @@ afterCalls input first (suc n) = afterCall input (afterCalls input first n)
 -- The calls so far, each on the memory that the one before left; the slices are as long as they
 -- were.
 pub record Serving (input : List ℕ) (first now : Situation) (turns : ℕ) : Type 0 where
-  pub lends : Lends input (first .left)
+  pub lends : ServeAsks input (first .left)
   pub lengths : SameLengths (first .left) (now .left)
   pub bytes : List ℕ
   pub course : Course input turns (now .session) (now .left .siteMemory)

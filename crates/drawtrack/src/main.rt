@@ -1,18 +1,19 @@
 // The program `drawtrack`: a line of settings and a worklist on standard input; the messages of
 // each draw, and then the results or the line of a refusal, on standard output. Thin over crate
-// `session`: it lends the memory, reads once, and writes what each call wrote.
+// `drawtrack_session`: it lends the memory, reads once, and writes what each call wrote.
 
-ghost use Rattle.session_steps.specs.Outcome.{buffers};
-ghost use Rattle.drawtrack.specs.Serving.{Lends, ServeSays};
+ghost use Rattle.model.specs.Lent.{before, after};
+ghost use Rattle.drawtrack_steps.specs.Outcome.{buffers};
+ghost use Rattle.drawtrack.specs.Serving.{ServeAsks, ServeSays};
+use drawtrack_session::SESSION_COORDINATOR_NUMBERS;
+use drawtrack_session::SESSION_INPUT_BYTES;
+use drawtrack_session::SESSION_LIST_PLACES;
+use drawtrack_session::SESSION_LOG_NUMBERS;
+use drawtrack_session::SESSION_OUT_BYTES;
+use drawtrack_session::SESSION_SITE_NUMBERS;
 use libc::STDIN_FILENO;
 use libc::STDOUT_FILENO;
 use model::Word;
-use session::SESSION_COORDINATOR_NUMBERS;
-use session::SESSION_INPUT_BYTES;
-use session::SESSION_LIST_PLACES;
-use session::SESSION_LOG_NUMBERS;
-use session::SESSION_OUT_BYTES;
-use session::SESSION_SITE_NUMBERS;
 
 // Writes the bytes that a call wrote. That they reach the descriptor no contract says: the one of
 // the C function that writes speaks of how many bytes it took, so a program whose writes were lost
@@ -35,20 +36,21 @@ fn serve(
     list: &mut [u32],
     out: &mut [u8],
 ) -> bool
-    requires { ⌜ Lends (now input) (buffers (now «site_memory») (now «coordinator_memory») (now log)
+    requires { ⌜ ServeAsks (now input) (buffers (now «site_memory») (now «coordinator_memory»)
+        (now log)
         (now list) (now out)) ⌝ }
-    ensures { λ r. ⌜ ServeSays (now (input .entry))
-        (buffers (now («site_memory» .entry)) (now («coordinator_memory» .entry)) (now (log .entry))
-        (now (list .entry)) (now (out .entry))) (buffers (now («site_memory» .exit))
-        (now («coordinator_memory» .exit)) (now (log .exit)) (now (list .exit)) (now (out .exit)))
+    ensures { λ r. ⌜ ServeSays (before input)
+        (buffers (before «site_memory») (before «coordinator_memory») (before log)
+        (before list) (before out)) (buffers (after «site_memory»)
+        (after «coordinator_memory») (after log) (after list) (after out))
         r ⌝ }
 {
-    let first = session::begin(input, site_memory, coordinator_memory, out);
+    let first = drawtrack_session::begin(input, site_memory, coordinator_memory, out);
     write_out(first.written, out);
     let mut session = first.session;
     let mut turns: usize = 0;
     while session.going && turns < SESSION_INPUT_BYTES {
-        let moved = session::advance(
+        let moved = drawtrack_session::advance(
             session,
             input,
             site_memory,

@@ -14,7 +14,7 @@ use lib.ListN.{length}
 use borrow.Author.Tests.{le-ltb}
 use Rattle.model.specs.declared.Settings.{Settings}
 use Rattle.model.specs.declared.Arrival.{Arrival}
-use Rattle.model.specs.Refusals.{when, _orElse_, accepted, unknownItem, listTooShort}
+use Rattle.model.specs.Refusals.{when, _orElse_, noRefusal, unknownItem, listTooShort}
 use Rattle.model.specs.Limits.{messageLimit}
 use Rattle.model.specs.Settings.{settingsRefusal}
 use Rattle.model.specs.Coordinator.{Coordinator, isAnnouncing, coordinatorRefusal, announcementRefusal}
@@ -24,8 +24,8 @@ use Rattle.model.specs.NetworkMemory.{sitesWords}
 use Rattle.model.specs.Reading.{heavyHitters}
 use Rattle.model.specs.Runs.{batchOf}
 use Rattle.model.specs.SoundNetwork.{Sound}
-use Rattle.model.proofs.ConsistentCoordinator.{CoordinatorWithin}
-use Rattle.model.proofs.ConsistentNetwork.{network-consistent-of}
+use Rattle.model.proofs.Soundness.ConsistentCoordinator.{CoordinatorWithin}
+use Rattle.model.proofs.Soundness.ConsistentNetwork.{network-consistent-of}
 use Rattle.tracker.specs.Batch.{BatchHeld, BatchSays, logRoom}
 use Rattle.history.specs.State.{Held, heldBy, State, AtRest, networkOf, heldRefusal, partOf, coordinatorPart, fronts, lending}
 use Rattle.history.specs.Histories.{batchCall}
@@ -38,7 +38,7 @@ use Rattle.history.proofs.SoundMemory as Parts
 use Rattle.history.proofs.NetworkFronts.{network-front}
 use Rattle.history.proofs.Invariant.{StateOk, Resting, SoundHeld, sound-of-standing, rest-of-standing}
 
-module _ {settings : Settings} (passes : settingsRefusal settings ≡ accepted)
+module _ {settings : Settings} (passes : settingsRefusal settings ≡ noRefusal)
     {n : ℕ} {state : State}
     (ok : StateOk settings n state) where
   -- Sites and coordinator are sound, at rest and in mid-delivery.
@@ -64,7 +64,7 @@ module _ {settings : Settings} (passes : settingsRefusal settings ≡ accepted)
   -- The coordinator's own record and memory.
   pub coordinator-accepted :
       coordinatorMemoryRefusal settings (state .held .coordinator) (state .held .coordinatorMemory)
-      ≡ accepted
+      ≡ noRefusal
   coordinator-accepted = Parts.coordinator-accepted passes (state .held) (ok .lengths) held-sound
 
   -- The messages counted are among those of the run.
@@ -89,7 +89,7 @@ module _ {settings : Settings} (passes : settingsRefusal settings ≡ accepted)
       → networkOf settings (memories siteMemory coordinatorMemory)
       ≡ networkOf settings (state .held)
       → AtRest state
-      → heldRefusal settings (memories siteMemory coordinatorMemory) ≡ accepted
+      → heldRefusal settings (memories siteMemory coordinatorMemory) ≡ noRefusal
   network-accepted-in siteMemory coordinatorMemory sites-long coordinator-long same at-rest =
       let sound = subst (Sound settings) (sym same) (sound-rest-of at-rest .sound) in
       let within = subst (λ (network : Network). CoordinatorWithin (network .coordinator))
@@ -104,7 +104,7 @@ module _ {settings : Settings} (passes : settingsRefusal settings ≡ accepted)
 
   -- All of both memories.
   pub network-accepted : AtRest state
-      → heldRefusal settings (state .held) ≡ accepted
+      → heldRefusal settings (state .held) ≡ noRefusal
   network-accepted =
       network-accepted-in (state .held .siteMemory) (state .held .coordinatorMemory)
       (ok .lengths .sites-long) (ok .lengths .coordinator-long) refl
@@ -126,7 +126,7 @@ module _ {settings : Settings} (passes : settingsRefusal settings ≡ accepted)
       (coordinatorMemoryRefusal settings (state .held .coordinator)
       (coordinatorPart (state .held) 0 words))
       (coordinatorIn settings (state .held .coordinator) (coordinatorPart (state .held) 0 words))
-      ≡ of accepted (networkOf settings (state .held) .coordinator)
+      ≡ of noRefusal (networkOf settings (state .held) .coordinator)
   coordinator-front = Parts.coordinator-front passes (state .held) (ok .lengths) held-sound
 
   network-accepted-front : (siteCount coordinatorCount : ℕ)
@@ -134,7 +134,7 @@ module _ {settings : Settings} (passes : settingsRefusal settings ≡ accepted)
       → coordinatorWords settings ≤ coordinatorCount
       → AtRest state
       → heldRefusal settings (lending (state .held) (fronts siteCount coordinatorCount))
-      ≡ accepted
+      ≡ noRefusal
   network-accepted-front siteCount coordinatorCount sites-enough enough =
       let sites-long = front-long (sitesWords settings) siteCount (state .held .siteMemory)
       sites-enough (ok .lengths .sites-long) in
@@ -207,13 +207,13 @@ module _ {settings : Settings} (passes : settingsRefusal settings ≡ accepted)
         (λ (refusal : ℕ) (c : Coordinator).
         refusal
         orElse when (ltb places (length (heavyHitters settings c))) listTooShort
-        orElse accepted)
+        orElse noRefusal)
         enough
         ∙ or-accepted _;
     margin = λ words item enough.
         coordinator-front words
         (λ (refusal : ℕ) (c : Coordinator).
-        refusal orElse when (leb (settings .universe) item) unknownItem orElse accepted)
+        refusal orElse when (leb (settings .universe) item) unknownItem orElse noRefusal)
         enough
         ∙ or-accepted _;
     batch = batch-front-by-rules;

@@ -13,26 +13,26 @@ use borrow.Author.Tests.{eq-eqb, ne-eqb}
 use Rattle.model.specs.declared.Settings.{Settings}
 use Rattle.model.specs.declared.SiteRecord.{SiteRecord}
 use Rattle.model.specs.Choice.{if_then_else_, isZero}
-use Rattle.model.specs.Refusals.{accepted, _orElse_}
+use Rattle.model.specs.Refusals.{noRefusal, _orElse_}
 use Rattle.model.specs.SiteMemory.{siteWords, siteMemoryRefusal}
-use Rattle.model.proofs.TestedMemory.{site-tested}
+use Rattle.model.proofs.Thresholds.TestedMemory.{site-tested}
 
 -- ---- Choices
 
 -- An accepted call hands back what it did.
 pub accepted-choice : {A : Type 0} (refusal : ℕ) (chosen other : A)
-    → refusal ≡ accepted
+    → refusal ≡ noRefusal
     → (if isZero refusal then chosen else other) ≡ chosen
 accepted-choice refusal chosen other none = rw (eq-eqb refusal 0 none)
 
 -- A refused call hands back what it was given.
 pub refused-choice : {A : Type 0} (refusal : ℕ) (chosen other : A)
-    → (refusal ≡ accepted → ⊥)
+    → (refusal ≡ noRefusal → ⊥)
     → (if isZero refusal then chosen else other) ≡ other
 refused-choice refusal chosen other refused = rw (ne-eqb refusal 0 refused)
 
 -- A chain ends with `accepted`, which adds no refusal.
-pub or-accepted : (refusal : ℕ) → (refusal orElse accepted) ≡ refusal
+pub or-accepted : (refusal : ℕ) → (refusal orElse noRefusal) ≡ refusal
 or-accepted zero = refl
 or-accepted (suc refusal) = refl
 
@@ -40,7 +40,7 @@ or-accepted (suc refusal) = refl
 
 -- Neither 4 nor 11: so at least the numbers of one site.
 pub accepted-long : (settings : Settings) (numbers : SiteRecord) (memory : List ℕ)
-    → siteMemoryRefusal settings numbers memory ≡ accepted
+    → siteMemoryRefusal settings numbers memory ≡ noRefusal
     → siteWords settings ≤ length memory
 accepted-long settings numbers memory none =
     site-tested settings numbers memory none .memory-long

@@ -7,7 +7,7 @@
 use mathlib.Core.Path.{_≡_, sym, subst}
 use Prim.Native.Nat.{ℕ, suc}
 use Rattle.model.specs.declared.Settings.{Settings}
-use Rattle.model.specs.Refusals.{accepted}
+use Rattle.model.specs.Refusals.{noRefusal}
 use Rattle.model.specs.Settings.{settingsRefusal}
 use Rattle.history.specs.State.{Held, State, withPart}
 use Rattle.history.specs.Histories.{batch, single, Step, arrives, delivers, refuses, startState, Reachable, started, stepped, heldAtStart}
@@ -28,7 +28,7 @@ pub record Arisen (settings : Settings) (state : State) : Type 0 where
   pub steps : ℕ
   pub ok : StateOk settings steps state
 
-module _ {settings : Settings} (passes : settingsRefusal settings ≡ accepted) where
+module _ {settings : Settings} (passes : settingsRefusal settings ≡ noRefusal) where
   arisen-step : (before after : State)
       → Arisen settings before
       → Step settings before after
@@ -78,7 +78,8 @@ pub record KeptFrom (settings : Settings) (start held : Held) : Type 0 where
   pub fresh : StartedFresh settings start
   pub from : FromStart settings start held
 
-pub kept-from : {settings : Settings} (passes : settingsRefusal settings ≡ accepted) (state : State)
+pub kept-from : {settings : Settings} (passes : settingsRefusal settings ≡ noRefusal)
+    (state : State)
     (reachable : Reachable settings state)
     → KeptFrom settings (heldAtStart reachable) (state .held)
 kept-from {settings} passes state

@@ -15,10 +15,10 @@ use Rattle.model.specs.declared.Settings.{Settings}
 use Rattle.model.specs.declared.Arrival.{Arrival}
 use Rattle.model.specs.declared.Message.{Message}
 use Rattle.model.specs.Choice.{isZero}
-use Rattle.model.specs.Refusals.{accepted}
+use Rattle.model.specs.Refusals.{noRefusal}
 use Rattle.model.specs.Network.{Network, afterArrival}
 use Rattle.model.specs.Runs.{Run, withArrival, refusalIn, runOne, runFrom, Batch, batchRefusal, batchFrom, batchOf}
-use Rattle.model.proofs.RefusalLaws.{both-accepted}
+use Rattle.model.proofs.Thresholds.RefusalLaws.{both-accepted}
 
 -- What a batch that goes on adds to a batch, and to the run that it goes on from.
 pub record GoesOn (settings : Settings) (run : Run) (arrivals : List Arrival) (batch after : Batch)
@@ -59,13 +59,13 @@ module _ (settings : Settings) (room : ℕ) where
     network = afterArrival settings (batch .network) arrival .network;
     accepted = batch .accepted + 1;
     messages = batch .messages ++ afterArrival settings (batch .network) arrival .messages;
-    refusal = accepted;
+    refusal = noRefusal;
   }
 
   -- One arrival accepted, and what the rest of the batch then adds.
   accepts-one : (run : Run) (arrival : Arrival) (arrivals : List Arrival) (batch after : Batch)
       → batch .network ≡ run .network
-      → refusalIn settings (run .network) arrival ≡ accepted
+      → refusalIn settings (run .network) arrival ≡ noRefusal
       → GoesOn settings (withArrival settings run arrival) arrivals (nextBatch batch arrival) after
       → GoesOn settings run (arrival ∷ arrivals) batch after
   accepts-one run arrival arrivals batch after same none later =
@@ -113,7 +113,7 @@ module _ (settings : Settings) (room : ℕ) where
           → GoesOn settings run (arrival ∷ arrivals) batch
           (batchFrom settings room batch (arrival ∷ arrivals))
       by-refusal true none later =
-          let taken : refusalIn settings (run .network) arrival ≡ accepted =
+          let taken : refusalIn settings (run .network) arrival ≡ noRefusal =
           ap (λ (network : Network). refusalIn settings network arrival) (sym same)
           ∙ both-accepted _ _ (eqb-true refusal 0 none) .first-accepted in
           rw (none, batchFrom)

@@ -16,20 +16,20 @@ use borrow.Author.Tests.{eqb-true, eqb-false, eq-eqb, ne-eqb}
 use Rattle.model.specs.declared.Settings.{Settings}
 use Rattle.model.specs.declared.Arrival.{Arrival}
 use Rattle.model.specs.Choice.{isZero}
-use Rattle.model.specs.Refusals.{when, _orElse_, accepted, logTooShort, memoryTooShort, memoryInconsistent}
+use Rattle.model.specs.Refusals.{when, _orElse_, noRefusal, logTooShort, memoryTooShort, memoryInconsistent}
 use Rattle.model.specs.Limits.{mostMessages}
 use Rattle.model.specs.Settings.{settingsRefusal}
 use Rattle.model.specs.Network.{Network, afterArrival}
 use Rattle.model.specs.NetworkMemory.{networkTooShort, networkConsistent}
 use Rattle.model.specs.Runs.{Run, withArrival, refusalIn, runOne, runFrom, Batch, batchRefusal, batchFrom, batchOf}
-use Rattle.model.proofs.RefusalLaws.{both-accepted}
+use Rattle.model.proofs.Thresholds.RefusalLaws.{both-accepted}
 use Rattle.tracker.specs.Batch.{BatchCall, startRefusal}
 use Rattle.history.specs.Given.{ofArrival}
 use Rattle.history.proofs.BatchRuns.{nextBatch}
 
 -- A refusal of a batch that is of its arrival is the rules' own.
 rules-refuse : (own : ℕ) (short : Bool)
-    → ofArrival (own orElse when short logTooShort orElse accepted) ≡ true
+    → ofArrival (own orElse when short logTooShort orElse noRefusal) ≡ true
     → isZero own ≡ false
 rules-refuse zero true of = absurd (false≢true of)
 rules-refuse zero false of = absurd (false≢true of)
@@ -44,7 +44,7 @@ module _ (settings : Settings) (room : ℕ) where
     pub no-trace : ofArrival (after .refusal) ≡ true
         → runFrom settings run (take (suc taken) arrivals)
         ≡ runFrom settings run (take taken arrivals)
-    pub all-taken : after .refusal ≡ accepted
+    pub all-taken : after .refusal ≡ noRefusal
         → taken ≡ length arrivals
 
   -- By recursion on the arrivals: each is accepted, or stops the batch.
@@ -72,7 +72,7 @@ module _ (settings : Settings) (room : ℕ) where
           → StopsAt run (arrival ∷ arrivals) batch
           (batchFrom settings room batch (arrival ∷ arrivals))
       by-refusal true none later =
-          let own : refusalIn settings (run .network) arrival ≡ accepted =
+          let own : refusalIn settings (run .network) arrival ≡ noRefusal =
           ap (λ (network : Network). refusalIn settings network arrival) (sym same)
           ∙ both-accepted _ _ (eqb-true refusal 0 none) .first-accepted in
           let one : runOne settings run arrival ≡ withArrival settings run arrival =
@@ -115,7 +115,7 @@ pub record BatchStops (settings : Settings) (run : Run) (arrivals : List Arrival
   pub no-trace : ofArrival (batch .refusal) ≡ true
       → runFrom settings run (take (suc (batch .accepted)) arrivals)
       ≡ runFrom settings run (take (batch .accepted) arrivals)
-  pub all-accepted : batch .refusal ≡ accepted
+  pub all-accepted : batch .refusal ≡ noRefusal
       → batch .accepted ≡ length arrivals
 
 pub batch-stops : (settings : Settings) (room : ℕ) (arrivals : List Arrival) (run : Run)
@@ -133,8 +133,8 @@ batch-stops settings room arrivals run =
 
 -- 1, 2, 3, 4 and 11; the settings pass, so 4 or 11.
 pub not-of-arrival : (call : BatchCall)
-    → settingsRefusal (call .settings) ≡ accepted
-    → (startRefusal call ≡ accepted → ⊥)
+    → settingsRefusal (call .settings) ≡ noRefusal
+    → (startRefusal call ≡ noRefusal → ⊥)
     → ofArrival (startRefusal call) ≡ false
 not-of-arrival call passes refused =
     by-row
@@ -145,7 +145,7 @@ not-of-arrival call passes refused =
     by-row : (short inconsistent : Bool)
         → startRefusal call
         ≡ (when short memoryTooShort orElse when inconsistent memoryInconsistent
-        orElse accepted)
+        orElse noRefusal)
         → ofArrival (startRefusal call) ≡ false
     by-row true inconsistent is = ap ofArrival is
     by-row false true is = ap ofArrival is

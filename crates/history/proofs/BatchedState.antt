@@ -12,7 +12,7 @@ use borrow.Author.Tests.{eq-eqb}
 use Rattle.model.specs.declared.Settings.{Settings}
 use Rattle.model.specs.declared.Arrival.{Arrival}
 use Rattle.model.specs.declared.Message.{Message}
-use Rattle.model.specs.Refusals.{accepted}
+use Rattle.model.specs.Refusals.{noRefusal}
 use Rattle.model.specs.Settings.{settingsRefusal}
 use Rattle.model.specs.SiteMemory.{siteWords}
 use Rattle.model.specs.CoordinatorMemory.{coordinatorIn, coordinatorRecord, coordinatorMemory}
@@ -20,8 +20,8 @@ use Rattle.model.specs.Network.{Network}
 use Rattle.model.specs.NetworkMemory.{sitesIn, sitesMemory, siteRecords}
 use Rattle.model.specs.Runs.{Run, runFrom, runOf, Batch, batchOf}
 use Rattle.model.specs.SoundNetwork.{Sound}
-use Rattle.model.proofs.SettingsLaws.{Settled, settled}
-use Rattle.model.proofs.RunLaws.{runFrom-append}
+use Rattle.model.proofs.Thresholds.SettingsLaws.{Settled, settled}
+use Rattle.model.proofs.Runs.RunLaws.{runFrom-append}
 use Rattle.site_memory.proofs.SitesMemoryLaws.{AllStorable, all-storable, length-siteRecords, length-sitesMemory}
 use Rattle.site_memory.proofs.SitesReading.{sitesIn-sitesMemory}
 use Rattle.coordinator_kinds.proofs.MemoryLaws.{written-coordinator}
@@ -38,7 +38,7 @@ use Rattle.history.proofs.Accepted.{resting-of, network-accepted}
 
 -- ---- A whole network written
 
-module _ {settings : Settings} (passes : settingsRefusal settings ≡ accepted) (held : Held)
+module _ {settings : Settings} (passes : settingsRefusal settings ≡ noRefusal) (held : Held)
     (lengths : Lengths settings held) (network : Network) (sound : Sound settings network)
     (messages : ℕ) where
   fit : Settled settings
@@ -98,7 +98,7 @@ module _ {settings : Settings} (passes : settingsRefusal settings ≡ accepted) 
 
 -- ---- The model's batch
 
-module _ {settings : Settings} (passes : settingsRefusal settings ≡ accepted)
+module _ {settings : Settings} (passes : settingsRefusal settings ≡ noRefusal)
     {n : ℕ} (before : State)
     (ok : StateOk settings n before) (at-rest : AtRest before)
     (arrivals : List Arrival) (log : List ℕ) where
@@ -112,7 +112,7 @@ module _ {settings : Settings} (passes : settingsRefusal settings ≡ accepted)
   rest = resting-of passes ok at-rest
 
   -- The start refuses no network that arose.
-  pub none : startRefusal call ≡ accepted
+  pub none : startRefusal call ≡ noRefusal
   none = network-accepted passes ok at-rest
 
   -- The batch is a run over what it accepted.

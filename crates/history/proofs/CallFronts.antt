@@ -15,14 +15,14 @@ use Rattle.model.specs.declared.Settings.{Settings}
 use Rattle.model.specs.declared.Message.{Message}
 use Rattle.model.specs.declared.CoordinatorRecord.{CoordinatorRecord}
 use Rattle.model.specs.Choice.{isZero}
-use Rattle.model.specs.Refusals.{when, _orElse_, accepted, memoryTooShort}
+use Rattle.model.specs.Refusals.{when, _orElse_, noRefusal, memoryTooShort}
 use Rattle.model.specs.Limits.{valueCount}
 use Rattle.model.specs.Settings.{settingsRefusal}
 use Rattle.model.specs.Coordinator.{Coordinator, CoordinatorStep, freshCoordinator, coordinatorReceives, coordinatorRefusal, announced, announcementRefusal}
 use Rattle.model.specs.CoordinatorMemory.{coordinatorWords, coordinatorIn, coordinatorMemory, coordinatorMemoryRefusal}
 use Rattle.model.specs.NetworkMemory.{sitesWords}
-use Rattle.model.proofs.RefusalLaws.{both-accepted}
-use Rattle.model.proofs.TestedMemory.{length-tested}
+use Rattle.model.proofs.Thresholds.RefusalLaws.{both-accepted}
+use Rattle.model.proofs.Thresholds.TestedMemory.{length-tested}
 use Rattle.coordinator_kinds.proofs.MemoryLaws.{estimates-long, histogram-long}
 use Rattle.site.specs.declared.StartedSites.{StartedSites}
 use Rattle.site.specs.Calls as SiteCalls
@@ -38,8 +38,8 @@ use Rattle.history.proofs.KeptLengths.{length-received}
 
 -- A start that is accepted had so many numbers.
 started-long : (settings : Settings) (words many : ℕ)
-    → (settingsRefusal settings orElse when (ltb many words) memoryTooShort orElse accepted)
-    ≡ accepted
+    → (settingsRefusal settings orElse when (ltb many words) memoryTooShort orElse noRefusal)
+    ≡ noRefusal
     → words ≤ many
 started-long settings words many none = length-tested settings words many _ none .memory-long
 
@@ -47,23 +47,23 @@ started-long settings words many none = length-tested settings words many _ none
 started-same : (settings : Settings) (words n : ℕ) (memory : List ℕ)
     → words ≤ length (take n memory)
     → (settingsRefusal settings
-    orElse when (ltb (length (take n memory)) words) memoryTooShort orElse accepted)
+    orElse when (ltb (length (take n memory)) words) memoryTooShort orElse noRefusal)
     ≡ (settingsRefusal settings
-    orElse when (ltb (length memory) words) memoryTooShort orElse accepted)
+    orElse when (ltb (length memory) words) memoryTooShort orElse noRefusal)
 started-same settings words n memory long =
     let short : ltb (length (take n memory)) words ≡ ltb (length memory) words =
     le-ltb (length (take n memory)) words long
     ∙ sym (le-ltb (length memory) words (whole-long words n memory long)) in
-    λ i. settingsRefusal settings orElse when (short i) memoryTooShort orElse accepted
+    λ i. settingsRefusal settings orElse when (short i) memoryTooShort orElse noRefusal
 
 module _ (settings : Settings) (n : ℕ) (memory part : List ℕ) (answer : StartedSites)
-    (says : SiteCalls.StartSays settings (take n memory) part answer)
-    (accepts : answer .refusal ≡ accepted) where
+    (says : SiteCalls.StartSitesSays settings (take n memory) part answer)
+    (accepts : answer .refusal ≡ noRefusal) where
   -- The contract of the whole memory lent.
-  pub start-says-whole : SiteCalls.StartSays settings memory (withPart memory 0 n part) answer
+  pub start-says-whole : SiteCalls.StartSitesSays settings memory (withPart memory 0 n part) answer
   start-says-whole =
       let words = sitesWords settings in
-      let none : SiteCalls.startRefusal settings (take n memory) ≡ accepted =
+      let none : SiteCalls.startRefusal settings (take n memory) ≡ noRefusal =
       sym (says .refusal) ∙ accepts in
       let long = started-long settings words (length (take n memory)) none in
       let same : SiteCalls.startRefusal settings (take n memory)
@@ -80,14 +80,15 @@ module _ (settings : Settings) (n : ℕ) (memory part : List ℕ) (answer : Star
       }
 
 module _ (settings : Settings) (n : ℕ) (memory part : List ℕ) (answer : StartedCoordinator)
-    (says : CoordinatorCalls.Starts settings (take n memory) part answer)
-    (accepts : answer .refusal ≡ accepted) where
+    (says : CoordinatorCalls.StartCoordinatorSays settings (take n memory) part answer)
+    (accepts : answer .refusal ≡ noRefusal) where
   -- The contract of the whole memory lent.
-  pub starts-whole : CoordinatorCalls.Starts settings memory (withPart memory 0 n part) answer
+  pub starts-whole : CoordinatorCalls.StartCoordinatorSays settings memory
+      (withPart memory 0 n part) answer
   starts-whole =
       let words = coordinatorWords settings in
       let fresh = freshCoordinator settings in
-      let none : CoordinatorCalls.startRefusal settings (length (take n memory)) ≡ accepted =
+      let none : CoordinatorCalls.startRefusal settings (length (take n memory)) ≡ noRefusal =
       sym (says .refusal) ∙ accepts in
       let long = started-long settings words (length (take n memory)) none in
       let same : CoordinatorCalls.startRefusal settings (length (take n memory))
@@ -117,19 +118,20 @@ hands-same : {one two : ℕ} {given done : CoordinatorStep} {numbers : Coordinat
     {answer : Received}
     → one ≡ two
     → given ≡ done
-    → CoordinatorCalls.Hands (isZero one) given numbers answer
-    → CoordinatorCalls.Hands (isZero two) done numbers answer
+    → CoordinatorCalls.ReceivedSays (isZero one) given numbers answer
+    → CoordinatorCalls.ReceivedSays (isZero two) done numbers answer
 hands-same {one} {two} {given} {done} {numbers} {answer} refusals steps hands =
-    subst (λ (step : CoordinatorStep). CoordinatorCalls.Hands (isZero two) step numbers answer)
+    subst
+    (λ (step : CoordinatorStep). CoordinatorCalls.ReceivedSays (isZero two) step numbers answer)
     steps
-    (subst (λ (refusal : ℕ). CoordinatorCalls.Hands (isZero refusal) given numbers answer)
+    (subst (λ (refusal : ℕ). CoordinatorCalls.ReceivedSays (isZero refusal) given numbers answer)
     refusals hands)
 
 module _ (settings : Settings) (numbers : CoordinatorRecord) (m : Message) (n : ℕ)
     (memory part : List ℕ) (answer : Received)
-    (says : CoordinatorCalls.Receives settings numbers m (take n memory) part answer)
-    (accepts : answer .refusal ≡ accepted) where
-  none : CoordinatorCalls.receiveRefusal settings numbers m (take n memory) ≡ accepted
+    (says : CoordinatorCalls.CoordinatorReceiveSays settings numbers m (take n memory) part answer)
+    (accepts : answer .refusal ≡ noRefusal) where
+  none : CoordinatorCalls.receiveRefusal settings numbers m (take n memory) ≡ noRefusal
   none = sym (says .refusal) ∙ accepts
 
   long : coordinatorWords settings ≤ length (take n memory)
@@ -178,7 +180,7 @@ module _ (settings : Settings) (numbers : CoordinatorRecord) (m : Message) (n : 
       coordinatorMemory (coordinatorReceives settings c m .coordinator) memory) read
 
   -- The contract of the whole memory lent.
-  pub receives-whole : CoordinatorCalls.Receives settings numbers m memory
+  pub receives-whole : CoordinatorCalls.CoordinatorReceiveSays settings numbers m memory
       (withPart memory 0 n part) answer
   receives-whole = record {
     refusal = says .refusal ∙ same;
@@ -191,12 +193,12 @@ module _ (settings : Settings) (numbers : CoordinatorRecord) (m : Message) (n : 
 
 module _ (settings : Settings) (numbers : CoordinatorRecord) (n : ℕ) (memory : List ℕ)
     (answer : Received)
-    (says : CoordinatorCalls.Announces settings numbers (take n memory) answer)
-    (accepts : answer .refusal ≡ accepted) where
+    (says : CoordinatorCalls.AnnounceSays settings numbers (take n memory) answer)
+    (accepts : answer .refusal ≡ noRefusal) where
   -- The contract of the whole memory lent.
-  pub announces-whole : CoordinatorCalls.Announces settings numbers memory answer
+  pub announces-whole : CoordinatorCalls.AnnounceSays settings numbers memory answer
   announces-whole =
-      let none : CoordinatorCalls.announceRefusal settings numbers (take n memory) ≡ accepted =
+      let none : CoordinatorCalls.announceRefusal settings numbers (take n memory) ≡ noRefusal =
       sym (says .refusal) ∙ accepts in
       let long = coordinator-long settings numbers (take n memory)
       (both-accepted (coordinatorMemoryRefusal settings numbers (take n memory)) _ none

@@ -18,13 +18,13 @@ use lib.Seq.{take-append-le, drop-append-le}
 use borrow.Author.Tests.{le-ltb}
 use Rattle.model.specs.declared.Settings.{Settings}
 use Rattle.model.specs.declared.CoordinatorRecord.{CoordinatorRecord}
-use Rattle.model.specs.Refusals.{when, _orElse_, accepted, memoryTooShort, memoryInconsistent}
+use Rattle.model.specs.Refusals.{when, _orElse_, noRefusal, memoryTooShort, memoryInconsistent}
 use Rattle.model.specs.Limits.{valueCount}
 use Rattle.model.specs.Settings.{settingsRefusal}
 use Rattle.model.specs.SiteMemory.{overwrite}
 use Rattle.model.specs.Coordinator.{Coordinator}
 use Rattle.model.specs.CoordinatorMemory.{coordinatorWords, coordinatorIn, coordinatorConsistent, coordinatorMemoryRefusal}
-use Rattle.model.proofs.TestedMemory.{coordinator-tested}
+use Rattle.model.proofs.Thresholds.TestedMemory.{coordinator-tested}
 use Rattle.history.specs.State.{withPart}
 
 -- ---- Fronts of a memory
@@ -100,7 +100,7 @@ module _ (settings : Settings) (numbers : CoordinatorRecord) (n : ℕ) (memory :
       settingsRefusal settings
       orElse when (short i) memoryTooShort
       orElse when (not (coordinatorConsistent settings (coordinatorIn-front i))) memoryInconsistent
-      orElse accepted
+      orElse noRefusal
 
   -- So what depends on both tells neither.
   pub on-front : {A : Type 0} (of : ℕ → Coordinator → A)
@@ -111,7 +111,7 @@ module _ (settings : Settings) (numbers : CoordinatorRecord) (n : ℕ) (memory :
 
 -- Memory that a call on the coordinator accepts is long enough.
 pub coordinator-long : (settings : Settings) (numbers : CoordinatorRecord) (memory : List ℕ)
-    → coordinatorMemoryRefusal settings numbers memory ≡ accepted
+    → coordinatorMemoryRefusal settings numbers memory ≡ noRefusal
     → coordinatorWords settings ≤ length memory
 coordinator-long settings numbers memory none =
     coordinator-tested settings numbers memory none .memory-long

@@ -16,7 +16,7 @@ use lib.ListN.{length, set, drop, length-drop, length-set}
 use borrow.Author.Tests.{le-ltb}
 use Rattle.model.specs.declared.Settings.{Settings}
 use Rattle.model.specs.declared.Message.{Message}
-use Rattle.model.specs.Refusals.{accepted}
+use Rattle.model.specs.Refusals.{noRefusal}
 use Rattle.model.specs.Limits.{mostSites}
 use Rattle.model.specs.Settings.{settingsRefusal}
 use Rattle.model.specs.Site.{Site, siteReceives}
@@ -25,8 +25,8 @@ use Rattle.model.specs.CoordinatorMemory.{coordinatorWords, coordinatorIn, coor
 use Rattle.model.specs.Network.{siteAt, withSite}
 use Rattle.model.specs.NetworkMemory.{sitesWords, sitesIn}
 use Rattle.model.specs.SoundNetwork.{SoundSite}
-use Rattle.model.proofs.SettingsLaws.{settled}
-use Rattle.model.proofs.ConsistentSites.{consistent-of-sound}
+use Rattle.model.proofs.Thresholds.SettingsLaws.{settled}
+use Rattle.model.proofs.Soundness.ConsistentSites.{consistent-of-sound}
 use Rattle.site_memory.proofs.SiteMemoryLaws.{siteIn-siteMemory}
 use Rattle.site_memory.proofs.OneSite.{Storable}
 use Rattle.site_memory.proofs.SitesReading.{getD-sitesIn, length-sitesIn, used-within}
@@ -48,7 +48,7 @@ SitesSound settings held =
 
 -- ---- All records
 
-module _ {settings : Settings} (passes : settingsRefusal settings ≡ accepted) (held : Held)
+module _ {settings : Settings} (passes : settingsRefusal settings ≡ noRefusal) (held : Held)
     (lengths : Lengths settings held) where
   enough : settings .sites ≤ length (held .sites .records)
   enough = omega (arith, lengths .all-records, settled settings passes .sites .at-most)
@@ -65,7 +65,7 @@ module _ {settings : Settings} (passes : settingsRefusal settings ≡ accepted) 
 
 -- ---- One site
 
-module _ {settings : Settings} (passes : settingsRefusal settings ≡ accepted) (held : Held)
+module _ {settings : Settings} (passes : settingsRefusal settings ≡ noRefusal) (held : Held)
     (lengths : Lengths settings held) (sound : SitesSound settings held) (j : ℕ)
     (known : j < settings .sites) where
   abbrev words : ℕ
@@ -104,7 +104,7 @@ module _ {settings : Settings} (passes : settingsRefusal settings ≡ accepted) 
 
   -- Neither 4 nor 11 for a site's own record and part.
   pub site-memory-accepted : (n : ℕ) → words ≤ n
-      → siteMemoryRefusal settings (recordAt held j) (sitePart settings held j n) ≡ accepted
+      → siteMemoryRefusal settings (recordAt held j) (sitePart settings held j n) ≡ noRefusal
   site-memory-accepted n enough =
       let part = sitePart settings held j n in
       let part-sound : SoundSite settings (siteIn settings (recordAt held j) part) =

@@ -15,7 +15,7 @@ use lib.ListN.{length, length-append}
 use Rattle.model.specs.declared.Settings.{Settings}
 use Rattle.model.specs.declared.Arrival.{Arrival}
 use Rattle.model.specs.declared.Message.{Message}
-use Rattle.model.specs.Refusals.{accepted}
+use Rattle.model.specs.Refusals.{noRefusal}
 use Rattle.model.specs.Settings.{settingsRefusal}
 use Rattle.model.specs.Coordinator.{isAnnouncing}
 use Rattle.model.specs.Network.{Network}
@@ -32,7 +32,7 @@ use Rattle.history.proofs.NextAnnouncement.{announces, next-on}
 -- ---- From any sound network
 
 -- One step of delivery further.
-pub delivered-on : {settings : Settings} (passes : settingsRefusal settings ≡ accepted)
+pub delivered-on : {settings : Settings} (passes : settingsRefusal settings ≡ noRefusal)
     {origin : Network} {arrival : Arrival} {past : List Message} {n : ℕ} (before : State)
     → Underway settings origin arrival past n before
     → (after : State)
@@ -108,7 +108,7 @@ none-when-quiet {settings} before none silent after
 
 -- ---- In a history
 
-module _ {settings : Settings} (passes : settingsRefusal settings ≡ accepted) (before : State)
+module _ {settings : Settings} (passes : settingsRefusal settings ≡ noRefusal) (before : State)
   where
     -- At rest nothing waits, and the model's run, at rest too, announces nothing.
     pub none-at-rest : Resting settings before

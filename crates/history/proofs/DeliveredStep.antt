@@ -10,13 +10,13 @@ use Prim.Native.Nat.{ℕ, suc}
 use Rattle.model.specs.declared.Settings.{Settings}
 use Rattle.model.specs.declared.Arrival.{Arrival}
 use Rattle.model.specs.declared.Message.{Message}
-use Rattle.model.specs.Refusals.{accepted}
+use Rattle.model.specs.Refusals.{noRefusal}
 use Rattle.model.specs.Settings.{settingsRefusal}
 use Rattle.model.specs.Network.{Network, Delivered, handOver}
 use Rattle.model.specs.SoundNetwork.{SoundCoordinator}
 use Rattle.model.specs.DeliveryClaims.{Delivery, delivery, joining, deliveryOf}
 use Rattle.model.specs.SoundClaims.{Reached, handed}
-use Rattle.model.proofs.SoundTheorem.{sound-claims}
+use Rattle.model.proofs.Soundness.SoundTheorem.{sound-claims}
 use Rattle.history.specs.State.{Held, State, networkOf, sending}
 use Rattle.history.proofs.Decoded.{Lengths}
 use Rattle.history.proofs.Underway.{Underway}
@@ -62,7 +62,7 @@ module _ {settings : Settings} {origin : Network} {arrival : Arrival} {past : Li
         waits (mid .reached))
 
     -- The coordinator that a step of the model's delivery leaves is sound.
-    pub coordinator-sound-then : settingsRefusal settings ≡ accepted
+    pub coordinator-sound-then : settingsRefusal settings ≡ noRefusal
         → (d : Delivery)
         → Reached settings (deliveryOf settings origin arrival) (suc n) d
         → SoundCoordinator settings (d .network .coordinator)

@@ -13,10 +13,10 @@ use borrow.Author.Tests.{eq-eqb, eqb-true}
 use Rattle.model.specs.declared.Settings.{Settings}
 use Rattle.model.specs.declared.Arrival.{Arrival}
 use Rattle.model.specs.Choice.{isZero}
-use Rattle.model.specs.Refusals.{accepted}
+use Rattle.model.specs.Refusals.{noRefusal}
 use Rattle.model.specs.Network.{Network, afterArrival}
 use Rattle.model.specs.Runs.{Batch, batchRefusal, batchFrom, batchOf}
-use Rattle.model.proofs.ConsistentNetwork.{Passes, passes-of}
+use Rattle.model.proofs.Soundness.ConsistentNetwork.{Passes, passes-of}
 use Rattle.site_memory.proofs.SitesReading.{enough-records, used-within, siteRecords-sitesIn, sitesMemory-sitesIn}
 use Rattle.coordinator_kinds.proofs.MemoryLaws.{memory-kept}
 use Rattle.tracker.specs.Batch.{BatchCall, BatchSays, startRefusal, batchIn, unlessRefused, BatchHeld}
@@ -48,7 +48,7 @@ never-fewer settings room (arrival ∷ arrivals) batch =
           network = afterArrival settings (batch .network) arrival .network;
           accepted = batch .accepted + 1;
           messages = batch .messages ++ afterArrival settings (batch .network) arrival .messages;
-          refusal = accepted;
+          refusal = noRefusal;
         } in
         rw (none, batchFrom) (omega (arith, later next))
     by-refusal false some later = rw (some, batchFrom) (omega arith)
@@ -70,7 +70,7 @@ nothing-done settings room network (arrival ∷ arrivals) none = by-refusal (isZ
           network = afterArrival settings network arrival .network;
           accepted = 0 + 1;
           messages = [] ++ afterArrival settings network arrival .messages;
-          refusal = accepted;
+          refusal = noRefusal;
         } in
         let some : 1 ≤ batchFrom settings room next arrivals .accepted =
         never-fewer settings room arrivals next in
@@ -95,7 +95,7 @@ module _ (before : State) (given : Settings) (arrivals : List Arrival) (log : Li
   -- What a batch call hands back, by whether it is refused when it starts.
   by-start : {A : Type 0} (done kept x : A)
       → x ≡ unlessRefused call done kept
-      → (startRefusal call ≡ accepted → done ≡ kept)
+      → (startRefusal call ≡ noRefusal → done ≡ kept)
       → x ≡ kept
   by-start {A} done kept x is same = by-test (isZero (startRefusal call)) refl
     where
@@ -104,13 +104,13 @@ module _ (before : State) (given : Settings) (arrivals : List Arrival) (log : Li
       by-test false some = is ∙ rw some
 
   -- Where it was not refused, the model's batch accepts nothing.
-  idle-batch : startRefusal call ≡ accepted
+  idle-batch : startRefusal call ≡ noRefusal
       → NothingDone (networkOf given held) (batchIn call)
   idle-batch none =
       nothing-done given _ (networkOf given held) arrivals
       (sym (rw (eq-eqb (startRefusal call) 0 none) at (says .accepted)) ∙ nothing)
 
-  passes : startRefusal call ≡ accepted
+  passes : startRefusal call ≡ noRefusal
       → Passes given (held .sites) (held .coordinator) (held .siteMemory) (held .coordinatorMemory)
   passes none =
       passes-of given (held .sites) (held .coordinator) (held .siteMemory)

@@ -9,8 +9,8 @@ use mathlib.Core.List.{[], _∷_}
 use Rattle.model.specs.declared.Quantile.the-variants.{Value}
 use Rattle.model.specs.Limits.{valueCount}
 use Rattle.model.specs.Instances.{settingsA, arrivalWith, draw}
-use Rattle.reading.specs.Contracts.{ReadsQuantile}
-use Rattle.listing.specs.Contracts.{Lists}
+use Rattle.coordinator_reading.specs.Contracts.{QuantileSays}
+use Rattle.coordinator_list.specs.Contracts.{ListSays}
 use Rattle.history.specs.State.{State, coordinatorPart}
 use Rattle.history.specs.Histories.{Step, arrives, delivers, refuses, Reachable, stepped}
 use Rattle.history.specs.Given.{givenIn, keptOutIn}
@@ -60,14 +60,14 @@ example-kept-out = refl
 -- ---- A reading: "listed 7", "class 3"
 
 -- The list call on two places and the first 1034 numbers of the memory: item 7.
-pub example-list : Lists settingsA (afterBatchOfTwo .held .coordinator)
+pub example-list : ListSays settingsA (afterBatchOfTwo .held .coordinator)
     (coordinatorPart (afterBatchOfTwo .held) 0 1034) (8 ∷ (8 ∷ [])) (7 ∷ (8 ∷ []))
     (record { refusal = 0; count = 1 })
 unfolding valueCount
 example-list = record { refusal = refl; count = refl; list = refl }
 
 -- The quantile call on all of it: value 3.
-pub example-quantile : ReadsQuantile settingsA (afterBatchOfTwo .held .coordinator)
+pub example-quantile : QuantileSays settingsA (afterBatchOfTwo .held .coordinator)
     (coordinatorPart (afterBatchOfTwo .held) 0 1036)
     (record { refusal = 0; quantile = Value 3 })
 unfolding valueCount

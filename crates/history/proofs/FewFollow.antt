@@ -11,21 +11,21 @@ use lib.Seq.{take-suc, take-append-seam, take-length}
 use Rattle.model.specs.declared.Settings.{Settings}
 use Rattle.model.specs.declared.Arrival.{Arrival}
 use Rattle.model.specs.Choice.{isZero}
-use Rattle.model.specs.Refusals.{accepted}
+use Rattle.model.specs.Refusals.{noRefusal}
 use Rattle.model.specs.Settings.{settingsRefusal}
 use Rattle.model.specs.Network.{afterArrival}
 use Rattle.model.specs.Runs.{withArrival, refusalIn, runOne, runOf}
-use Rattle.model.proofs.DeliveryTheorem.{delivery-claims}
-use Rattle.model.proofs.RunLaws.{runFrom-append}
-use Rattle.model.proofs.NeverFalls.{either}
-use Rattle.model.proofs.Theorem.{demands-over-runs}
+use Rattle.model.proofs.Deliveries.DeliveryTheorem.{delivery-claims}
+use Rattle.model.proofs.Runs.RunLaws.{runFrom-append}
+use Rattle.model.proofs.Numbers.NeverFalls.{either}
+use Rattle.model.proofs.Runs.Theorem.{demands-over-runs}
 use Rattle.history.specs.Third.{FewFollow}
 
 -- Past the end of a list: any arrival.
 noArrival : Arrival
 noArrival = record { site = 0; item = 0; value = 0 }
 
-module _ (settings : Settings) (passes : settingsRefusal settings ≡ accepted) where
+module _ (settings : Settings) (passes : settingsRefusal settings ≡ noRefusal) where
   -- An arrival that is accepted adds the messages of its delivery; one that is refused adds none.
   one-follows : (arrivals : List Arrival) (arrival : Arrival)
       → FewFollow settings (runOf settings arrivals)

@@ -11,7 +11,7 @@ use lib.ListN.{replicate}
 use Rattle.model.specs.Limits.{valueCount}
 use Rattle.model.specs.Claims.{counted}
 use Rattle.model.specs.Instances.{settingsA}
-use Rattle.model.proofs.SettingsLaws.{settled}
+use Rattle.model.proofs.Thresholds.SettingsLaws.{settled}
 use Rattle.tracker.specs.Batch.{messageNumbers}
 use Rattle.history.specs.Histories.{Arrives, batch, arrives, Reachable, stepped}
 use Rattle.history.specs.Reading.{ListRight}

@@ -11,17 +11,17 @@ use lib.Dec.{ltb}
 use Rattle.laws.proofs.Tests.{both-true}
 use Rattle.model.specs.declared.Settings.{Settings}
 use Rattle.model.specs.declared.Arrival.{Arrival}
-use Rattle.model.specs.Refusals.{accepted}
+use Rattle.model.specs.Refusals.{noRefusal}
 use Rattle.model.specs.Settings.{settingsRefusal}
 use Rattle.model.specs.Coordinator.{Coordinator}
 use Rattle.model.specs.Reading.{isListed, heavyHitters}
 use Rattle.model.specs.Runs.{Run, runOf}
 use Rattle.model.specs.Claims.{counted, contains}
-use Rattle.model.proofs.Theorem.{demands-over-runs}
-use Rattle.model.proofs.SettingsLaws.{settled}
+use Rattle.model.proofs.Runs.Theorem.{demands-over-runs}
+use Rattle.model.proofs.Thresholds.SettingsLaws.{settled}
 use Rattle.history.specs.Reading.{FirmShare}
 
-module _ (settings : Settings) (passes : settingsRefusal settings ≡ accepted)
+module _ (settings : Settings) (passes : settingsRefusal settings ≡ noRefusal)
     (arrivals : List Arrival) where
   abbrev run : Run
   run = runOf settings arrivals

@@ -14,7 +14,7 @@ use Rattle.model.specs.declared.Settings.{Settings}
 use Rattle.model.specs.declared.Arrival.{Arrival}
 use Rattle.model.specs.declared.Message.{Message}
 use Rattle.model.specs.declared.SiteRecord.{SiteRecord}
-use Rattle.model.specs.Refusals.{accepted}
+use Rattle.model.specs.Refusals.{noRefusal}
 use Rattle.model.specs.Limits.{mostSites}
 use Rattle.model.specs.Settings.{settingsRefusal}
 use Rattle.model.specs.Site.{siteReceives}
@@ -22,8 +22,8 @@ use Rattle.model.specs.SiteMemory.{siteWords, siteMemory}
 use Rattle.model.specs.Network.{Network, siteAt}
 use Rattle.model.specs.NetworkMemory.{sitesWords, sitesMemory}
 use Rattle.model.specs.Runs.{runOf}
-use Rattle.model.proofs.SettingsLaws.{settled}
-use Rattle.model.proofs.NeverFewer.{counters-kept, values-kept, NoFewer, observed-grows, run-no-fewer}
+use Rattle.model.proofs.Thresholds.SettingsLaws.{settled}
+use Rattle.model.proofs.Soundness.NeverFewer.{counters-kept, values-kept, NoFewer, observed-grows, run-no-fewer}
 use Rattle.site_memory.proofs.SitesMemoryLaws.{all-storable, sitesMemory-set, sitesMemory-kept}
 use Rattle.site_memory.proofs.SitesReading.{sitesMemory-sitesIn}
 use Rattle.site_memory.proofs.SitesFronts.{sitesMemory-again}
@@ -61,7 +61,7 @@ pub record FromStart (settings : Settings) (start held : Held) : Type 0 where
 -- ---- At the start
 
 -- What is read and written again at once changes nothing.
-pub from-self : {settings : Settings} (passes : settingsRefusal settings ≡ accepted) (held : Held)
+pub from-self : {settings : Settings} (passes : settingsRefusal settings ≡ noRefusal) (held : Held)
     → Lengths settings held
     → SitesSound settings held
     → FromStart settings held held
@@ -82,7 +82,7 @@ from-self {settings} passes held lengths sites-sound =
 -- ---- All that is held
 
 -- Records and the coordinator's memory are what they hold, and tails.
-pub held-over : {settings : Settings} (passes : settingsRefusal settings ≡ accepted)
+pub held-over : {settings : Settings} (passes : settingsRefusal settings ≡ noRefusal)
     (start held : Held)
     → Lengths settings held
     → FromStart settings start held
@@ -121,7 +121,7 @@ kept-from from kept over = record {
   site-memory = over;
 }
 
-module _ {settings : Settings} (passes : settingsRefusal settings ≡ accepted) (state : State)
+module _ {settings : Settings} (passes : settingsRefusal settings ≡ noRefusal) (state : State)
     (start : Held) (from : FromStart settings start (state .held)) where
   abbrev held : Held
   held = state .held
@@ -136,7 +136,7 @@ module _ {settings : Settings} (passes : settingsRefusal settings ≡ accepted) 
       (arrival : Arrival) (words : ℕ) (part : List ℕ) (answer : Observed)
       (says : ObserveSays settings (recordAt held (arrival .site)) arrival
       (sitePart settings held (arrival .site) words) part answer)
-      (accepts : answer .refusal ≡ accepted) where
+      (accepts : answer .refusal ≡ noRefusal) where
     -- A single arrival writes its site.
     single-over : Over (afterSingle settings state arrival words part answer .held)
     single-over =
@@ -195,7 +195,7 @@ module _ {settings : Settings} (passes : settingsRefusal settings ≡ accepted) 
 
 -- ---- In a history
 
-module _ {settings : Settings} (passes : settingsRefusal settings ≡ accepted)
+module _ {settings : Settings} (passes : settingsRefusal settings ≡ noRefusal)
     {n : ℕ} (state : State) (ok : StateOk settings n state)
     (start : Held) (from : FromStart settings start (state .held)) where
   -- A batch writes sites with no fewer counters over those that were there.

@@ -14,10 +14,10 @@ use Rattle.laws.proofs.Tests.{both-true}
 use Rattle.model.specs.declared.Settings.{Settings}
 use Rattle.model.specs.declared.Arrival.{Arrival}
 use Rattle.model.specs.Choice.{if_then_else_, isZero}
-use Rattle.model.specs.Refusals.{accepted}
+use Rattle.model.specs.Refusals.{noRefusal}
 use Rattle.model.specs.Settings.{settingsRefusal}
 use Rattle.model.specs.Runs.{Run, runFrom, runOf}
-use Rattle.model.proofs.RunLaws.{runFrom-append}
+use Rattle.model.proofs.Runs.RunLaws.{runFrom-append}
 use Rattle.site_steps.specs.declared.Observed.{Observed}
 use Rattle.site.specs.Calls.{ObserveSays}
 use Rattle.tracker.specs.Batch.{BatchHeld, BatchSays}
@@ -77,7 +77,7 @@ module _ (settings : Settings) (run : Run) where
 
 -- ---- Each call
 
-module _ {settings : Settings} (passes : settingsRefusal settings ≡ accepted)
+module _ {settings : Settings} (passes : settingsRefusal settings ≡ noRefusal)
     {n : ℕ} (before : State)
     (ok : StateOk settings n before) where
   abbrev held : Held
@@ -184,7 +184,7 @@ module _ {settings : Settings} (passes : settingsRefusal settings ≡ accepted)
 
 -- ---- Every history
 
-module _ {settings : Settings} (passes : settingsRefusal settings ≡ accepted) where
+module _ {settings : Settings} (passes : settingsRefusal settings ≡ noRefusal) where
   -- The rules over what was given, and over what was accepted.
   same-run : (state : State) (history : Reachable settings state)
       → runOf settings (givenIn history) ≡ runOf settings (state .accepted)

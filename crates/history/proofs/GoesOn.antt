@@ -15,7 +15,7 @@ use Rattle.model.specs.declared.Settings.{Settings}
 use Rattle.model.specs.declared.Arrival.{Arrival}
 use Rattle.model.specs.declared.Message.{Message}
 use Rattle.model.specs.declared.Phase.the-variants.{Idle}
-use Rattle.model.specs.Refusals.{_orElse_, accepted}
+use Rattle.model.specs.Refusals.{_orElse_, noRefusal}
 use Rattle.model.specs.Settings.{settingsRefusal}
 use Rattle.model.specs.Messages.{toCoordinator}
 use Rattle.model.specs.Site.{siteMessageRefusal}
@@ -24,9 +24,9 @@ use Rattle.model.specs.Coordinator.{Coordinator, isAnnouncing, coordinatorRefus
 use Rattle.model.specs.CoordinatorMemory.{coordinatorWords}
 use Rattle.model.specs.Network.{Network, Delivered, siteAt, afterArrival}
 use Rattle.model.specs.DeliveryClaims.{messageRefusal}
-use Rattle.model.proofs.SettingsLaws.{site-known}
-use Rattle.model.proofs.SoundTheorem.{sound-claims}
-use Rattle.model.proofs.ConsistentCoordinator.{CoordinatorWithin}
+use Rattle.model.proofs.Thresholds.SettingsLaws.{site-known}
+use Rattle.model.proofs.Soundness.SoundTheorem.{sound-claims}
+use Rattle.model.proofs.Soundness.ConsistentCoordinator.{CoordinatorWithin}
 use Rattle.site.specs.Calls as SiteCalls
 use Rattle.coordinator.specs.Calls as CoordinatorCalls
 use Rattle.history.specs.State.{State, networkOf, recordAt, sitePart, coordinatorPart}
@@ -77,7 +77,7 @@ further P on n state here m after (refused-between m′ before after′ earlier 
 
 -- ---- Sound parts accept the next step
 
-module _ {settings : Settings} (passes : settingsRefusal settings ≡ accepted) (state : State)
+module _ {settings : Settings} (passes : settingsRefusal settings ≡ noRefusal) (state : State)
     (lengths : Lengths settings (state .held))
     (parts : SoundParts settings (networkOf settings (state .held))) where
   abbrev network : Network
@@ -85,12 +85,12 @@ module _ {settings : Settings} (passes : settingsRefusal settings ≡ accepted) 
 
   -- What the rules say of the head of the queue, the coordinator or the site says.
   pub coordinator-accepts : (m : Message) (words : ℕ)
-      → messageRefusal settings network m ≡ accepted
+      → messageRefusal settings network m ≡ noRefusal
       → toCoordinator m ≡ true
       → coordinatorWords settings ≤ words
       → CoordinatorCalls.receiveRefusal settings (state .held .coordinator) m
       (coordinatorPart (state .held) 0 words)
-      ≡ accepted
+      ≡ noRefusal
   coordinator-accepts m words none way enough =
       let by : messageRefusal settings network m
       ≡ coordinatorRefusal settings (network .coordinator) m = rw way in
@@ -100,16 +100,16 @@ module _ {settings : Settings} (passes : settingsRefusal settings ≡ accepted) 
       ∙ none
 
   pub site-accepts : (m : Message) (words : ℕ)
-      → messageRefusal settings network m ≡ accepted
+      → messageRefusal settings network m ≡ noRefusal
       → toCoordinator m ≡ false
       → siteWords settings ≤ words
       → SiteCalls.receiveRefusal settings (recordAt (state .held) (m .site)) (m .site) m
       (sitePart settings (state .held) (m .site) words)
-      ≡ accepted
+      ≡ noRefusal
   site-accepts m words head way enough =
       let by : messageRefusal settings network m
       ≡ siteMessageRefusal settings (siteAt network (m .site)) (m .site) m = rw way in
-      let none : siteMessageRefusal settings (siteAt network (m .site)) (m .site) m ≡ accepted =
+      let none : siteMessageRefusal settings (siteAt network (m .site)) (m .site) m ≡ noRefusal =
       sym by ∙ head in
       let known = site-known settings (m .site) _ none in
       site-message-by-rules passes (state .held) lengths parts (m .site) words known enough m
@@ -120,7 +120,7 @@ module _ {settings : Settings} (passes : settingsRefusal settings ≡ accepted) 
       → coordinatorWords settings ≤ words
       → CoordinatorCalls.announceRefusal settings (state .held .coordinator)
       (coordinatorPart (state .held) 0 words)
-      ≡ accepted
+      ≡ noRefusal
   announcement-accepted words announces enough =
       coordinator-front passes (state .held) lengths parts words
       (λ (refusal : ℕ) (c : Coordinator). refusal orElse announcementRefusal c) enough
@@ -128,7 +128,7 @@ module _ {settings : Settings} (passes : settingsRefusal settings ≡ accepted) 
 
 -- ---- From any sound network
 
-module _ {settings : Settings} (passes : settingsRefusal settings ≡ accepted)
+module _ {settings : Settings} (passes : settingsRefusal settings ≡ noRefusal)
     {origin : Network} {arrival : Arrival} {past : List Message}
   where
     -- Steps of delivery, with refused calls between them.
@@ -172,7 +172,7 @@ module _ {settings : Settings} (passes : settingsRefusal settings ≡ accepted)
 
 -- ---- In a history
 
-module _ {settings : Settings} (passes : settingsRefusal settings ≡ accepted)
+module _ {settings : Settings} (passes : settingsRefusal settings ≡ noRefusal)
     {n : ℕ} {state : State}
     (ok : StateOk settings n state) where
   -- The invariant after steps of delivery, with refused calls between them.

@@ -18,15 +18,15 @@ use borrow.Author.Tests.{eq-eqb}
 use Rattle.model.specs.declared.Settings.{Settings}
 use Rattle.model.specs.declared.Arrival.{Arrival}
 use Rattle.model.specs.declared.Message.{Message}
-use Rattle.model.specs.Refusals.{accepted}
+use Rattle.model.specs.Refusals.{noRefusal}
 use Rattle.model.specs.Limits.{mostSteps}
 use Rattle.model.specs.Settings.{settingsRefusal}
 use Rattle.model.specs.Coordinator.{isAnnouncing}
 use Rattle.model.specs.Network.{Delivered, deliveryFuel}
 use Rattle.model.specs.Runs.{Run, refusalIn, withArrival, runOf}
 use Rattle.model.specs.DeliveryClaims.{messageRefusal}
-use Rattle.model.proofs.RunLaws.{runFrom-append}
-use Rattle.model.proofs.ConsistentCoordinator.{CoordinatorWithin}
+use Rattle.model.proofs.Runs.RunLaws.{runFrom-append}
+use Rattle.model.proofs.Soundness.ConsistentCoordinator.{CoordinatorWithin}
 use Rattle.history.specs.State.{State, networkOf}
 use Rattle.history.proofs.RunSound.{sound-run, within-of-run}
 use Rattle.history.proofs.Decoded.{Lengths}
@@ -79,7 +79,7 @@ pub record BeginsRun (settings : Settings) (state : State) : Type 0 where
 
 -- ---- At rest
 
-module _ {settings : Settings} (passes : settingsRefusal settings ≡ accepted) {state : State}
+module _ {settings : Settings} (passes : settingsRefusal settings ≡ noRefusal) {state : State}
     (rest : Resting settings state) where
   begins-rest : BeginsRun settings state
   begins-rest = record {
@@ -101,7 +101,7 @@ module _ {settings : Settings} (passes : settingsRefusal settings ≡ accepted) 
 
 -- ---- In mid-delivery, and either way
 
-module _ {settings : Settings} (passes : settingsRefusal settings ≡ accepted)
+module _ {settings : Settings} (passes : settingsRefusal settings ≡ noRefusal)
     {n : ℕ} {state : State}
   where
     -- ---- In mid-delivery
@@ -189,7 +189,7 @@ module _ {settings : Settings} (passes : settingsRefusal settings ≡ accepted)
     pub head-of-standing : Standing settings n state
         → (m : Message) (later : List Message)
         → state .waiting ≡ m ∷ later
-        → messageRefusal settings (networkOf settings (state .held)) m ≡ accepted
+        → messageRefusal settings (networkOf settings (state .held)) m ≡ noRefusal
     head-of-standing (resting _ rest) m later waits =
         let impossible : 0 ≡ suc (length later) =
         ap length (sym (rest .nothing-waits) ∙ waits) in

@@ -14,7 +14,7 @@ use lib.Seq.{drop-set-lt, getD-set-other}
 use Rattle.model.specs.declared.Settings.{Settings}
 use Rattle.model.specs.declared.Arrival.{Arrival}
 use Rattle.model.specs.declared.Message.{Message}
-use Rattle.model.specs.Refusals.{accepted}
+use Rattle.model.specs.Refusals.{noRefusal}
 use Rattle.model.specs.Settings.{settingsRefusal}
 use Rattle.model.specs.Site.{Site}
 use Rattle.model.specs.SiteMemory.{siteWords, siteRecord}
@@ -80,14 +80,14 @@ network-kept settings held lengths network sound messages =
 
 -- ---- From any sound network
 
-module _ {settings : Settings} (passes : settingsRefusal settings ≡ accepted) (state : State) where
+module _ {settings : Settings} (passes : settingsRefusal settings ≡ noRefusal) (state : State) where
   -- ---- A single arrival
 
   module _ (rest : SoundRest settings state)
       (arrival : Arrival) (words : ℕ) (part : List ℕ) (answer : Observed)
       (says : ObserveSays settings (recordAt (state .held) (arrival .site)) arrival
       (sitePart settings (state .held) (arrival .site) words) part answer)
-      (accepts : answer .refusal ≡ accepted) where
+      (accepts : answer .refusal ≡ noRefusal) where
     abbrev j : ℕ
     j = arrival .site
 
@@ -204,7 +204,7 @@ module _ {settings : Settings} (passes : settingsRefusal settings ≡ accepted) 
 
 -- ---- In a history
 
-module _ {settings : Settings} (passes : settingsRefusal settings ≡ accepted)
+module _ {settings : Settings} (passes : settingsRefusal settings ≡ noRefusal)
     {n : ℕ} (state : State)
     (ok : StateOk settings n state) where
   batch-kept : (arrivals : List Arrival) (log : List ℕ) (answer : BatchHeld)

@@ -11,7 +11,7 @@ use lib.Seq.{drop-length}
 use borrow.Author.Tests.{eqb-true, eqb-false}
 use Rattle.model.specs.declared.Settings.{Settings}
 use Rattle.model.specs.Choice.{if_then_else_, isZero}
-use Rattle.model.specs.Refusals.{accepted}
+use Rattle.model.specs.Refusals.{noRefusal}
 use Rattle.model.specs.Held.{networkOf}
 use Rattle.tracker.specs.Batch.{BatchCall, BatchHeld, BatchSays, startRefusal, logRoom}
 use Rattle.history.specs.State.{State}
@@ -23,7 +23,7 @@ use Rattle.history.proofs.BatchStops.{runAt, batch-stops}
 -- A batch that is not refused accepts all its arrivals, and so keeps none out.
 batch-none-kept-out : (call : BatchCall) (answer : BatchHeld)
     → BatchSays call answer
-    → answer .refusal ≡ accepted
+    → answer .refusal ≡ noRefusal
     → keptOut (call .arrivals) answer ≡ []
 batch-none-kept-out call answer says none = by-start (isZero (startRefusal call)) refl
   where
@@ -54,7 +54,7 @@ own-none-kept-out true handed none = none
 own-none-kept-out false handed none = refl
 
 refused-none-kept-out : (settings : Settings) {before after : State} (step : Refuses before after)
-    → refusalOfRefused step ≡ accepted
+    → refusalOfRefused step ≡ noRefusal
     → drop (handedRefused settings step .count) (handedRefused settings step .arrivals) ≡ []
 refused-none-kept-out settings
     (arrival-refused given which arrival start words part answer says refused) none =
@@ -68,7 +68,7 @@ refused-none-kept-out settings
     (batch-none-kept-out _ answer says none)
 
 none-kept-out : {settings : Settings} {before after : State} (step : Step settings before after)
-    → refusalBy step ≡ accepted
+    → refusalBy step ≡ noRefusal
     → keptOutBy step ≡ []
 none-kept-out (arrives (batch siteCount coordinatorCount arrivals log answer rest says)) none =
     batch-none-kept-out _ answer says none

@@ -13,7 +13,7 @@ use borrow.Author.Tests.{eqb-true, eqb-false}
 use Rattle.model.specs.declared.Settings.{Settings}
 use Rattle.model.specs.declared.Arrival.{Arrival}
 use Rattle.model.specs.Choice.{isZero}
-use Rattle.model.specs.Refusals.{accepted}
+use Rattle.model.specs.Refusals.{noRefusal}
 use Rattle.model.specs.Settings.{settingsRefusal}
 use Rattle.model.specs.SiteMemory.{siteWords, overwrite}
 use Rattle.model.specs.CoordinatorMemory.{coordinatorRecord, coordinatorMemory}
@@ -21,7 +21,7 @@ use Rattle.model.specs.Network.{Network}
 use Rattle.model.specs.NetworkMemory.{siteRecords, sitesMemory}
 use Rattle.model.specs.Runs.{Batch, batchOf}
 use Rattle.model.specs.SoundNetwork.{Sound}
-use Rattle.model.proofs.ConsistentNetwork.{Passes, passes-of}
+use Rattle.model.proofs.Soundness.ConsistentNetwork.{Passes, passes-of}
 use Rattle.tracker.specs.Batch.{BatchCall, BatchSays, startRefusal, batchIn, unlessRefused, logRoom, messageNumbers, BatchHeld}
 use Rattle.history.specs.State.{Held, State, AtRest, fronts, lending, withPart, putBack}
 use Rattle.history.specs.Histories.{batchCall, afterBatch, batch-accepts-nothing}
@@ -34,7 +34,7 @@ use Rattle.history.proofs.Accepted.{held-sound}
 use Rattle.history.proofs.BatchedState as Batched
 use Rattle.history.proofs.Refused.{refused-same}
 
-module _ {settings : Settings} (passes : settingsRefusal settings ≡ accepted)
+module _ {settings : Settings} (passes : settingsRefusal settings ≡ noRefusal)
     {n : ℕ} (before : State)
     (ok : StateOk settings n before) (at-rest : AtRest before)
     (siteCount coordinatorCount : ℕ) (arrivals : List Arrival) (log : List ℕ)
@@ -56,14 +56,14 @@ module _ {settings : Settings} (passes : settingsRefusal settings ≡ accepted)
 
   -- What the step comes to.
   pub data LentBatch : Type 0 where
-    nothing-changed : (startRefusal onFronts ≡ accepted → ⊥)
+    nothing-changed : (startRefusal onFronts ≡ noRefusal → ⊥)
         → afterBatch before arrivals back ≡ before
         → LentBatch
     as-all-lent : BatchSays onAll back → LentBatch
 
   -- ---- Refused when it starts
 
-  unchanged : (startRefusal onFronts ≡ accepted → ⊥)
+  unchanged : (startRefusal onFronts ≡ noRefusal → ⊥)
       → afterBatch before arrivals back ≡ before
   unchanged refused =
       refused-same before _
@@ -72,7 +72,7 @@ module _ {settings : Settings} (passes : settingsRefusal settings ≡ accepted)
 
   -- ---- Accepted
 
-  module _ (none : startRefusal onFronts ≡ accepted) where
+  module _ (none : startRefusal onFronts ≡ noRefusal) where
     abbrev sitesFront : List ℕ
     sitesFront = take siteCount (held .siteMemory)
 

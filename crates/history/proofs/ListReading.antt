@@ -18,7 +18,7 @@ use Rattle.laws.proofs.Tests.{and-false}
 use Rattle.model.specs.declared.Settings.{Settings}
 use Rattle.model.specs.declared.Arrival.{Arrival}
 use Rattle.model.specs.Choice.{isZero}
-use Rattle.model.specs.Refusals.{when, accepted, listTooShort}
+use Rattle.model.specs.Refusals.{when, noRefusal, listTooShort}
 use Rattle.model.specs.Settings.{settingsRefusal}
 use Rattle.model.specs.Coordinator.{Coordinator}
 use Rattle.model.specs.CoordinatorMemory.{coordinatorWords, coordinatorIn}
@@ -26,9 +26,9 @@ use Rattle.model.specs.Reading.{neededSide, isListed, heavyHitters}
 use Rattle.model.specs.Network.{Network}
 use Rattle.model.specs.Runs.{Run, runOf}
 use Rattle.model.specs.Claims.{counted, countOf, contains, Tracks, ListLaw, ListSize}
-use Rattle.model.proofs.Theorem.{demands-over-runs}
-use Rattle.listing.specs.declared.Listed.{Listed}
-use Rattle.listing.specs.Contracts.{Lists, listRefusal}
+use Rattle.model.proofs.Runs.Theorem.{demands-over-runs}
+use Rattle.coordinator_list.specs.declared.Listed.{Listed}
+use Rattle.coordinator_list.specs.Contracts.{ListSays, listRefusal}
 use Rattle.history.specs.State.{State, networkOf, coordinatorPart}
 use Rattle.history.specs.Reading.{rulesCoordinator, listedIn, FirmShare, ListRight}
 use Rattle.history.proofs.Invariant.{StateOk, Resting}
@@ -36,7 +36,7 @@ use Rattle.history.proofs.Accepted.{coordinator-front, refused-by-rules
 use Rattle.history.proofs.Answers.{accepted-choice, refused-choice}
 use Rattle.history.proofs.FirmShares.{listed-firm}
 
-module _ {settings : Settings} (passes : settingsRefusal settings ≡ accepted)
+module _ {settings : Settings} (passes : settingsRefusal settings ≡ noRefusal)
     {n : ℕ} {state : State}
     (ok : StateOk settings n state) (rest : Resting settings state) where
   -- The rules' coordinator, and their run.
@@ -75,7 +75,7 @@ module _ {settings : Settings} (passes : settingsRefusal settings ≡ accepted)
 
   module _ (words : ℕ) (before after : List ℕ) (answer : Listed)
       (enough : coordinatorWords settings ≤ words)
-      (says : Lists settings (state .held .coordinator) (coordinatorPart (state .held) 0 words)
+      (says : ListSays settings (state .held .coordinator) (coordinatorPart (state .held) 0 words)
       before after answer) where
     abbrev listed : List ℕ
     listed = heavyHitters settings c
@@ -89,11 +89,11 @@ module _ {settings : Settings} (passes : settingsRefusal settings ≡ accepted)
         held-is
 
     -- An accepted call has written the list over the front of the lent one.
-    list-is : answer .refusal ≡ accepted → listedIn answer after ≡ listed
+    list-is : answer .refusal ≡ noRefusal → listedIn answer after ≡ listed
     list-is accepts =
         let part = coordinatorPart (state .held) 0 words in
         let none : listRefusal settings (state .held .coordinator) part (length before)
-        ≡ accepted = sym (says .refusal) ∙ accepts in
+        ≡ noRefusal = sym (says .refusal) ∙ accepts in
         let held-list = heavyHitters settings
         (coordinatorIn settings (state .held .coordinator) part) in
         let count = says .count ∙ accepted-choice _ _ _ none in
@@ -135,7 +135,7 @@ module _ {settings : Settings} (passes : settingsRefusal settings ≡ accepted)
     of-count factor bound within = omega (arith, mul-le-mul-right factor few-listed, within)
 
     -- What holds of the rules' list holds of the answered one.
-    of-list : (P : List ℕ → Type 0) → answer .refusal ≡ accepted → P listed
+    of-list : (P : List ℕ → Type 0) → answer .refusal ≡ noRefusal → P listed
         → P (listedIn answer after)
     of-list P accepts holds = subst P (sym (list-is accepts)) holds
 
@@ -163,7 +163,7 @@ module _ {settings : Settings} (passes : settingsRefusal settings ≡ accepted)
         list-law .listed-exactly item ∙ rw no (and-false (ltb item (settings .universe)))
 
     -- With places enough it is accepted.
-    long-enough : length listed ≤ length before → answer .refusal ≡ accepted
+    long-enough : length listed ≤ length before → answer .refusal ≡ noRefusal
     long-enough places = refusal-is ∙ rw (le-ltb (length before) (length listed) places)
 
     size : ListSize settings run

@@ -5,7 +5,7 @@ use mathlib.Core.Path.{_≡_, sym, ap, _∙_}
 use Prim.Native.Nat.{ℕ, _≤_}
 use lib.ListN.{length, take, drop, take-append-drop}
 use Rattle.model.specs.declared.Settings.{Settings}
-use Rattle.model.specs.Refusals.{accepted}
+use Rattle.model.specs.Refusals.{noRefusal}
 use Rattle.model.specs.Settings.{settingsRefusal}
 use Rattle.model.specs.CoordinatorMemory.{coordinatorWords}
 use Rattle.model.specs.NetworkMemory.{sitesWords, sitesIn}
@@ -15,7 +15,7 @@ use Rattle.site_memory.proofs.SitesFronts.{sitesIn-front}
 use Rattle.history.proofs.Decoded.{Lengths, SitesSound, used-at}
 
 -- Each site has its counters within its own part.
-pub network-front : {settings : Settings} (passes : settingsRefusal settings ≡ accepted)
+pub network-front : {settings : Settings} (passes : settingsRefusal settings ≡ noRefusal)
     (held : Held) (lengths : Lengths settings held) (sound : SitesSound settings held)
     (siteCount coordinatorCount : ℕ)
     → sitesWords settings ≤ length (take siteCount (held .siteMemory))

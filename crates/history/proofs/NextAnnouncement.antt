@@ -12,13 +12,13 @@ use Rattle.model.specs.declared.Settings.{Settings}
 use Rattle.model.specs.declared.Arrival.{Arrival}
 use Rattle.model.specs.declared.Message.{Message}
 use Rattle.model.specs.declared.CoordinatorRecord.{CoordinatorRecord}
-use Rattle.model.specs.Refusals.{accepted, messageNotDue}
+use Rattle.model.specs.Refusals.{noRefusal, messageNotDue}
 use Rattle.model.specs.Messages.{noMessage}
 use Rattle.model.specs.Coordinator.{CoordinatorStep, announced, isAnnouncing}
 use Rattle.model.specs.CoordinatorMemory.{coordinatorRecord, coordinatorMemory, coordinatorMemoryRefusal}
 use Rattle.model.specs.Network.{Network, askAnnouncement}
 use Rattle.model.specs.SoundClaims.{asked}
-use Rattle.model.proofs.RefusalLaws.{both-accepted}
+use Rattle.model.proofs.Thresholds.RefusalLaws.{both-accepted}
 use Rattle.coordinator.specs.declared.Received.{Received}
 use Rattle.coordinator.specs.Calls as CoordinatorCalls
 use Rattle.history.specs.State.{Held, State, networkOf, afterCoordinatorCall, sending}
@@ -37,14 +37,14 @@ module _ (settings : Settings) (before : State) where
   network = networkOf settings held
 
   module _ (answer : Received)
-      (says : CoordinatorCalls.Announces settings (held .coordinator) (held .coordinatorMemory)
+      (says : CoordinatorCalls.AnnounceSays settings (held .coordinator) (held .coordinatorMemory)
       answer)
-      (accepts : answer .refusal ≡ accepted) where
+      (accepts : answer .refusal ≡ noRefusal) where
     abbrev next : CoordinatorStep
     next = announced settings (network .coordinator)
 
     none : CoordinatorCalls.announceRefusal settings (held .coordinator) (held .coordinatorMemory)
-        ≡ accepted
+        ≡ noRefusal
     none = sym (says .refusal) ∙ accepts
 
     -- It announces, as the call accepts the wish.
@@ -57,7 +57,7 @@ module _ (settings : Settings) (before : State) where
             let rows = both-accepted
             (coordinatorMemoryRefusal settings (held .coordinator) (held .coordinatorMemory)) _
             none in
-            let refused : _≡_ {A = ℕ} messageNotDue accepted =
+            let refused : _≡_ {A = ℕ} messageNotDue noRefusal =
             rw silent at (rows .later-accepted) in
             absurd (omega arith)
 

@@ -8,17 +8,17 @@ use Prim.Native.Nat.{ℕ, _+_, _-_, _*_, _≤_, _<_}
 use borrow.Author.Tests.{le-leb, lt-leb}
 use Rattle.model.specs.declared.Settings.{Settings}
 use Rattle.model.specs.declared.Arrival.{Arrival}
-use Rattle.model.specs.Refusals.{accepted}
+use Rattle.model.specs.Refusals.{noRefusal}
 use Rattle.model.specs.Settings.{settingsRefusal}
 use Rattle.model.specs.Coordinator.{Coordinator}
 use Rattle.model.specs.CoordinatorMemory.{coordinatorWords, coordinatorMemoryRefusal}
 use Rattle.model.specs.Reading.{margin, quantileOf}
 use Rattle.model.specs.Runs.{Run, runOf}
 use Rattle.model.specs.Claims.{counted, below, above, QuantilePromise, FirmQuantile}
-use Rattle.model.proofs.Theorem.{demands-over-runs}
-use Rattle.reading.specs.declared.Margin.{Margin}
-use Rattle.reading.specs.declared.QuantileRead.{QuantileRead}
-use Rattle.reading.specs.Contracts.{ReadsMargin, ReadsQuantile}
+use Rattle.model.proofs.Runs.Theorem.{demands-over-runs}
+use Rattle.coordinator_reading.specs.declared.Margin.{Margin}
+use Rattle.coordinator_reading.specs.declared.QuantileRead.{QuantileRead}
+use Rattle.coordinator_reading.specs.Contracts.{MarginSays, QuantileSays}
 use Rattle.history.specs.State.{State, coordinatorPart}
 use Rattle.history.specs.Reading.{rulesCoordinator, MarginRight, QuantileRight, ReadsRight}
 use Rattle.history.proofs.Invariant.{StateOk, Resting}
@@ -26,7 +26,7 @@ use Rattle.history.proofs.Accepted.{memory-accepted, refused-by-rules}
 use Rattle.history.proofs.Answers.{accepted-choice}
 use Rattle.history.proofs.ListReading.{held-is, coordinator-is, tracks, over, back, list-right}
 
-module _ {settings : Settings} (passes : settingsRefusal settings ≡ accepted)
+module _ {settings : Settings} (passes : settingsRefusal settings ≡ noRefusal)
     {n : ℕ} {state : State}
     (ok : StateOk settings n state) (rest : Resting settings state) where
   abbrev c : Coordinator
@@ -39,7 +39,7 @@ module _ {settings : Settings} (passes : settingsRefusal settings ≡ accepted)
 
   module _ (words item : ℕ) (answer : Margin)
       (enough : coordinatorWords settings ≤ words)
-      (says : ReadsMargin settings (state .held .coordinator) item
+      (says : MarginSays settings (state .held .coordinator) item
       (coordinatorPart (state .held) 0 words) answer) where
     margin-right : MarginRight settings state item answer
     margin-right = record {
@@ -60,11 +60,11 @@ module _ {settings : Settings} (passes : settingsRefusal settings ≡ accepted)
 
   module _ (words : ℕ) (answer : QuantileRead)
       (enough : coordinatorWords settings ≤ words)
-      (says : ReadsQuantile settings (state .held .coordinator)
+      (says : QuantileSays settings (state .held .coordinator)
       (coordinatorPart (state .held) 0 words) answer) where
     none-refused : coordinatorMemoryRefusal settings (state .held .coordinator)
         (coordinatorPart (state .held) 0 words)
-        ≡ accepted
+        ≡ noRefusal
     none-refused = memory-accepted passes ok .of-coordinator words enough
 
     quantile-is : answer .quantile ≡ quantileOf settings c

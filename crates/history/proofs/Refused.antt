@@ -11,7 +11,7 @@ use lib.ListN.{set, take, drop, take-append-drop}
 use lib.Seq.{set-getD, drop-drop}
 use Rattle.model.specs.declared.SiteRecord.{SiteRecord}
 use Rattle.model.specs.declared.CoordinatorRecord.{CoordinatorRecord}
-use Rattle.model.specs.Refusals.{accepted}
+use Rattle.model.specs.Refusals.{noRefusal}
 use Rattle.site.specs.Calls as SiteCalls
 use Rattle.coordinator.specs.Calls as CoordinatorCalls
 use Rattle.history.specs.State.{Held, State, recordAt, partOf, coordinatorPart, lending, withPart, afterSiteCall, afterCoordinatorCall, holding, noRecord}
@@ -65,7 +65,7 @@ refused-same before after
     (arrival-refused given which arrival start words part answer says refused) =
     let refusal = SiteCalls.observeRefusal given (recordAt (before .held) which) arrival
     (partOf (before .held) start words) in
-    let no : refusal ≡ accepted → ⊥ = λ none. refused (says .refusal ∙ none) in
+    let no : refusal ≡ noRefusal → ⊥ = λ none. refused (says .refusal ∙ none) in
     ap (holding before)
     (site-same (before .held) which (answer .site)
     (withPart (before .held .siteMemory) start words part)
@@ -77,7 +77,7 @@ refused-same before after
     (site-message-refused given which number m start words answer says refused) =
     let refusal = SiteCalls.receiveRefusal given (recordAt (before .held) which) number m
     (partOf (before .held) start words) in
-    let no : refusal ≡ accepted → ⊥ = λ none. refused (says .refusal ∙ none) in
+    let no : refusal ≡ noRefusal → ⊥ = λ none. refused (says .refusal ∙ none) in
     ap (holding before)
     (site-same (before .held) which (answer .site) (before .held .siteMemory)
     (says .site ∙ refused-choice refusal _ _ no) refl)
@@ -85,7 +85,7 @@ refused-same before after
     (coordinator-message-refused given m start words part answer says refused) =
     let refusal = CoordinatorCalls.receiveRefusal given (before .held .coordinator) m
     (coordinatorPart (before .held) start words) in
-    let no : refusal ≡ accepted → ⊥ = λ none. refused (says .refusal ∙ none) in
+    let no : refusal ≡ noRefusal → ⊥ = λ none. refused (says .refusal ∙ none) in
     ap (holding before)
     (coordinator-same (before .held) (answer .coordinator)
     (withPart (before .held .coordinatorMemory) start words part)
@@ -96,7 +96,7 @@ refused-same before after
 refused-same before after (announcement-refused given start words answer says refused) =
     let refusal = CoordinatorCalls.announceRefusal given (before .held .coordinator)
     (coordinatorPart (before .held) start words) in
-    let no : refusal ≡ accepted → ⊥ = λ none. refused (says .refusal ∙ none) in
+    let no : refusal ≡ noRefusal → ⊥ = λ none. refused (says .refusal ∙ none) in
     ap (holding before)
     (coordinator-same (before .held) (answer .coordinator) (before .held .coordinatorMemory)
     (says .answer .coordinator ∙ refused-choice refusal _ _ no) refl)

@@ -16,13 +16,13 @@ use borrow.Author.Tests.{eqb-true, eqb-false, leb-true, leb-false, eq-eqb, ne-eq
 use Rattle.model.specs.declared.Settings.{Settings}
 use Rattle.model.specs.declared.Arrival.{Arrival}
 use Rattle.model.specs.Choice.{isZero}
-use Rattle.model.specs.Refusals.{accepted, memoryTooShort, unknownSite}
+use Rattle.model.specs.Refusals.{noRefusal, memoryTooShort, unknownSite}
 use Rattle.model.specs.Settings.{settingsRefusal}
 use Rattle.model.specs.Site.{arrivalRefusal}
 use Rattle.model.specs.SiteMemory.{siteWords}
 use Rattle.model.specs.Network.{Network, siteAt}
 use Rattle.model.specs.Runs.{Run, withArrival, refusalIn, runOne, runFrom, runOf, Batch, batchOf}
-use Rattle.model.proofs.ConsistentNetwork.{passes-of}
+use Rattle.model.proofs.Soundness.ConsistentNetwork.{passes-of}
 use Rattle.site_steps.specs.declared.Observed.{Observed}
 use Rattle.site.specs.Calls as SiteCalls
 use Rattle.tracker.specs.Batch.{BatchCall, BatchHeld, BatchSays, startRefusal, batchIn, logRoom}
@@ -38,7 +38,7 @@ use Rattle.history.proofs.SiteArrivals.{refusal-same}
 use Rattle.history.proofs.LentBatch.{LentBatch, nothing-changed, as-all-lent, lent-batch}
 use Rattle.history.proofs.BatchedState as Batched
 
-module _ {settings : Settings} (passes : settingsRefusal settings ≡ accepted)
+module _ {settings : Settings} (passes : settingsRefusal settings ≡ noRefusal)
     {n : ℕ} (before : State)
     (ok : StateOk settings n before) where
   abbrev held : Held
@@ -49,21 +49,21 @@ module _ {settings : Settings} (passes : settingsRefusal settings ≡ accepted)
 
   -- An arrival that the rules refuse leaves no trace.
   no-trace : (arrival : Arrival)
-      → (refusalIn settings (run .network) arrival ≡ accepted → ⊥)
+      → (refusalIn settings (run .network) arrival ≡ noRefusal → ⊥)
       → runFrom settings run (arrival ∷ []) ≡ run
   no-trace arrival refused =
       rw (ne-eqb (refusalIn settings (run .network) arrival) 0 refused)
 
   -- And so does one that the network that is held refuses, in mid-delivery too.
   no-trace-held : (arrival : Arrival)
-      → (refusalIn settings (networkOf settings held) arrival ≡ accepted → ⊥)
+      → (refusalIn settings (networkOf settings held) arrival ≡ noRefusal → ⊥)
       → runFrom settings run (arrival ∷ []) ≡ run
   no-trace-held arrival refused =
       no-trace arrival (λ none.
       refused (refusal-same passes (ok .standing) (arrival .site) arrival ∙ none))
 
   -- A refusal that is of an arrival is none.
-  some-refusal : (refusal : ℕ) → ofArrival refusal ≡ true → refusal ≡ accepted → ⊥
+  some-refusal : (refusal : ℕ) → ofArrival refusal ≡ true → refusal ≡ noRefusal → ⊥
   some-refusal refusal of none = false≢true (sym (ap ofArrival none) ∙ of)
 
   -- ---- A single draw that is refused
@@ -115,7 +115,7 @@ module _ {settings : Settings} (passes : settingsRefusal settings ≡ accepted)
         by-name false other unknown =
             no-trace arrival (λ none.
             let five : refusalIn settings (run .network) arrival ≡ unknownSite = rw unknown in
-            let same : _≡_ {A = ℕ} unknownSite accepted = sym five ∙ none in
+            let same : _≡_ {A = ℕ} unknownSite noRefusal = sym five ∙ none in
             omega arith)
 
   -- ---- A batch

@@ -17,7 +17,7 @@ use Rattle.laws.proofs.Lists.{getD-replicate-default}
 use Rattle.model.specs.declared.Settings.{Settings}
 use Rattle.model.specs.declared.Arrival.{Arrival}
 use Rattle.model.specs.Choice.{isZero}
-use Rattle.model.specs.Refusals.{accepted}
+use Rattle.model.specs.Refusals.{noRefusal}
 use Rattle.model.specs.Limits.{valueCount, mostArrivals, messageLimit}
 use Rattle.model.specs.Settings.{settingsRefusal}
 use Rattle.model.specs.Site.{freshSite}
@@ -26,21 +26,21 @@ use Rattle.model.specs.NetworkMemory.{allArrivals}
 use Rattle.model.specs.Runs.{refusalIn, Run, freshRun, runOne, runFrom, runOf}
 use Rattle.model.specs.SoundNetwork.{Sound}
 use Rattle.model.specs.NumberClaims.{allUnreported, Grown}
-use Rattle.model.proofs.SettingsLaws.{Settled, settled}
-use Rattle.model.proofs.ClosedSites.{sumBelow-allArrivals}
-use Rattle.model.proofs.RunInvariant.{run-ok}
-use Rattle.model.proofs.SoundTheorem.{sound-claims}
-use Rattle.model.proofs.NumberBounds.{arrivals-few}
-use Rattle.model.proofs.NumberTheorem.{number-claims, grown-self, grown-more}
-use Rattle.model.proofs.ConsistentCoordinator.{CoordinatorWithin}
-use Rattle.model.proofs.Theorem.{demands-over-runs}
+use Rattle.model.proofs.Thresholds.SettingsLaws.{Settled, settled}
+use Rattle.model.proofs.Deliveries.ClosedSites.{sumBelow-allArrivals}
+use Rattle.model.proofs.Runs.RunInvariant.{run-ok}
+use Rattle.model.proofs.Soundness.SoundTheorem.{sound-claims}
+use Rattle.model.proofs.Numbers.NumberBounds.{arrivals-few}
+use Rattle.model.proofs.Numbers.NumberTheorem.{number-claims, grown-self, grown-more}
+use Rattle.model.proofs.Soundness.ConsistentCoordinator.{CoordinatorWithin}
+use Rattle.model.proofs.Runs.Theorem.{demands-over-runs}
 
 -- A sound network that grew from a fresh one.
 pub record SoundRun (settings : Settings) (network : Network) : Type 0 where
   pub sound : Sound settings network
   pub grown : Grown (freshNetwork settings) network
 
-module _ (settings : Settings) (passes : settingsRefusal settings ≡ accepted) where
+module _ (settings : Settings) (passes : settingsRefusal settings ≡ noRefusal) where
   -- ---- Every run
 
   -- A refused arrival changes nothing; an accepted one leaves a sound network, grown by one.

@@ -12,7 +12,7 @@ use Rattle.model.specs.declared.Settings.{Settings}
 use Rattle.model.specs.declared.Arrival.{Arrival}
 use Rattle.model.specs.declared.Message.{Message}
 use Rattle.model.specs.declared.SiteRecord.{SiteRecord}
-use Rattle.model.specs.Refusals.{accepted}
+use Rattle.model.specs.Refusals.{noRefusal}
 use Rattle.model.specs.Settings.{settingsRefusal}
 use Rattle.model.specs.Messages.{noMessage}
 use Rattle.model.specs.Site.{Site, arrivalRefusal, observed}
@@ -22,9 +22,9 @@ use Rattle.model.specs.Runs.{runOf}
 use Rattle.model.specs.SoundNetwork.{SoundSite}
 use Rattle.model.specs.DeliveryClaims.{delivery, deliveryOf}
 use Rattle.model.specs.SoundClaims.{Reached, begun}
-use Rattle.model.proofs.RefusalLaws.{BothAccepted, both-accepted}
-use Rattle.model.proofs.SettingsLaws.{settled}
-use Rattle.model.proofs.SoundSites.{ArrivalTaken, taken-of-no-refusal, sound-observed}
+use Rattle.model.proofs.Thresholds.RefusalLaws.{BothAccepted, both-accepted}
+use Rattle.model.proofs.Thresholds.SettingsLaws.{settled}
+use Rattle.model.proofs.Soundness.SoundSites.{ArrivalTaken, taken-of-no-refusal, sound-observed}
 use Rattle.site_memory.proofs.OneSite.{Storable, storable}
 use Rattle.site_steps.specs.declared.Observed.{Observed}
 use Rattle.site.specs.Calls as SiteCalls
@@ -39,12 +39,12 @@ use Rattle.history.proofs.Answers.{accepted-choice, accepted-long, word
 
 -- ---- From any sound network
 
-module _ {settings : Settings} (passes : settingsRefusal settings ≡ accepted)
+module _ {settings : Settings} (passes : settingsRefusal settings ≡ noRefusal)
     (before : State) (rest : SoundRest settings before)
     (arrival : Arrival) (words : ℕ) (part : List ℕ) (answer : Observed)
     (says : SiteCalls.ObserveSays settings (recordAt (before .held) (arrival .site)) arrival
     (sitePart settings (before .held) (arrival .site) words) part answer)
-    (accepts : answer .refusal ≡ accepted) where
+    (accepts : answer .refusal ≡ noRefusal) where
   abbrev j : ℕ
   j = arrival .site
 
@@ -60,7 +60,7 @@ module _ {settings : Settings} (passes : settingsRefusal settings ≡ accepted)
   sites-sound : SitesSound settings held
   sites-sound = rest .sound .sites-sound
 
-  none : SiteCalls.observeRefusal settings numbers arrival given ≡ accepted
+  none : SiteCalls.observeRefusal settings numbers arrival given ≡ noRefusal
   none = sym (says .refusal) ∙ accepts
 
   parts : BothAccepted (siteMemoryRefusal settings numbers given)
@@ -91,7 +91,7 @@ module _ {settings : Settings} (passes : settingsRefusal settings ≡ accepted)
   taken-here : ArrivalTaken settings (siteAt (networkOf settings held) j) arrival
   taken-here =
       taken-of-no-refusal settings (siteAt (networkOf settings held) j) arrival
-      (subst (λ (s : Site). arrivalRefusal settings s arrival ≡ accepted) site-here
+      (subst (λ (s : Site). arrivalRefusal settings s arrival ≡ noRefusal) site-here
       (parts .later-accepted))
 
   -- An accepted arrival keeps a site sound.
@@ -186,12 +186,12 @@ module _ {settings : Settings} (passes : settingsRefusal settings ≡ accepted)
 -- ---- In a history
 
 -- The invariant when a delivery begins.
-pub single-ok : {settings : Settings} (passes : settingsRefusal settings ≡ accepted)
+pub single-ok : {settings : Settings} (passes : settingsRefusal settings ≡ noRefusal)
     {n : ℕ} (before : State) (ok : StateOk settings n before) (at-rest : AtRest before)
     (arrival : Arrival) (words : ℕ) (part : List ℕ) (answer : Observed)
     → SiteCalls.ObserveSays settings (recordAt (before .held) (arrival .site)) arrival
     (sitePart settings (before .held) (arrival .site) words) part answer
-    → answer .refusal ≡ accepted
+    → answer .refusal ≡ noRefusal
     → StateOk settings 0 (afterSingle settings before arrival words part answer)
 single-ok {settings} passes before ok at-rest arrival words part answer says accepts =
     let rest = resting-of passes ok at-rest in

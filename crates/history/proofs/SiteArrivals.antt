@@ -8,19 +8,19 @@ use Prim.Native.Nat.{ℕ}
 use lib.Dec.{leb}
 use Rattle.model.specs.declared.Settings.{Settings}
 use Rattle.model.specs.declared.Arrival.{Arrival}
-use Rattle.model.specs.Refusals.{when, _orElse_, accepted, siteFull}
+use Rattle.model.specs.Refusals.{when, _orElse_, noRefusal, siteFull}
 use Rattle.model.specs.Limits.{siteLimit}
 use Rattle.model.specs.Settings.{settingsRefusal}
 use Rattle.model.specs.Site.{addressRefusal, arrivalRefusal}
 use Rattle.model.specs.Network.{Network, Delivered, siteAt, deliveryFuel}
 use Rattle.model.specs.Runs.{Run, runOf}
 use Rattle.model.specs.DeliveryClaims.{delivery}
-use Rattle.model.proofs.NeverFewer.{arrivals-kept, steps-keep}
+use Rattle.model.proofs.Soundness.NeverFewer.{arrivals-kept, steps-keep}
 use Rattle.history.specs.State.{State, networkOf}
 use Rattle.history.proofs.Underway.{in-mid}
 use Rattle.history.proofs.Invariant.{Standing, resting, delivering, run-then}
 
-module _ {settings : Settings} (passes : settingsRefusal settings ≡ accepted)
+module _ {settings : Settings} (passes : settingsRefusal settings ≡ noRefusal)
     {n : ℕ} {state : State}
   where
     -- What the delivery comes to has the same, and that is the run.
@@ -47,5 +47,5 @@ module _ {settings : Settings} (passes : settingsRefusal settings ≡ accepted)
         ap (λ (arrivals : ℕ).
         addressRefusal settings arrival
         orElse when (leb siteLimit arrivals) siteFull
-        orElse accepted)
+        orElse noRefusal)
         (arrivals-same standing j)

@@ -11,14 +11,14 @@ use borrow.Author.Tests.{le-ltb, lt-leb}
 use Rattle.model.specs.declared.Settings.{Settings}
 use Rattle.model.specs.declared.Arrival.{Arrival}
 use Rattle.model.specs.declared.Message.{Message}
-use Rattle.model.specs.Refusals.{accepted}
+use Rattle.model.specs.Refusals.{noRefusal}
 use Rattle.model.specs.Settings.{settingsRefusal}
 use Rattle.model.specs.Site.{Site, arrivalRefusal, siteMessageRefusal}
 use Rattle.model.specs.SiteMemory.{siteWords, siteIn, siteMemoryRefusal}
 use Rattle.model.specs.Coordinator.{Coordinator}
 use Rattle.model.specs.CoordinatorMemory.{coordinatorWords, coordinatorIn, coordinatorMemoryRefusal}
 use Rattle.model.specs.Network.{siteAt}
-use Rattle.model.proofs.ConsistentCoordinator.{coordinator-consistent-of}
+use Rattle.model.proofs.Soundness.ConsistentCoordinator.{coordinator-consistent-of}
 use Rattle.site.specs.Calls as SiteCalls
 use Rattle.history.specs.State.{Held, networkOf, recordAt, sitePart, coordinatorPart}
 use Rattle.history.proofs.SiteParts.{front-long}
@@ -26,13 +26,13 @@ use Rattle.history.proofs.CoordinatorFronts.{on-front}
 use Rattle.history.proofs.Decoded.{Lengths, site-part, site-memory-accepted}
 use Rattle.history.proofs.Underway.{SoundParts}
 
-module _ {settings : Settings} (passes : settingsRefusal settings ≡ accepted) (held : Held)
+module _ {settings : Settings} (passes : settingsRefusal settings ≡ noRefusal) (held : Held)
     (lengths : Lengths settings held) (parts : SoundParts settings (networkOf settings held)) where
   -- ---- The coordinator
 
   -- Its own record and memory.
   pub coordinator-accepted :
-      coordinatorMemoryRefusal settings (held .coordinator) (held .coordinatorMemory) ≡ accepted
+      coordinatorMemoryRefusal settings (held .coordinator) (held .coordinatorMemory) ≡ noRefusal
   coordinator-accepted =
       rw (
         passes,
@@ -48,7 +48,7 @@ module _ {settings : Settings} (passes : settingsRefusal settings ≡ accepted) 
       → of
       (coordinatorMemoryRefusal settings (held .coordinator) (coordinatorPart held 0 words))
       (coordinatorIn settings (held .coordinator) (coordinatorPart held 0 words))
-      ≡ of accepted (networkOf settings held .coordinator)
+      ≡ of noRefusal (networkOf settings held .coordinator)
   coordinator-front words of enough =
       on-front settings (held .coordinator) words (held .coordinatorMemory)
       (front-long (coordinatorWords settings) words (held .coordinatorMemory) enough
@@ -64,7 +64,7 @@ module _ {settings : Settings} (passes : settingsRefusal settings ≡ accepted) 
     -- A site's own record, with at least its own numbers.
     pub site-accepted : siteMemoryRefusal settings (recordAt held which)
         (sitePart settings held which words)
-        ≡ accepted
+        ≡ noRefusal
     site-accepted =
         site-memory-accepted passes held lengths (parts .sites-sound) which known words enough
 

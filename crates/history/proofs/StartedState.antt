@@ -9,7 +9,7 @@ use lib.ListN.{length, drop, replicate, length-replicate, replicate-append-repli
 use lib.Seq.{take-at}
 use Rattle.laws.proofs.FlatMemory.{length-overwritten}
 use Rattle.model.specs.declared.Settings.{Settings}
-use Rattle.model.specs.Refusals.{accepted}
+use Rattle.model.specs.Refusals.{noRefusal}
 use Rattle.model.specs.Limits.{mostSites, valueCount}
 use Rattle.model.specs.Settings.{settingsRefusal}
 use Rattle.model.specs.Site.{freshSite}
@@ -18,8 +18,8 @@ use Rattle.model.specs.Coordinator.{Coordinator, freshCoordinator}
 use Rattle.model.specs.CoordinatorMemory.{coordinatorWords, coordinatorIn, coordinatorRecord, coordinatorMemory}
 use Rattle.model.specs.Network.{freshNetwork}
 use Rattle.model.specs.NetworkMemory.{sitesWords, sitesIn, freshSites}
-use Rattle.model.proofs.TestedMemory.{length-tested}
-use Rattle.model.proofs.SettingsLaws.{Settled, settled}
+use Rattle.model.proofs.Thresholds.TestedMemory.{length-tested}
+use Rattle.model.proofs.Thresholds.SettingsLaws.{Settled, settled}
 use Rattle.coordinator_kinds.proofs.MemoryLaws.{written-coordinator}
 use Rattle.site.specs.declared.StartedSites.{StartedSites}
 use Rattle.site.specs.Calls as SiteCalls
@@ -36,7 +36,7 @@ use Rattle.history.proofs.Invariant.{StateOk, resting}
 
 -- ---- The two memories
 
-module _ (settings : Settings) (passes : settingsRefusal settings ≡ accepted)
+module _ (settings : Settings) (passes : settingsRefusal settings ≡ noRefusal)
     (sitesBefore coordinatorBefore : List ℕ)
     (sites-long : sitesWords settings ≤ length sitesBefore)
     (coordinator-long : coordinatorWords settings ≤ length coordinatorBefore) where
@@ -126,19 +126,20 @@ module _ (settings : Settings) (passes : settingsRefusal settings ≡ accepted)
 
 module _ (settings : Settings) (sitesBefore sitesAfter coordinatorBefore coordinatorAfter : List ℕ)
     (sites : StartedSites) (coordinator : StartedCoordinator)
-    (sites-say : SiteCalls.StartSays settings sitesBefore sitesAfter sites)
-    (sites-accepted : sites .refusal ≡ accepted)
-    (coordinator-says : CoordinatorCalls.Starts settings coordinatorBefore coordinatorAfter
+    (sites-say : SiteCalls.StartSitesSays settings sitesBefore sitesAfter sites)
+    (sites-accepted : sites .refusal ≡ noRefusal)
+    (coordinator-says : CoordinatorCalls.StartCoordinatorSays settings coordinatorBefore
+    coordinatorAfter
     coordinator)
-    (coordinator-accepted : coordinator .refusal ≡ accepted) where
-  none-sites : SiteCalls.startRefusal settings sitesBefore ≡ accepted
+    (coordinator-accepted : coordinator .refusal ≡ noRefusal) where
+  none-sites : SiteCalls.startRefusal settings sitesBefore ≡ noRefusal
   none-sites = sym (sites-say .refusal) ∙ sites-accepted
 
-  none-coordinator : CoordinatorCalls.startRefusal settings (length coordinatorBefore) ≡ accepted
+  none-coordinator : CoordinatorCalls.startRefusal settings (length coordinatorBefore) ≡ noRefusal
   none-coordinator = sym (coordinator-says .refusal) ∙ coordinator-accepted
 
   -- A start that is accepted had settings that pass.
-  pub start-passes : settingsRefusal settings ≡ accepted
+  pub start-passes : settingsRefusal settings ≡ noRefusal
   start-passes =
       length-tested settings (sitesWords settings) (length sitesBefore) _ none-sites
       .settings-accepted

@@ -11,13 +11,13 @@ use lib.ListN.{length, take, drop, length-append, take-append-drop}
 use lib.Seq.{take-append-seam}
 use Rattle.model.specs.declared.Settings.{Settings}
 use Rattle.model.specs.declared.Arrival.{Arrival}
-use Rattle.model.specs.Refusals.{accepted}
+use Rattle.model.specs.Refusals.{noRefusal}
 use Rattle.model.specs.Limits.{messagesPerArrival, allowanceFactor, firmMessages, firmMessagesPerDigit}
 use Rattle.model.specs.Settings.{settingsRefusal, digits, allowance}
 use Rattle.model.specs.Network.{Network}
 use Rattle.model.specs.Runs.{Run, runOf}
 use Rattle.model.specs.Claims.{counted, FewMessages}
-use Rattle.model.proofs.Theorem.{demands-over-runs}
+use Rattle.model.proofs.Runs.Theorem.{demands-over-runs}
 use Rattle.history.specs.State.{State, networkWritten}
 use Rattle.history.specs.Histories.{Reachable, heldAtStart}
 use Rattle.history.specs.Reading.{FirmShare}
@@ -42,7 +42,7 @@ use Rattle.history.proofs.KeptOut.{nothing-lost}
 
 -- ---- Each demand
 
-module _ (settings : Settings) (state : State) (passes : settingsRefusal settings ≡ accepted)
+module _ (settings : Settings) (state : State) (passes : settingsRefusal settings ≡ noRefusal)
     (reachable : Reachable settings state) where
   there : Arisen settings state
   there = arisen passes state reachable

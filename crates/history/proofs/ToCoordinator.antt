@@ -11,7 +11,7 @@ use lib.ListN.{take}
 use Rattle.model.specs.declared.Settings.{Settings}
 use Rattle.model.specs.declared.Arrival.{Arrival}
 use Rattle.model.specs.declared.Message.{Message}
-use Rattle.model.specs.Refusals.{accepted}
+use Rattle.model.specs.Refusals.{noRefusal}
 use Rattle.model.specs.Settings.{settingsRefusal}
 use Rattle.model.specs.Messages.{noMessage, toCoordinator}
 use Rattle.model.specs.Coordinator.{CoordinatorStep, coordinatorReceives}
@@ -31,7 +31,7 @@ use Rattle.history.proofs.Underway.{Underway}
 use Rattle.history.proofs.Answers.{accepted-choice}
 use Rattle.history.proofs.DeliveredStep.{goes-on, handed-on, coordinator-sound-then}
 
-module _ {settings : Settings} (passes : settingsRefusal settings ≡ accepted)
+module _ {settings : Settings} (passes : settingsRefusal settings ≡ noRefusal)
     {origin : Network} {arrival : Arrival} {past : List Message} {n : ℕ} (before : State)
     (mid : Underway settings origin arrival past n before) where
   abbrev held : Held
@@ -47,14 +47,15 @@ module _ {settings : Settings} (passes : settingsRefusal settings ≡ accepted)
       (memory : List ℕ) (answer : Received)
       (waits : before .waiting ≡ m ∷ later)
       (way : toCoordinator m ≡ true)
-      (says : CoordinatorCalls.Receives settings (held .coordinator) m (held .coordinatorMemory)
+      (says : CoordinatorCalls.CoordinatorReceiveSays settings (held .coordinator) m
+      (held .coordinatorMemory)
       memory answer)
-      (accepts : answer .refusal ≡ accepted) where
+      (accepts : answer .refusal ≡ noRefusal) where
     abbrev step : CoordinatorStep
     step = coordinatorReceives settings (network .coordinator) m
 
     none : CoordinatorCalls.receiveRefusal settings (held .coordinator) m (held .coordinatorMemory)
-        ≡ accepted
+        ≡ noRefusal
     none = sym (says .refusal) ∙ accepts
 
     over : handOver settings network m ≡ handToCoordinator settings network m

@@ -12,7 +12,7 @@ use Rattle.model.specs.declared.Settings.{Settings}
 use Rattle.model.specs.declared.Arrival.{Arrival}
 use Rattle.model.specs.declared.Message.{Message}
 use Rattle.model.specs.declared.SiteRecord.{SiteRecord}
-use Rattle.model.specs.Refusals.{when, _orElse_, accepted, unknownSite}
+use Rattle.model.specs.Refusals.{when, _orElse_, noRefusal, unknownSite}
 use Rattle.model.specs.Settings.{settingsRefusal}
 use Rattle.model.specs.Messages.{noMessage, toCoordinator}
 use Rattle.model.specs.Site.{Site, siteReceives, siteMessageRefusal}
@@ -20,8 +20,8 @@ use Rattle.model.specs.SiteMemory.{siteWords, siteIn, siteRecord, siteMemoryRef
 use Rattle.model.specs.Network.{Network, Delivered, siteAt, handToSite, handOver}
 use Rattle.model.specs.DeliveryClaims.{joining, deliveryOf}
 use Rattle.model.specs.SoundClaims.{Reached}
-use Rattle.model.proofs.RefusalLaws.{BothAccepted, both-accepted}
-use Rattle.model.proofs.SettingsLaws.{site-known}
+use Rattle.model.proofs.Thresholds.RefusalLaws.{BothAccepted, both-accepted}
+use Rattle.model.proofs.Thresholds.SettingsLaws.{site-known}
 use Rattle.site_steps.specs.declared.Replied.{Replied}
 use Rattle.site.specs.Calls as SiteCalls
 use Rattle.history.specs.State.{Held, State, networkOf, recordAt, siteStart, sitePart, afterSiteCall, sending}
@@ -32,7 +32,7 @@ use Rattle.history.proofs.Underway.{Underway, in-mid}
 use Rattle.history.proofs.Answers.{accepted-choice, accepted-long, words-enough}
 use Rattle.history.proofs.DeliveredStep.{goes-on, handed-on}
 
-module _ {settings : Settings} (passes : settingsRefusal settings ≡ accepted)
+module _ {settings : Settings} (passes : settingsRefusal settings ≡ noRefusal)
     {origin : Network} {arrival : Arrival} {past : List Message} {n : ℕ} (before : State)
     (mid : Underway settings origin arrival past n before) where
   abbrev held : Held
@@ -51,16 +51,16 @@ module _ {settings : Settings} (passes : settingsRefusal settings ≡ accepted)
       (words : ℕ) (answer : Replied)
       (waits : before .waiting ≡ m ∷ later)
       (way : toCoordinator m ≡ false)
-      (says : SiteCalls.ReceiveSays settings (recordAt held (m .site)) (m .site) m
+      (says : SiteCalls.SiteReceiveSays settings (recordAt held (m .site)) (m .site) m
       (sitePart settings held (m .site) words) answer)
-      (accepts : answer .refusal ≡ accepted) where
+      (accepts : answer .refusal ≡ noRefusal) where
     abbrev j : ℕ
     j = m .site
 
     abbrev given : List ℕ
     given = sitePart settings held j words
 
-    none : SiteCalls.receiveRefusal settings (recordAt held j) j m given ≡ accepted
+    none : SiteCalls.receiveRefusal settings (recordAt held j) j m given ≡ noRefusal
     none = sym (says .refusal) ∙ accepts
 
     rows : BothAccepted (siteMemoryRefusal settings (recordAt held j) given)

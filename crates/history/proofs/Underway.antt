@@ -16,15 +16,15 @@ use native.Mathlib.Omega.{arith}
 use Rattle.model.specs.declared.Settings.{Settings}
 use Rattle.model.specs.declared.Arrival.{Arrival}
 use Rattle.model.specs.declared.Message.{Message}
-use Rattle.model.specs.Refusals.{accepted}
+use Rattle.model.specs.Refusals.{noRefusal}
 use Rattle.model.specs.Settings.{settingsRefusal}
 use Rattle.model.specs.Network.{Network, Delivered, siteAt, deliveryFuel, afterArrival}
 use Rattle.model.specs.Runs.{refusalIn}
 use Rattle.model.specs.SoundNetwork.{SoundSite, SoundCoordinator, Sound}
 use Rattle.model.specs.DeliveryClaims.{Delivery, delivery, deliverySteps, deliveryOf}
 use Rattle.model.specs.SoundClaims.{Reached, InMidDelivery}
-use Rattle.model.proofs.SoundTheorem.{sound-claims}
-use Rattle.model.proofs.ConsistentCoordinator.{CoordinatorWithin}
+use Rattle.model.proofs.Soundness.SoundTheorem.{sound-claims}
+use Rattle.model.proofs.Soundness.ConsistentCoordinator.{CoordinatorWithin}
 use Rattle.history.specs.State.{State, networkOf}
 use Rattle.history.proofs.DeliveryLogs.{LogGrows, steps-grow}
 use Rattle.history.proofs.Decoded.{Lengths}
@@ -46,7 +46,7 @@ pub record Underway
     (n : ℕ)
     (state : State) : Type 0 where
   pub origin-sound : Sound settings origin
-  pub taken : refusalIn settings origin arrival ≡ accepted
+  pub taken : refusalIn settings origin arrival ≡ noRefusal
   pub lengths : Lengths settings (state .held)
   -- the messages since the arrival
   pub log : List Message
@@ -62,7 +62,7 @@ pub record SoundParts (settings : Settings) (network : Network) : Type 0 where
 
 -- ---- What it is worth
 
-module _ {settings : Settings} (passes : settingsRefusal settings ≡ accepted)
+module _ {settings : Settings} (passes : settingsRefusal settings ≡ noRefusal)
     {origin : Network} {arrival : Arrival} {past : List Message} {n : ℕ} {state : State}
     (mid : Underway settings origin arrival past n state)
   where

@@ -13,7 +13,7 @@
 -- In all of them n is `counted (state .accepted)`: the arrivals accepted so far.
 use mathlib.Core.Path.{_≡_}
 use Rattle.model.specs.declared.Settings.{Settings}
-use Rattle.model.specs.Refusals.{accepted}
+use Rattle.model.specs.Refusals.{noRefusal}
 use Rattle.model.specs.Settings.{settingsRefusal}
 use Rattle.history.specs.State.{State}
 use Rattle.history.specs.Histories.{Step, Reachable, heldAtStart}
@@ -26,24 +26,24 @@ pub use Rattle.history.specs.Given.{givenIn, AsGiven, NothingLost}
 -- For all settings that pass their test and all states that a history reaches.
 pub record Demands : Type 0 where
   pub first : (settings : Settings) (state : State)
-      → settingsRefusal settings ≡ accepted
+      → settingsRefusal settings ≡ noRefusal
       → Reachable settings state
       → First settings state
   pub second : (settings : Settings) (state : State)
-      → settingsRefusal settings ≡ accepted
+      → settingsRefusal settings ≡ noRefusal
       → Reachable settings state
       → Second settings state
   pub whole : (settings : Settings) (state : State)
-      → settingsRefusal settings ≡ accepted
+      → settingsRefusal settings ≡ noRefusal
       → (reachable : Reachable settings state)
       → Whole settings (heldAtStart reachable) state
   pub third : (settings : Settings) (state : State)
-      → settingsRefusal settings ≡ accepted
+      → settingsRefusal settings ≡ noRefusal
       → Reachable settings state
       → Third settings state
   -- of the draws given in a history, refused ones too
   pub given : (settings : Settings) (state : State)
-      → settingsRefusal settings ≡ accepted
+      → settingsRefusal settings ≡ noRefusal
       → (history : Reachable settings state)
       → AsGiven settings (givenIn history) state
   pub nothing-lost : (settings : Settings) (before after : State)

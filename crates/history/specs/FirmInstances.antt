@@ -13,7 +13,7 @@ use Rattle.model.specs.declared.Settings.{Settings}
 use Rattle.model.specs.declared.Arrival.{Arrival}
 use Rattle.model.specs.declared.Message.{Message}
 use Rattle.model.specs.declared.Phase.the-variants.{Idle}
-use Rattle.model.specs.Refusals.{accepted}
+use Rattle.model.specs.Refusals.{noRefusal}
 use Rattle.model.specs.Settings.{settingsWith, settingsRefusal}
 use Rattle.model.specs.Messages.{itemReport, countReport, poll, pollAnswer, probe, probeAnswer, announcement}
 use Rattle.model.specs.Site.{freshSite}
@@ -21,8 +21,8 @@ use Rattle.model.specs.SiteMemory.{siteRecord}
 use Rattle.model.specs.Reading.{heavyHitters}
 use Rattle.model.specs.Claims.{counted, countOf}
 use Rattle.model.specs.Instances.{settingsA, arrivalWith, coordinatorAfter}
-use Rattle.listing.specs.declared.Listed.{Listed}
-use Rattle.listing.specs.Contracts.{Lists}
+use Rattle.coordinator_list.specs.declared.Listed.{Listed}
+use Rattle.coordinator_list.specs.Contracts.{ListSays}
 use Rattle.history.specs.State.{State, coordinatorPart}
 use Rattle.history.specs.Histories.{Reachable}
 use Rattle.history.specs.Reading.{FirmShare}
@@ -127,7 +127,7 @@ pub record FirmInstances : Type 0 where
   pub seven-reached : Reachable settingsA afterSeven
   -- "total 6, codes 0 and 1 listed": what the list call then answers
   pub total-6 : afterSeven .held .coordinator .total ≡ 6
-  pub two-listed : Lists settingsA (afterSeven .held .coordinator)
+  pub two-listed : ListSays settingsA (afterSeven .held .coordinator)
       (coordinatorPart (afterSeven .held) 0 1034) threeBefore threeAfter answerOfTwo
   -- "code 0: 6000 × 3 ≥ 1000 × 7"
   pub three-of-code-0 : countOf 0 sevenDraws ≡ 3
@@ -144,7 +144,7 @@ pub record FirmInstances : Type 0 where
       < 6 * settings400 .phi * counted fortyFour
   -- demand 2's "none below p - e" follows
   pub within-leeway : (settings : Settings) (item : ℕ) (arrivals : List Arrival)
-      → settingsRefusal settings ≡ accepted
+      → settingsRefusal settings ≡ noRefusal
       → FirmShare settings item arrivals
       → (settings .phi - settings .epsilon) * counted arrivals ≤ 1000 * countOf item arrivals
   -- share 300 with leeway 60: a listed code has a quarter of all draws

@@ -17,7 +17,7 @@ use Rattle.model.specs.declared.Settings.{Settings}
 use Rattle.model.specs.declared.Arrival.{Arrival}
 use Rattle.model.specs.declared.Message.{Message}
 use Rattle.model.specs.declared.Phase.the-variants.{Idle}
-use Rattle.model.specs.Refusals.{when, accepted, unknownItem, listTooShort}
+use Rattle.model.specs.Refusals.{when, noRefusal, unknownItem, listTooShort}
 use Rattle.model.specs.Limits.{mostSteps}
 use Rattle.model.specs.Messages.{toCoordinator}
 use Rattle.model.specs.Site.{arrivalRefusal, siteMessageRefusal}
@@ -30,8 +30,8 @@ use Rattle.model.specs.Reading.{heavyHitters}
 use Rattle.model.specs.Runs.{batchOf}
 use Rattle.site.specs.Calls as SiteCalls
 use Rattle.coordinator.specs.Calls as CoordinatorCalls
-use Rattle.reading.specs.Contracts.{marginRefusal}
-use Rattle.listing.specs.Contracts.{listRefusal}
+use Rattle.coordinator_reading.specs.Contracts.{marginRefusal}
+use Rattle.coordinator_list.specs.Contracts.{listRefusal}
 use Rattle.tracker.specs.Batch.{BatchHeld, BatchSays, logRoom}
 use Rattle.history.specs.State.{State, AtRest, networkOf, heldRefusal, recordAt, sitePart, coordinatorPart, fronts, lending}
 use Rattle.history.specs.Histories.{batchCall, Refuses, Deliveries}
@@ -44,20 +44,20 @@ pub record MemoryAccepted (settings : Settings) (state : State) : Type 0 where
       → siteWords settings ≤ words
       → siteMemoryRefusal settings (recordAt (state .held) which)
       (sitePart settings (state .held) which words)
-      ≡ accepted
+      ≡ noRefusal
   -- the coordinator's own record with as much of its memory, in mid-delivery too
   pub of-coordinator : (words : ℕ)
       → coordinatorWords settings ≤ words
       → coordinatorMemoryRefusal settings (state .held .coordinator)
       (coordinatorPart (state .held) 0 words)
-      ≡ accepted
+      ≡ noRefusal
   -- all records with as much of both memories, at rest
   pub of-network : (siteCount coordinatorCount : ℕ)
       → sitesWords settings ≤ siteCount
       → coordinatorWords settings ≤ coordinatorCount
       → AtRest state
       → heldRefusal settings (lending (state .held) (fronts siteCount coordinatorCount))
-      ≡ accepted
+      ≡ noRefusal
 
 -- So each call is refused by the number that the rules give its arrival or message, and is accepted
 -- where they give none.
@@ -123,21 +123,21 @@ pub record DeliveryGoesOn (settings : Settings) (state : State) : Type 0 where
       → coordinatorWords settings ≤ words
       → CoordinatorCalls.receiveRefusal settings (state .held .coordinator) m
       (coordinatorPart (state .held) 0 words)
-      ≡ accepted
+      ≡ noRefusal
   pub site-accepts : (m : Message) (later : List Message) (words : ℕ)
       → state .waiting ≡ m ∷ later
       → toCoordinator m ≡ false
       → siteWords settings ≤ words
       → SiteCalls.receiveRefusal settings (recordAt (state .held) (m .site)) (m .site) m
       (sitePart settings (state .held) (m .site) words)
-      ≡ accepted
+      ≡ noRefusal
   -- a kind 7 is handed out while the coordinator announces
   pub announcement-accepted : (words : ℕ)
       → isAnnouncing (state .held .coordinator .phase) ≡ true
       → coordinatorWords settings ≤ words
       → CoordinatorCalls.announceRefusal settings (state .held .coordinator)
       (coordinatorPart (state .held) 0 words)
-      ≡ accepted
+      ≡ noRefusal
   -- where nothing waits and no kind 7 is to come, the coordinator is idle
   pub rests-at-end : state .waiting ≡ []
       → isAnnouncing (state .held .coordinator .phase) ≡ false

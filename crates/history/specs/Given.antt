@@ -18,7 +18,7 @@ use lib.ListN.{take, drop}
 use Rattle.model.specs.declared.Settings.{Settings}
 use Rattle.model.specs.declared.Arrival.{Arrival}
 use Rattle.model.specs.Choice.{if_then_else_, between, isZero}
-use Rattle.model.specs.Refusals.{accepted, unknownSite, siteFull}
+use Rattle.model.specs.Refusals.{noRefusal, unknownSite, siteFull}
 use Rattle.model.specs.Runs.{runOf}
 use Rattle.tracker_steps.specs.Steps.{BatchHeld}
 use Rattle.history.specs.State.{State, siteStart, Slices}
@@ -111,9 +111,9 @@ handedBy {settings} (refuses step) = handedRefused settings step
 abbrev pub refusalOfRefused : {before after : State} → Refuses before after → ℕ
 refusalOfRefused (arrival-refused given which arrival start words part answer _ _) =
     answer .refusal
-refusalOfRefused (site-message-refused _ _ _ _ _ _ _ _ _) = accepted
-refusalOfRefused (coordinator-message-refused _ _ _ _ _ _ _ _) = accepted
-refusalOfRefused (announcement-refused _ _ _ _ _ _) = accepted
+refusalOfRefused (site-message-refused _ _ _ _ _ _ _ _ _) = noRefusal
+refusalOfRefused (coordinator-message-refused _ _ _ _ _ _ _ _) = noRefusal
+refusalOfRefused (announcement-refused _ _ _ _ _ _) = noRefusal
 refusalOfRefused (batch-accepts-nothing given slices arrivals log answer _ _) =
     answer .refusal
 
@@ -122,7 +122,7 @@ abbrev pub refusalBy : {settings : Settings} {before after : State}
     → ℕ
 refusalBy (arrives (batch _ _ arrivals log answer _ _)) = answer .refusal
 refusalBy (arrives (single arrival words part answer _ _ _)) = answer .refusal
-refusalBy (delivers step) = accepted
+refusalBy (delivers step) = noRefusal
 refusalBy (refuses step) = refusalOfRefused step
 
 -- ---- The draws given in a history
@@ -163,5 +163,5 @@ pub record AsGiven (settings : Settings) (given : List Arrival) (state : State) 
 pub record NothingLost {settings : Settings} {before after : State}
     (step : Step settings before after) : Type 0 where
   pub all-named : givenBy step ++ keptOutBy step ≡ handedBy step .arrivals
-  pub none-kept-out : refusalBy step ≡ accepted
+  pub none-kept-out : refusalBy step ≡ noRefusal
       → keptOutBy step ≡ []

@@ -20,15 +20,15 @@ use Rattle.model.specs.declared.Arrival.{Arrival}
 use Rattle.model.specs.declared.Message.{Message}
 use Rattle.model.specs.declared.Sites.{Sites}
 use Rattle.model.specs.declared.CoordinatorRecord.{CoordinatorRecord}
-use Rattle.model.specs.Refusals.{accepted}
+use Rattle.model.specs.Refusals.{noRefusal}
 use Rattle.model.specs.Messages.{toCoordinator}
 use Rattle.site_steps.specs.declared.Observed.{Observed}
 use Rattle.site_steps.specs.declared.Replied.{Replied}
 use Rattle.site.specs.declared.StartedSites.{StartedSites}
-use Rattle.site.specs.Calls.{StartSays, ObserveSays, ReceiveSays}
+use Rattle.site.specs.Calls.{StartSitesSays, ObserveSays, SiteReceiveSays}
 use Rattle.coordinator.specs.declared.StartedCoordinator.{StartedCoordinator}
 use Rattle.coordinator.specs.declared.Received.{Received}
-use Rattle.coordinator.specs.Calls.{Starts, Receives, Announces}
+use Rattle.coordinator.specs.Calls.{StartCoordinatorSays, CoordinatorReceiveSays, AnnounceSays}
 use Rattle.tracker.specs.Batch.{BatchCall, BatchHeld, BatchSays, messagesIn}
 use Rattle.history.specs.State.{Held, heldBy, State, AtRest, recordAt, partOf, siteStart, sitePart, coordinatorPart, Slices, fronts, lending, withPart, putBack, afterSiteCall, afterCoordinatorCall, holding, sending}
 
@@ -86,7 +86,7 @@ pub data Arrives (settings : Settings) (before : State) : State → Type 0 where
       → AtRest before
       → ObserveSays settings (recordAt (before .held) (arrival .site)) arrival
       (sitePart settings (before .held) (arrival .site) words) part answer
-      → answer .refusal ≡ accepted
+      → answer .refusal ≡ noRefusal
       → Arrives settings before (afterSingle settings before arrival words part answer)
 
 -- ---- Delivery
@@ -107,9 +107,10 @@ pub data Delivers (settings : Settings) (before : State) : State → Type 0 wher
       (answer : Received)
       → before .waiting ≡ m ∷ later
       → toCoordinator m ≡ true
-      → Receives settings (before .held .coordinator) m (coordinatorPart (before .held) 0 words)
+      → CoordinatorReceiveSays settings (before .held .coordinator) m
+      (coordinatorPart (before .held) 0 words)
       part answer
-      → answer .refusal ≡ accepted
+      → answer .refusal ≡ noRefusal
       → Delivers settings before
       (sending before
       (afterCoordinatorCall (before .held) (answer .coordinator)
@@ -119,18 +120,18 @@ pub data Delivers (settings : Settings) (before : State) : State → Type 0 wher
   to-site : (m : Message) (later : List Message) (words : ℕ) (answer : Replied)
       → before .waiting ≡ m ∷ later
       → toCoordinator m ≡ false
-      → ReceiveSays settings (recordAt (before .held) (m .site)) (m .site) m
+      → SiteReceiveSays settings (recordAt (before .held) (m .site)) (m .site) m
       (sitePart settings (before .held) (m .site) words) answer
-      → answer .refusal ≡ accepted
+      → answer .refusal ≡ noRefusal
       → Delivers settings before
       (sending before
       (afterSiteCall (before .held) (m .site) (answer .site) (before .held .siteMemory)) later
       (answeredOut answer))
   -- the next kind 7 is asked for and handed out, whatever waits
   next-announcement : (words : ℕ) (answer : Received)
-      → Announces settings (before .held .coordinator) (coordinatorPart (before .held) 0 words)
+      → AnnounceSays settings (before .held .coordinator) (coordinatorPart (before .held) 0 words)
       answer
-      → answer .refusal ≡ accepted
+      → answer .refusal ≡ noRefusal
       → Delivers settings before
       (sending before
       (afterCoordinatorCall (before .held) (answer .coordinator) (before .held .coordinatorMemory))
@@ -146,31 +147,31 @@ pub data Refuses (before : State) : State → Type 0 where
       (part : List ℕ) (answer : Observed)
       → ObserveSays given (recordAt (before .held) which) arrival
       (partOf (before .held) start words) part answer
-      → (answer .refusal ≡ accepted → ⊥)
+      → (answer .refusal ≡ noRefusal → ⊥)
       → Refuses before
       (holding before
       (afterSiteCall (before .held) which (answer .site)
       (withPart (before .held .siteMemory) start words part)))
   site-message-refused : (given : Settings) (which number : ℕ) (m : Message) (start words : ℕ)
       (answer : Replied)
-      → ReceiveSays given (recordAt (before .held) which) number m
+      → SiteReceiveSays given (recordAt (before .held) which) number m
       (partOf (before .held) start words) answer
-      → (answer .refusal ≡ accepted → ⊥)
+      → (answer .refusal ≡ noRefusal → ⊥)
       → Refuses before
       (holding before
       (afterSiteCall (before .held) which (answer .site) (before .held .siteMemory)))
   coordinator-message-refused : (given : Settings) (m : Message) (start words : ℕ)
       (part : List ℕ) (answer : Received)
-      → Receives given (before .held .coordinator) m
+      → CoordinatorReceiveSays given (before .held .coordinator) m
       (coordinatorPart (before .held) start words) part answer
-      → (answer .refusal ≡ accepted → ⊥)
+      → (answer .refusal ≡ noRefusal → ⊥)
       → Refuses before
       (holding before (afterCoordinatorCall (before .held) (answer .coordinator)
       (withPart (before .held .coordinatorMemory) start words part)))
   announcement-refused : (given : Settings) (start words : ℕ) (answer : Received)
-      → Announces given (before .held .coordinator) (coordinatorPart (before .held) start words)
+      → AnnounceSays given (before .held .coordinator) (coordinatorPart (before .held) start words)
       answer
-      → (answer .refusal ≡ accepted → ⊥)
+      → (answer .refusal ≡ noRefusal → ⊥)
       → Refuses before
       (holding before
       (afterCoordinatorCall (before .held) (answer .coordinator)
@@ -208,10 +209,11 @@ pub data Reachable (settings : Settings) : State → Type 0 where
   started : (siteMemory : List ℕ) (siteCount : ℕ) (sitePart : List ℕ) (sites : StartedSites)
       (coordinatorMemory : List ℕ) (coordinatorCount : ℕ) (coordinatorPart : List ℕ)
       (coordinator : StartedCoordinator)
-      → StartSays settings (take siteCount siteMemory) sitePart sites
-      → sites .refusal ≡ accepted
-      → Starts settings (take coordinatorCount coordinatorMemory) coordinatorPart coordinator
-      → coordinator .refusal ≡ accepted
+      → StartSitesSays settings (take siteCount siteMemory) sitePart sites
+      → sites .refusal ≡ noRefusal
+      → StartCoordinatorSays settings (take coordinatorCount coordinatorMemory) coordinatorPart
+      coordinator
+      → coordinator .refusal ≡ noRefusal
       → Reachable settings
       (startState (sites .sites) (coordinator .coordinator)
       (withPart siteMemory 0 siteCount sitePart)

@@ -15,18 +15,18 @@ use lib.ListN.{length, getD, take}
 use Rattle.model.specs.declared.Settings.{Settings}
 use Rattle.model.specs.declared.Arrival.{Arrival}
 use Rattle.model.specs.declared.Quantile.the-variants.{Nothing, Value}
-use Rattle.model.specs.Refusals.{accepted, unknownItem, listTooShort}
+use Rattle.model.specs.Refusals.{noRefusal, unknownItem, listTooShort}
 use Rattle.model.specs.Coordinator.{Coordinator}
 use Rattle.model.specs.CoordinatorMemory.{coordinatorWords}
 use Rattle.model.specs.Limits.{topValue}
 use Rattle.model.specs.Reading.{neededSide, heavyHitters, mostListed, margin, quantileOf}
 use Rattle.model.specs.Runs.{runOf}
 use Rattle.model.specs.Claims.{counted, countOf, below, above, contains}
-use Rattle.reading.specs.declared.Margin.{Margin}
-use Rattle.reading.specs.declared.QuantileRead.{QuantileRead}
-use Rattle.reading.specs.Contracts.{ReadsMargin, ReadsQuantile}
-use Rattle.listing.specs.declared.Listed.{Listed}
-use Rattle.listing.specs.Contracts.{Lists}
+use Rattle.coordinator_reading.specs.declared.Margin.{Margin}
+use Rattle.coordinator_reading.specs.declared.QuantileRead.{QuantileRead}
+use Rattle.coordinator_reading.specs.Contracts.{MarginSays, QuantileSays}
+use Rattle.coordinator_list.specs.declared.Listed.{Listed}
+use Rattle.coordinator_list.specs.Contracts.{ListSays}
 use Rattle.history.specs.State.{State, coordinatorPart}
 
 -- The coordinator that document 01's rules give for the arrivals accepted so far.
@@ -52,33 +52,33 @@ pub record ListRight (settings : Settings) (state : State) (before after : List 
   -- with places enough it is accepted, and otherwise refused by 12
   pub enough-places : length (heavyHitters settings (rulesCoordinator settings state))
       ≤ length before
-      → answer .refusal ≡ accepted
+      → answer .refusal ≡ noRefusal
   pub too-few-places : length before
       < length (heavyHitters settings (rulesCoordinator settings state))
       → answer .refusal ≡ listTooShort
   -- the list is the rules' list
-  pub list-is : answer .refusal ≡ accepted
+  pub list-is : answer .refusal ≡ noRefusal
       → listedIn answer after ≡ heavyHitters settings (rulesCoordinator settings state)
   -- "each code with p thousandths is listed", once there is an arrival
-  pub heavy-listed : answer .refusal ≡ accepted
+  pub heavy-listed : answer .refusal ≡ noRefusal
       → (item : ℕ)
       → item < settings .universe
       → 1 ≤ counted (state .accepted)
       → settings .phi * counted (state .accepted) ≤ 1000 * countOf item (state .accepted)
       → contains item (listedIn answer after) ≡ true
   -- "and none below p - e"
-  pub light-unlisted : answer .refusal ≡ accepted
+  pub light-unlisted : answer .refusal ≡ noRefusal
       → (item : ℕ)
       → 1000 * countOf item (state .accepted)
       < (settings .phi - settings .epsilon) * counted (state .accepted)
       → contains item (listedIn answer after) ≡ false
   -- request N10, "for each listed code after at least one draw": before the first the list is empty
-  pub listed-firm : answer .refusal ≡ accepted
+  pub listed-firm : answer .refusal ≡ noRefusal
       → (item : ℕ)
       → contains item (listedIn answer after) ≡ true
       → FirmShare settings item (state .accepted)
   -- "The list is in rising code order."
-  pub rising : answer .refusal ≡ accepted
+  pub rising : answer .refusal ≡ noRefusal
       → (i : ℕ)
       → i + 1 < length (listedIn answer after)
       → getD (listedIn answer after) i 0 < getD (listedIn answer after) (i + 1) 0
@@ -91,10 +91,10 @@ pub record ListRight (settings : Settings) (state : State) (before after : List 
       ≤ 6000000
   -- so a list of so many places is never refused by 12
   pub never-too-short : mostListed settings ≤ length before
-      → answer .refusal ≡ accepted
+      → answer .refusal ≡ noRefusal
   -- nor is one of a thousand, whatever the settings
   pub thousand-places : 1000 ≤ length before
-      → answer .refusal ≡ accepted
+      → answer .refusal ≡ noRefusal
 
 -- ---- The margin
 
@@ -102,11 +102,11 @@ pub record ListRight (settings : Settings) (state : State) (before after : List 
 pub record MarginRight (settings : Settings) (state : State) (item : ℕ) (answer : Margin)
     : Type 0 where
   pub item-known : item < settings .universe
-      → answer .refusal ≡ accepted
+      → answer .refusal ≡ noRefusal
   pub item-unknown : settings .universe ≤ item
       → answer .refusal ≡ unknownItem
   -- "the signed difference of those two sides"
-  pub margin-is : answer .refusal ≡ accepted
+  pub margin-is : answer .refusal ≡ noRefusal
       → answer .margin ≡ margin settings (rulesCoordinator settings state) item
 
 -- ---- The quantile
@@ -114,7 +114,7 @@ pub record MarginRight (settings : Settings) (state : State) (item : ℕ) (answe
 -- The quantile, which is never refused, and "within e".
 pub record QuantileRight (settings : Settings) (state : State) (answer : QuantileRead)
     : Type 0 where
-  pub never-refused : answer .refusal ≡ accepted
+  pub never-refused : answer .refusal ≡ noRefusal
   pub quantile-is : answer .quantile ≡ quantileOf settings (rulesCoordinator settings state)
   -- "none" before the first arrival, and never after it
   pub nothing-at-start : counted (state .accepted) ≡ 0
@@ -162,16 +162,16 @@ pub record QuantileRight (settings : Settings) (state : State) (answer : Quantil
 pub record ReadsRight (settings : Settings) (state : State) : Type 0 where
   pub list : (words : ℕ) (before after : List ℕ) (answer : Listed)
       → coordinatorWords settings ≤ words
-      → Lists settings (state .held .coordinator) (coordinatorPart (state .held) 0 words) before
+      → ListSays settings (state .held .coordinator) (coordinatorPart (state .held) 0 words) before
       after answer
       → ListRight settings state before after answer
   pub margins : (words item : ℕ) (answer : Margin)
       → coordinatorWords settings ≤ words
-      → ReadsMargin settings (state .held .coordinator) item
+      → MarginSays settings (state .held .coordinator) item
       (coordinatorPart (state .held) 0 words) answer
       → MarginRight settings state item answer
   pub quantile : (words : ℕ) (answer : QuantileRead)
       → coordinatorWords settings ≤ words
-      → ReadsQuantile settings (state .held .coordinator) (coordinatorPart (state .held) 0 words)
+      → QuantileSays settings (state .held .coordinator) (coordinatorPart (state .held) 0 words)
       answer
       → QuantileRight settings state answer

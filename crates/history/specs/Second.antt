@@ -11,7 +11,7 @@ use Prim.Native.Nat.{ℕ}
 use lib.ListN.{length, take}
 use Rattle.model.specs.declared.Settings.{Settings}
 use Rattle.model.specs.declared.Arrival.{Arrival}
-use Rattle.model.specs.Refusals.{accepted}
+use Rattle.model.specs.Refusals.{noRefusal}
 use Rattle.model.specs.Reading.{heavyHitters}
 use Rattle.model.specs.Runs.{Run, runOf}
 use Rattle.model.specs.Claims.{contains, Tracks, Estimates}
@@ -72,6 +72,6 @@ pub record Second (settings : Settings) (state : State) : Type 0 where
       → AtRest state
       → ObserveSays settings (recordAt (state .held) (arrival .site)) arrival
       (sitePart settings (state .held) (arrival .site) words) part answer
-      → answer .refusal ≡ accepted
+      → answer .refusal ≡ noRefusal
       → OthersKept settings (arrival .site) (state .held)
       (afterSingle settings state arrival words part answer .held)

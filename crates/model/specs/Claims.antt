@@ -23,7 +23,7 @@ use Rattle.model.specs.declared.Settings.{Settings}
 use Rattle.model.specs.declared.Arrival.{Arrival}
 use Rattle.model.specs.declared.Phase.the-variants.{Idle}
 use Rattle.model.specs.declared.Quantile.the-variants.{Nothing, Value}
-use Rattle.model.specs.Refusals.{accepted}
+use Rattle.model.specs.Refusals.{noRefusal}
 use Rattle.model.specs.Limits.{topValue, messagesPerArrival, allowanceFactor, firmMessages, firmMessagesPerDigit}
 use Rattle.model.specs.Settings.{settingsRefusal, digits, allowance}
 use Rattle.model.specs.Coordinator.{Coordinator}
@@ -221,35 +221,35 @@ pub record AfterEach (settings : Settings) (arrivals : List Arrival) (n : ℕ) :
 pub record DemandsOverRuns : Type 0 where
   -- demand 2: list and class
   pub tracks : (settings : Settings) (arrivals : List Arrival)
-      → settingsRefusal settings ≡ accepted
+      → settingsRefusal settings ≡ noRefusal
       → Tracks settings (runOf settings arrivals)
   -- the class, firmer than "within e"
   pub firm-quantile : (settings : Settings) (arrivals : List Arrival)
-      → settingsRefusal settings ≡ accepted
+      → settingsRefusal settings ≡ noRefusal
       → FirmQuantile settings (runOf settings arrivals)
   -- demand 3: the bounds on messages
   pub few-messages : (settings : Settings) (arrivals : List Arrival)
-      → settingsRefusal settings ≡ accepted
+      → settingsRefusal settings ≡ noRefusal
       → FewMessages settings (runOf settings arrivals)
   -- and firmer over the digits
   pub firm-messages : (settings : Settings) (arrivals : List Arrival)
-      → settingsRefusal settings ≡ accepted
+      → settingsRefusal settings ≡ noRefusal
       → FirmMessages settings (runOf settings arrivals)
   -- what both lean on
   pub estimates-near : (settings : Settings) (arrivals : List Arrival)
-      → settingsRefusal settings ≡ accepted
+      → settingsRefusal settings ≡ noRefusal
       → Estimates settings (runOf settings arrivals)
   -- the list as it is handed out
   pub list-law : (settings : Settings) (coordinator : Coordinator)
       → ListLaw settings coordinator
   -- how long a list must be
   pub list-size : (settings : Settings) (arrivals : List Arrival)
-      → settingsRefusal settings ≡ accepted
+      → settingsRefusal settings ≡ noRefusal
       → ListSize settings (runOf settings arrivals)
   -- parts of a list, and refused arrivals
   pub cuts : (settings : Settings) (arrivals : List Arrival)
       → Cuts settings arrivals
   -- both demands after each of the accepted arrivals
   pub after-each : (settings : Settings) (arrivals : List Arrival) (n : ℕ)
-      → settingsRefusal settings ≡ accepted
+      → settingsRefusal settings ≡ noRefusal
       → AfterEach settings arrivals n

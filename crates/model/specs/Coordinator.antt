@@ -15,7 +15,7 @@ use Rattle.model.specs.declared.Message.{Message}
 use Rattle.model.specs.declared.Phase.{Phase}
 use Rattle.model.specs.declared.Phase.the-variants.{Idle, Collecting, Probing, Announcing}
 use Rattle.model.specs.Choice.{if_then_else_, isZero}
-use Rattle.model.specs.Refusals.{when, _orElse_, accepted, unknownSite, unknownItem, valueTooLarge, messageNotDue, amountNotDue}
+use Rattle.model.specs.Refusals.{when, _orElse_, noRefusal, unknownSite, unknownItem, valueTooLarge, messageNotDue, amountNotDue}
 use Rattle.model.specs.Limits.{topValue, valueCount, siteLimit}
 use Rattle.model.specs.Settings.{thresholdOf}
 use Rattle.model.specs.Messages.{poll, probe, announcement, isItemReport, isCountReport, isPollAnswer, isProbeAnswer}
@@ -284,7 +284,7 @@ coordinatorDueRefusal settings c m =
     orElse when (isItemReport m && leb (settings .universe) (m .a)) unknownItem
     orElse when (namesLargeValue c m) valueTooLarge
     orElse when (wrongAtCoordinator c m) amountNotDue
-    orElse accepted
+    orElse noRefusal
 
 abbrev pub coordinatorRefusal : Settings → Coordinator → Message → ℕ
 coordinatorRefusal settings c m =

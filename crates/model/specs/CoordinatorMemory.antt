@@ -15,7 +15,7 @@ use Rattle.model.specs.declared.Settings.{Settings}
 use Rattle.model.specs.declared.Phase.{Phase}
 use Rattle.model.specs.declared.Phase.the-variants.{Idle, Collecting, Probing, Announcing}
 use Rattle.model.specs.declared.CoordinatorRecord.{CoordinatorRecord}
-use Rattle.model.specs.Refusals.{when, _orElse_, accepted, memoryTooShort, memoryInconsistent}
+use Rattle.model.specs.Refusals.{when, _orElse_, noRefusal, memoryTooShort, memoryInconsistent}
 use Rattle.model.specs.Limits.{topValue, valueCount, coordinatorLimit}
 use Rattle.model.specs.Settings.{settingsRefusal, thresholdOf}
 use Rattle.model.specs.SiteMemory.{overwrite, sum}
@@ -95,4 +95,4 @@ coordinatorMemoryRefusal settings numbers memory =
     orElse when (ltb (length memory) (coordinatorWords settings)) memoryTooShort
     orElse when (not (coordinatorConsistent settings (coordinatorIn settings numbers memory)))
     memoryInconsistent
-    orElse accepted
+    orElse noRefusal

@@ -9,7 +9,7 @@ use Rattle.model.specs.declared.Settings.{Settings}
 use Rattle.model.specs.declared.Arrival.{Arrival}
 use Rattle.model.specs.declared.Message.{Message}
 use Rattle.model.specs.declared.Quantile.the-variants.{Nothing, Value}
-use Rattle.model.specs.Refusals.{accepted, tooFewCounters}
+use Rattle.model.specs.Refusals.{noRefusal, tooFewCounters}
 use Rattle.model.specs.Settings.{settingsWith, settingsRefusal, thresholdOf, allowance}
 use Rattle.model.specs.Lines.{writeFields, lineFeed}
 use Rattle.model.specs.Messages.{itemReport, countReport, poll, pollAnswer, announcement}
@@ -141,7 +141,7 @@ pub record Instances : Type 0 where
   pub p6-three : thresholdOf settingsP6 180 ≡ 3
   -- "P7 e 7: 857 slots is 3, 858 accepted."
   pub p7-few : settingsRefusal (settingsP7 857) ≡ tooFewCounters
-  pub p7-enough : settingsRefusal (settingsP7 858) ≡ accepted
+  pub p7-enough : settingsRefusal (settingsP7 858) ≡ noRefusal
   -- "P8 after P2: margin of 7 is 1000, of 8 is -1000."
   pub p8-above : margin settingsA (coordinatorAfter settingsA (draws 1)) 7 ≡ pos 1000
   pub p8-below : margin settingsA (coordinatorAfter settingsA (draws 1)) 8 ≡ negsuc 999

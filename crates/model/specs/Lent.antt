@@ -2,13 +2,12 @@
 --
 --   before lent     what it holds when the call starts
 --   after lent      what it holds when the call returns
-use mathlib.Core.List.{List}
 use denote.Ref.{RefT}
 use denote.Triple.Both.{Both}
 
 module _ {A : Type 0} where
-  abbrev pub before : Both (RefT (List A)) (RefT (List A)) → List A
+  abbrev pub before : Both (RefT A) (RefT A) → A
   before lent = lent .entry .now
 
-  abbrev pub after : Both (RefT (List A)) (RefT (List A)) → List A
+  abbrev pub after : Both (RefT A) (RefT A) → A
   after lent = lent .exit .now

@@ -13,7 +13,7 @@ use Rattle.model.specs.declared.Settings.{Settings}
 use Rattle.model.specs.declared.SiteRecord.{SiteRecord}
 use Rattle.model.specs.declared.Sites.{Sites}
 use Rattle.model.specs.declared.CoordinatorRecord.{CoordinatorRecord}
-use Rattle.model.specs.Refusals.{when, _orElse_, accepted, memoryTooShort, memoryInconsistent}
+use Rattle.model.specs.Refusals.{when, _orElse_, noRefusal, memoryTooShort, memoryInconsistent}
 use Rattle.model.specs.Limits.{mostSites, messageLimit}
 use Rattle.model.specs.Settings.{settingsRefusal}
 use Rattle.model.specs.Site.{Site, freshSite}
@@ -109,4 +109,4 @@ networkRefusal settings sites coordinator siteNumbers coordinatorNumbers =
     orElse when
     (not (networkConsistent settings sites coordinator siteNumbers coordinatorNumbers))
     memoryInconsistent
-    orElse accepted
+    orElse noRefusal

@@ -13,7 +13,7 @@ use mathlib.Core.List.{List, [], _∷_}
 use Prim.Native.Nat.{ℕ, _+_, _*_, _≤_}
 use Rattle.model.specs.declared.Settings.{Settings}
 use Rattle.model.specs.declared.Arrival.{Arrival}
-use Rattle.model.specs.Refusals.{accepted}
+use Rattle.model.specs.Refusals.{noRefusal}
 use Rattle.model.specs.Limits.{mostSites, mostCapacity, siteLimit, mostArrivals, coordinatorLimit}
 use Rattle.model.specs.Settings.{settingsRefusal}
 use Rattle.model.specs.Counters.{Counter, unreported}
@@ -87,20 +87,20 @@ pub record BatchNumbers (settings : Settings) (network : Network) (batch : Batch
 pub record NumberClaims : Type 0 where
   -- after one accepted arrival with full delivery
   pub arrival-grows : (settings : Settings) (network : Network) (arrival : Arrival)
-      → settingsRefusal settings ≡ accepted
+      → settingsRefusal settings ≡ noRefusal
       → Sound settings network
-      → refusalIn settings network arrival ≡ accepted
+      → refusalIn settings network arrival ≡ noRefusal
       → Grown network (afterArrival settings network arrival .network)
   -- which is one arrival more
   pub arrival-counted : (settings : Settings) (network : Network) (arrival : Arrival)
-      → settingsRefusal settings ≡ accepted
+      → settingsRefusal settings ≡ noRefusal
       → Sound settings network
-      → refusalIn settings network arrival ≡ accepted
+      → refusalIn settings network arrival ≡ noRefusal
       → allArrivals (afterArrival settings network arrival .network .sites)
       ≡ allArrivals (network .sites) + 1
   -- after any batch, whatever its log
   pub batch-numbers : (settings : Settings) (room : ℕ) (network : Network)
       (arrivals : List Arrival)
-      → settingsRefusal settings ≡ accepted
+      → settingsRefusal settings ≡ noRefusal
       → Sound settings network
       → BatchNumbers settings network (batchOf settings room network arrivals)

@@ -16,8 +16,8 @@ abbrev pub _orElse_ : ℕ → ℕ → ℕ
 zero orElse later = later
 suc refusal orElse later = suc refusal
 
-abbrev pub accepted : ℕ
-accepted = 0
+abbrev pub noRefusal : ℕ
+noRefusal = 0
 
 -- "setting outside its range"
 abbrev pub settingOutOfRange : ℕ

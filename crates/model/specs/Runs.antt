@@ -11,7 +11,7 @@ use Rattle.model.specs.declared.Settings.{Settings}
 use Rattle.model.specs.declared.Arrival.{Arrival}
 use Rattle.model.specs.declared.Message.{Message}
 use Rattle.model.specs.Choice.{if_then_else_, isZero}
-use Rattle.model.specs.Refusals.{when, _orElse_, accepted, logTooShort}
+use Rattle.model.specs.Refusals.{when, _orElse_, noRefusal, logTooShort}
 use Rattle.model.specs.Limits.{mostMessages}
 use Rattle.model.specs.Site.{arrivalRefusal}
 use Rattle.model.specs.Network.{Network, freshNetwork, siteAt, afterArrival}
@@ -68,7 +68,7 @@ abbrev pub batchRefusal : Settings → Network → ℕ → Arrival → ℕ
 batchRefusal settings network free arrival =
     refusalIn settings network arrival
     orElse when (ltb free (mostMessages settings)) logTooShort
-    orElse accepted
+    orElse noRefusal
 
 abbrev pub batchFrom : Settings → ℕ → Batch → List Arrival → Batch
 batchFrom settings room batch [] = batch
@@ -83,7 +83,7 @@ batchFrom settings room batch (arrival ∷ arrivals) =
             network = after .network;
             accepted = batch .accepted + 1;
             messages = batch .messages ++ after .messages;
-            refusal = accepted;
+            refusal = noRefusal;
           })
           arrivals)
       | false ↦ record {
@@ -99,7 +99,7 @@ freshBatch network = record {
   network = network;
   accepted = 0;
   messages = [];
-  refusal = accepted;
+  refusal = noRefusal;
 }
 
 abbrev pub batchOf : Settings → ℕ → Network → List Arrival → Batch

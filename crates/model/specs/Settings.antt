@@ -10,7 +10,7 @@ use Prim.Native.Nat.{ℕ, zero, suc, _+_, _*_, _/_, max}
 use lib.Dec.{ltb}
 use Rattle.model.specs.declared.Settings.{Settings}
 use Rattle.model.specs.Choice.{between, isZero}
-use Rattle.model.specs.Refusals.{when, _orElse_, accepted, settingOutOfRange, phiBelowEpsilon, tooFewCounters}
+use Rattle.model.specs.Refusals.{when, _orElse_, noRefusal, settingOutOfRange, phiBelowEpsilon, tooFewCounters}
 use Rattle.model.specs.Limits.{mostSites, mostCapacity, mostUniverse, allowanceFactor}
 
 -- The settings k, e, p, q, c and u, in document 01's order.
@@ -41,7 +41,7 @@ settingsRefusal settings =
     when (not (inRange settings)) settingOutOfRange
     orElse when (ltb (settings .phi) (settings .epsilon)) phiBelowEpsilon
     orElse when (ltb (settings .capacity * settings .epsilon) 6000) tooFewCounters
-    orElse accepted
+    orElse noRefusal
 
 -- "the new threshold is e × base / (3000 × k) rounded down, at least 1"
 abbrev pub thresholdOf : Settings → ℕ → ℕ

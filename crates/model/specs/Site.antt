@@ -17,7 +17,7 @@ use Rattle.model.specs.declared.Settings.{Settings}
 use Rattle.model.specs.declared.Arrival.{Arrival}
 use Rattle.model.specs.declared.Message.{Message}
 use Rattle.model.specs.Choice.{if_then_else_, isZero}
-use Rattle.model.specs.Refusals.{when, _orElse_, accepted, unknownSite, unknownItem, valueTooLarge, siteFull, messageNotDue, amountNotDue}
+use Rattle.model.specs.Refusals.{when, _orElse_, noRefusal, unknownSite, unknownItem, valueTooLarge, siteFull, messageNotDue, amountNotDue}
 use Rattle.model.specs.Limits.{topValue, valueCount, siteLimit}
 use Rattle.model.specs.Messages.{itemReport, countReport, pollAnswer, probeAnswer, isPoll, isProbe, isAnnouncement}
 use Rattle.model.specs.Counters.{Counter, counterAt, unreported, Placement, placementFor, placeOf, countersAfter, afterReport}
@@ -49,13 +49,13 @@ addressRefusal settings arrival =
     when (leb (settings .sites) (arrival .site)) unknownSite
     orElse when (leb (settings .universe) (arrival .item)) unknownItem
     orElse when (ltb topValue (arrival .value)) valueTooLarge
-    orElse accepted
+    orElse noRefusal
 
 -- A deck that is full: 8.
 abbrev pub roomRefusal : Site → ℕ
 roomRefusal site =
     when (leb siteLimit (site .arrivals)) siteFull
-    orElse accepted
+    orElse noRefusal
 
 abbrev pub arrivalRefusal : Settings → Site → Arrival → ℕ
 arrivalRefusal settings site arrival =
@@ -144,7 +144,7 @@ siteDueRefusal site which m =
     when (not (dueAtSite which m)) messageNotDue
     orElse when (isProbe m && ltb topValue (m .a)) valueTooLarge
     orElse when (wrongAtSite site m) amountNotDue
-    orElse accepted
+    orElse noRefusal
 
 -- "for a message 5, 9, 6, 7, 10, with 6 and 7 only where the message table gives a code or a class"
 abbrev pub siteMessageRefusal : Settings → Site → ℕ → Message → ℕ

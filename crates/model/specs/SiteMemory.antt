@@ -14,7 +14,7 @@ use lib.ListN.{length, getD, take, drop}
 use Rattle.model.specs.declared.Settings.{Settings}
 use Rattle.model.specs.declared.SiteRecord.{SiteRecord}
 use Rattle.model.specs.Choice.{between}
-use Rattle.model.specs.Refusals.{when, _orElse_, accepted, memoryTooShort, memoryInconsistent}
+use Rattle.model.specs.Refusals.{when, _orElse_, noRefusal, memoryTooShort, memoryInconsistent}
 use Rattle.model.specs.Limits.{valueCount, siteLimit}
 use Rattle.model.specs.Settings.{settingsRefusal}
 use Rattle.model.specs.Counters.{Counter, unreported}
@@ -115,4 +115,4 @@ siteMemoryRefusal settings numbers memory =
     settingsRefusal settings
     orElse when (ltb (length memory) (siteWords settings)) memoryTooShort
     orElse when (not (siteConsistent settings numbers memory)) memoryInconsistent
-    orElse accepted
+    orElse noRefusal

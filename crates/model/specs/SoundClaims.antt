@@ -13,7 +13,7 @@ use Prim.Native.Nat.{ℕ, suc, _/_, _≤_, _<_}
 use Rattle.model.specs.declared.Settings.{Settings}
 use Rattle.model.specs.declared.Arrival.{Arrival}
 use Rattle.model.specs.declared.Message.{Message}
-use Rattle.model.specs.Refusals.{accepted}
+use Rattle.model.specs.Refusals.{noRefusal}
 use Rattle.model.specs.Limits.{siteLimit, coordinatorLimit, mostSteps}
 use Rattle.model.specs.Settings.{settingsRefusal}
 use Rattle.model.specs.Coordinator.{isAnnouncing}
@@ -45,7 +45,7 @@ pub record InMidDelivery (settings : Settings) (network : Network) (arrival : Ar
   -- the head of the queue is accepted by whom it is for: never 5, 6, 7, 9 or 10
   pub head-accepted : (m : Message) (waiting : List Message)
       → d .waiting ≡ m ∷ waiting
-      → messageRefusal settings (d .network) m ≡ accepted
+      → messageRefusal settings (d .network) m ≡ noRefusal
   -- each site and the coordinator are sound by themselves: never 11, but for the limit
   pub sites-sound : (j : ℕ) → j < settings .sites → SoundSite settings (siteAt (d .network) j)
   pub coordinator-sound : SoundCoordinator settings (d .network .coordinator)
@@ -75,24 +75,24 @@ pub record InMidDelivery (settings : Settings) (network : Network) (arrival : Ar
 pub record SoundClaims : Type 0 where
   -- "Started fresh"
   pub fresh-sound : (settings : Settings)
-      → settingsRefusal settings ≡ accepted
+      → settingsRefusal settings ≡ noRefusal
       → Sound settings (freshNetwork settings)
   -- an accepted arrival with full delivery
   pub arrival-sound : (settings : Settings) (network : Network) (arrival : Arrival)
-      → settingsRefusal settings ≡ accepted
+      → settingsRefusal settings ≡ noRefusal
       → Sound settings network
-      → refusalIn settings network arrival ≡ accepted
+      → refusalIn settings network arrival ≡ noRefusal
       → Sound settings (afterArrival settings network arrival .network)
   -- no threshold is above a third of a site's limit
   pub threshold-small : (settings : Settings) (network : Network)
-      → settingsRefusal settings ≡ accepted
+      → settingsRefusal settings ≡ noRefusal
       → Sound settings network
       → network .coordinator .threshold ≤ siteLimit / 3
   -- in mid-delivery, after any steps
   pub in-mid-delivery : (settings : Settings) (network : Network) (arrival : Arrival) (n : ℕ)
       (d : Delivery)
-      → settingsRefusal settings ≡ accepted
+      → settingsRefusal settings ≡ noRefusal
       → Sound settings network
-      → refusalIn settings network arrival ≡ accepted
+      → refusalIn settings network arrival ≡ noRefusal
       → Reached settings (deliveryOf settings network arrival) n d
       → InMidDelivery settings network arrival n d

@@ -12,7 +12,7 @@ use Rattle.model.specs.declared.Message.{Message}
 use Rattle.model.specs.declared.Quantile.{Quantile}
 use Rattle.model.specs.declared.Quantile.the-variants.{Nothing, Value}
 use Rattle.model.specs.Choice.{isZero}
-use Rattle.model.specs.Refusals.{when, _orElse_, accepted, memoryTooShort, malformedLine}
+use Rattle.model.specs.Refusals.{when, _orElse_, noRefusal, memoryTooShort, malformedLine}
 use Rattle.model.specs.Settings.{settingsRefusal}
 use Rattle.model.specs.Decimal.{decimal}
 use Rattle.model.specs.Lines.{Fields, malformed, fields, lineFeed, readFields, settingsOf, Worklist, ended, malformedAt, next, readWorklist}
@@ -92,7 +92,7 @@ abbrev pub programRefusal : Settings → List ℕ → ℕ
 programRefusal settings worklist =
     settingsRefusal settings
     orElse when (beyondProgram settings (length worklist)) memoryTooShort
-    orElse accepted
+    orElse noRefusal
 
 -- "It takes each line's draw before it reads the next line": the arrivals one by one, from a run.
 abbrev pub transcriptFrom : Settings → Run → Worklist → List ℕ

@@ -5,7 +5,7 @@
 // specs/Refusals.antt and specs/Limits.antt have them once for all definitions.
 
 // Why a call is refused: document 01's table "Refused".
-pub const ACCEPTED: u32 = 0;
+pub const NO_REFUSAL: u32 = 0;
 
 pub const SETTING_OUT_OF_RANGE: u32 = 1;
 

@@ -1,5 +1,6 @@
 // The coordinator's record as plain numbers, in document 01's order: total, base, threshold,
 // signals, class; then the five numbers of its phase.
+ghost use Rattle.model.specs.Lent.{before, after};
 ghost use mathlib.Core.Path.{_≡_};
 ghost use Prim.Native.Nat.{_≤_, max};
 ghost use lib.ListN.{length};
@@ -32,7 +33,7 @@ fn larger(x: u64, y: u64) -> u64
 
 // Whether the numbers are a coordinator's record.
 pub fn coordinator_fits(numbers: &[u64]) -> bool
-    ensures { λ r. ⌜ r ≡ coordinatorFits (now (numbers .entry)) ⌝ }
+    ensures { λ r. ⌜ r ≡ coordinatorFits (before numbers) ⌝ }
 {
     if numbers.len() < COORDINATOR_NUMBERS {
         return false;
@@ -65,7 +66,7 @@ fn phase_from(which: u64, site: u32, low: u32, high: u32, sum: u64) -> Phase
 // The coordinator's record of ten numbers. The caller tests the lengths.
 pub fn coordinator_from(numbers: &[u64]) -> CoordinatorRecord
     requires { ⌜ (10 ≤ length (now numbers)) × (greatestHeld (now numbers) ≤ 4294967295) ⌝ }
-    ensures { λ r. ⌜ r ≡ coordinatorFrom (now (numbers .entry)) ⌝ }
+    ensures { λ r. ⌜ r ≡ coordinatorFrom (before numbers) ⌝ }
 {
     let site = numbers[6] as u32;
     let low = numbers[7] as u32;
@@ -120,8 +121,8 @@ fn phase_numbers(phase: Phase) -> PhaseNumbers
 // The ten numbers of the coordinator's record. The caller tests the lengths.
 pub fn write_coordinator(numbers: &mut [u64], coordinator: CoordinatorRecord)
     requires { ⌜ 10 ≤ length (now numbers) ⌝ }
-    ensures { λ r. ⌜ now (numbers .exit)
-        ≡ overwrite (coordinatorNumbers coordinator) (now (numbers .entry)) ⌝ }
+    ensures { λ r. ⌜ after numbers
+        ≡ overwrite (coordinatorNumbers coordinator) (before numbers) ⌝ }
 {
     let now_in = coordinator.phase;
     let phase = phase_numbers(now_in);

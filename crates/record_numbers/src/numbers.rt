@@ -1,5 +1,6 @@
 // Settings and sites' records as plain numbers, in document 01's order. Lent numbers may be more;
 // the rest is not looked at, and stays.
+ghost use Rattle.model.specs.Lent.{before, after};
 ghost use mathlib.Core.Path.{_≡_};
 ghost use Prim.Native.Nat.{_≤_};
 ghost use lib.ListN.{length};
@@ -23,7 +24,7 @@ const COUNT_PLACE: usize = SITE_NUMBERS * SITE_RECORDS;
 // The settings of six numbers. The caller tests the lengths.
 pub fn settings_from(numbers: &[u32]) -> Settings
     requires { ⌜ 6 ≤ length (now numbers) ⌝ }
-    ensures { λ r. ⌜ r ≡ settingsFrom (now (numbers .entry)) ⌝ }
+    ensures { λ r. ⌜ r ≡ settingsFrom (before numbers) ⌝ }
 {
     Settings {
         sites: numbers[0],
@@ -38,7 +39,7 @@ pub fn settings_from(numbers: &[u32]) -> Settings
 // The site's record of four numbers. The caller tests the lengths.
 pub fn site_from(numbers: &[u64]) -> SiteRecord
     requires { ⌜ 4 ≤ length (now numbers) ⌝ }
-    ensures { λ r. ⌜ r ≡ siteFrom (now (numbers .entry)) ⌝ }
+    ensures { λ r. ⌜ r ≡ siteFrom (before numbers) ⌝ }
 {
     SiteRecord {
         arrivals: numbers[0],
@@ -51,8 +52,8 @@ pub fn site_from(numbers: &[u64]) -> SiteRecord
 // The four numbers of a site's record. The caller tests the lengths.
 pub fn write_site(numbers: &mut [u64], site: SiteRecord)
     requires { ⌜ 4 ≤ length (now numbers) ⌝ }
-    ensures { λ r. ⌜ now (numbers .exit)
-        ≡ overwrite (siteNumbers site) (now (numbers .entry)) ⌝ }
+    ensures { λ r. ⌜ after numbers
+        ≡ overwrite (siteNumbers site) (before numbers) ⌝ }
 {
     numbers[0] = site.arrivals;
     numbers[1] = site.pending;
@@ -63,7 +64,7 @@ pub fn write_site(numbers: &mut [u64], site: SiteRecord)
 // All records and the count of messages. The caller tests the lengths.
 pub fn sites_from(numbers: &[u64]) -> Sites
     requires { ⌜ 129 ≤ length (now numbers) ⌝ }
-    ensures { λ r. ⌜ r ≡ sitesFrom (now (numbers .entry)) ⌝ }
+    ensures { λ r. ⌜ r ≡ sitesFrom (before numbers) ⌝ }
 {
     let zero = SiteRecord {
         arrivals: 0,
@@ -92,8 +93,8 @@ pub fn sites_from(numbers: &[u64]) -> Sites
 // Their numbers. The caller tests the lengths.
 pub fn write_sites(numbers: &mut [u64], sites: Sites)
     requires { ⌜ 129 ≤ length (now numbers) ⌝ }
-    ensures { λ r. ⌜ now (numbers .exit)
-        ≡ overwrite (sitesNumbers sites) (now (numbers .entry)) ⌝ }
+    ensures { λ r. ⌜ after numbers
+        ≡ overwrite (sitesNumbers sites) (before numbers) ⌝ }
 {
     let mut i = 0;
     while i < SITE_RECORDS {

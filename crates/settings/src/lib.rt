@@ -7,7 +7,6 @@ ghost use Rattle.model.specs.Choice.{between};
 ghost use Rattle.model.specs.Limits.{mostMessages};
 ghost use Rattle.model.specs.Settings.{inRange, settingsRefusal, digits};
 ghost use Rattle.settings.specs.Contracts.{AllowanceSays};
-use model::ACCEPTED;
 use model::ALLOWANCE_FACTOR;
 use model::ARRIVAL_MESSAGES;
 use model::CLOSING_MESSAGES;
@@ -20,6 +19,7 @@ use model::MOST_PHI;
 use model::MOST_RANK;
 use model::MOST_SITES;
 use model::MOST_UNIVERSE;
+use model::NO_REFUSAL;
 use model::PHI_BELOW_EPSILON;
 use model::SETTING_OUT_OF_RANGE;
 use model::Settings;
@@ -77,7 +77,7 @@ pub fn test_settings(settings: Settings) -> u32
     if product < LEAST_PRODUCT {
         return TOO_FEW_COUNTERS;
     }
-    ACCEPTED
+    NO_REFUSAL
 }
 
 // How many messages follow one arrival at most: "23 × k + 2".
@@ -105,7 +105,7 @@ pub fn message_allowance(settings: Settings, arrivals: u64) -> Allowance
     ensures { λ r. ⌜ AllowanceSays settings arrivals r ⌝ }
 {
     let refusal = test_settings(settings);
-    if refusal != ACCEPTED {
+    if refusal != NO_REFUSAL {
         return Allowance {
             refusal: refusal,
             messages: 0,
@@ -115,7 +115,7 @@ pub fn message_allowance(settings: Settings, arrivals: u64) -> Allowance
     let sites = settings.sites as u64;
     let epsilon = settings.epsilon as u64;
     Allowance {
-        refusal: ACCEPTED,
+        refusal: NO_REFUSAL,
         messages: ALLOWANCE_FACTOR * (sites * rounds) / epsilon,
     }
 }

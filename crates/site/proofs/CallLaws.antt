@@ -13,16 +13,16 @@ use Rattle.model.specs.declared.Settings.{Settings}
 use Rattle.model.specs.declared.Arrival.{Arrival}
 use Rattle.model.specs.declared.Message.{Message}
 use Rattle.model.specs.declared.SiteRecord.{SiteRecord}
-use Rattle.model.specs.Refusals.{accepted}
+use Rattle.model.specs.Refusals.{noRefusal}
 use Rattle.model.specs.Messages.{noMessage}
 use Rattle.model.specs.SiteMemory.{siteIn, siteMemoryRefusal}
-use Rattle.model.proofs.RefusalLaws.{both-accepted, passed}
+use Rattle.model.proofs.Thresholds.RefusalLaws.{both-accepted, passed}
 use Rattle.site_memory.proofs.ReadyLaws.{step-ready}
 use Rattle.site_steps.specs.declared.Observed.{Observed}
 use Rattle.site_steps.specs.declared.Replied.{Replied}
 use Rattle.site_steps.specs.Steps.{ObserveAsks, ObserveStepSays, ReceiveAsks, ReceiveStepSays}
 use Rattle.site_steps.proofs.ReceiveLaws.{message-due}
-use Rattle.site.specs.Calls.{observeRefusal, ObserveSays, receiveRefusal, ReceiveSays}
+use Rattle.site.specs.Calls.{observeRefusal, ObserveSays, receiveRefusal, SiteReceiveSays}
 
 -- ---- An arrival
 
@@ -31,7 +31,7 @@ module _
     (numbers : SiteRecord)
     (arrival : Arrival)
     (before : List ℕ) where
-  pub observe-asks : observeRefusal settings numbers arrival before ≡ accepted
+  pub observe-asks : observeRefusal settings numbers arrival before ≡ noRefusal
       → ObserveAsks settings numbers arrival before
   observe-asks none =
       let parts = both-accepted (siteMemoryRefusal settings numbers before) _ none in
@@ -41,7 +41,7 @@ module _
       }
 
   pub observe-accepted : (after : List ℕ) (answer : Observed)
-      → observeRefusal settings numbers arrival before ≡ accepted
+      → observeRefusal settings numbers arrival before ≡ noRefusal
       → ObserveStepSays settings numbers arrival before after answer
       → ObserveSays settings numbers arrival before after answer
   observe-accepted after answer none says =
@@ -57,7 +57,7 @@ module _
 
   pub observe-refused : (refusal : ℕ) (none : Message)
       → refusal ≡ observeRefusal settings numbers arrival before
-      → (refusal ≡ accepted → ⊥)
+      → (refusal ≡ noRefusal → ⊥)
       → none ≡ noMessage
       → ObserveSays settings numbers arrival before before
       (record { refusal = refusal; site = numbers; count = 0; first = none; second = none })
@@ -81,7 +81,7 @@ module _
     (which : ℕ)
     (m : Message)
     (memory : List ℕ) where
-  pub receive-asks : receiveRefusal settings numbers which m memory ≡ accepted
+  pub receive-asks : receiveRefusal settings numbers which m memory ≡ noRefusal
       → ReceiveAsks settings numbers m memory
   receive-asks none =
       let parts = both-accepted (siteMemoryRefusal settings numbers memory) _ none in
@@ -95,9 +95,9 @@ module _
       }
 
   pub receive-accepted : (answer : Replied)
-      → receiveRefusal settings numbers which m memory ≡ accepted
+      → receiveRefusal settings numbers which m memory ≡ noRefusal
       → ReceiveStepSays settings numbers m memory answer
-      → ReceiveSays settings numbers which m memory answer
+      → SiteReceiveSays settings numbers which m memory answer
   receive-accepted answer none says =
       let test = eq-eqb (receiveRefusal settings numbers which m memory) 0 none in
       record {
@@ -109,9 +109,9 @@ module _
 
   pub receive-refused : (refusal : ℕ) (none : Message)
       → refusal ≡ receiveRefusal settings numbers which m memory
-      → (refusal ≡ accepted → ⊥)
+      → (refusal ≡ noRefusal → ⊥)
       → none ≡ noMessage
-      → ReceiveSays settings numbers which m memory
+      → SiteReceiveSays settings numbers which m memory
       (record { refusal = refusal; site = numbers; count = 0; reply = none })
   receive-refused refusal none same refused absent =
       let test = ne-eqb (receiveRefusal settings numbers which m memory) 0

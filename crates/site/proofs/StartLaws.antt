@@ -11,21 +11,21 @@ use lib.ListN.{length}
 use borrow.Author.Tests.{eq-eqb, ne-eqb, lt-ltb, le-ltb}
 use Rattle.model.specs.declared.Settings.{Settings}
 use Rattle.model.specs.declared.Sites.{Sites}
-use Rattle.model.specs.Refusals.{accepted, memoryTooShort}
+use Rattle.model.specs.Refusals.{noRefusal, memoryTooShort}
 use Rattle.model.specs.Limits.{mostSites, mostSiteWords}
 use Rattle.model.specs.Settings.{settingsRefusal}
 use Rattle.model.specs.SiteMemory.{siteWords}
 use Rattle.model.specs.NetworkMemory.{sitesWords, freshSites}
-use Rattle.model.proofs.RefusalLaws.{Still, begin, pass, pass-part, refuse, refuse-part, end}
-use Rattle.model.proofs.SettingsLaws.{settled}
-use Rattle.model.proofs.ReportLaws.{valueCount-is}
-use Rattle.site.specs.Calls.{startRefusal, cleared, StartSays}
+use Rattle.model.proofs.Thresholds.RefusalLaws.{Still, begin, pass, pass-part, refuse, refuse-part, end}
+use Rattle.model.proofs.Thresholds.SettingsLaws.{settled}
+use Rattle.model.proofs.BetweenArrivals.ReportLaws.{valueCount-is}
+use Rattle.site.specs.Calls.{startRefusal, cleared, StartSitesSays}
 
 -- ---- The answers
 
 -- The memory of all sites, at most.
 pub words-fit : (settings : Settings)
-    → settingsRefusal settings ≡ accepted
+    → settingsRefusal settings ≡ noRefusal
     → sitesWords settings ≤ mostSites * mostSiteWords
 words-fit settings none =
     let known = settled settings none in
@@ -37,37 +37,37 @@ module _ (settings : Settings) (before : List ℕ) (sites : Sites) (fresh : site
   -- A refused start leaves the memory as it was.
   refused : (refusal : ℕ)
       → refusal ≡ startRefusal settings before
-      → (refusal ≡ accepted → ⊥)
-      → StartSays settings before before (record { refusal = refusal; sites = sites })
+      → (refusal ≡ noRefusal → ⊥)
+      → StartSitesSays settings before before (record { refusal = refusal; sites = sites })
   refused refusal same not-accepted =
       let test = ne-eqb (startRefusal settings before) 0 (λ none. not-accepted (same ∙ none)) in
       record { refusal = same; sites = fresh; memory = rw test }
 
   pub start-settings : (refusal : ℕ)
       → refusal ≡ settingsRefusal settings
-      → (refusal ≡ accepted → ⊥)
-      → StartSays settings before before (record { refusal = refusal; sites = sites })
+      → (refusal ≡ noRefusal → ⊥)
+      → StartSitesSays settings before before (record { refusal = refusal; sites = sites })
   start-settings refusal same not-accepted =
       refused refusal (refuse-part _ _ (begin _) refl same not-accepted) not-accepted
 
-  abbrev past-settings : settingsRefusal settings ≡ accepted → Still (startRefusal settings before)
+  abbrev past-settings : settingsRefusal settings ≡ noRefusal → Still (startRefusal settings before)
   past-settings none = pass-part _ _ (begin _) refl none
 
-  pub start-short : settingsRefusal settings ≡ accepted
+  pub start-short : settingsRefusal settings ≡ noRefusal
       → length before < sitesWords settings
-      → StartSays settings before before (record { refusal = memoryTooShort; sites = sites })
+      → StartSitesSays settings before before (record { refusal = memoryTooShort; sites = sites })
   start-short none short =
       refused memoryTooShort
       (refuse _ _ _ (past-settings none) refl (lt-ltb _ _ short))
       (omega arith)
 
   pub start-accepted : (after : List ℕ)
-      → settingsRefusal settings ≡ accepted
+      → settingsRefusal settings ≡ noRefusal
       → sitesWords settings ≤ length before
       → after ≡ cleared settings before
-      → StartSays settings before after (record { refusal = accepted; sites = sites })
+      → StartSitesSays settings before after (record { refusal = noRefusal; sites = sites })
   start-accepted after none long after-is =
-      let accepted-is : accepted ≡ startRefusal settings before =
+      let accepted-is : noRefusal ≡ startRefusal settings before =
       end (pass _ _ _ (past-settings none) refl (le-ltb _ _ long)) refl in
       let test = eq-eqb (startRefusal settings before) 0 (sym accepted-is) in
       record { refusal = accepted-is; sites = fresh; memory = rw test after-is }

@@ -1,8 +1,8 @@
 -- What the calls on sites answer, refused or not, and what they leave in record and memory.
 --
---   StartSays       starting all sites
+--   StartSitesSays       starting all sites
 --   ObserveSays     an arrival at a site
---   ReceiveSays     a message at a site
+--   SiteReceiveSays     a message at a site
 --
 -- A refused call leaves record and memory as they were and hands out no message; a start hands back
 -- fresh records all the same.
@@ -16,7 +16,7 @@ use Rattle.model.specs.declared.Arrival.{Arrival}
 use Rattle.model.specs.declared.Message.{Message}
 use Rattle.model.specs.declared.SiteRecord.{SiteRecord}
 use Rattle.model.specs.Choice.{if_then_else_, isZero}
-use Rattle.model.specs.Refusals.{when, _orElse_, accepted, memoryTooShort, unknownSite}
+use Rattle.model.specs.Refusals.{when, _orElse_, noRefusal, memoryTooShort, unknownSite}
 use Rattle.model.specs.Messages.{noMessage}
 use Rattle.model.specs.Settings.{settingsRefusal}
 use Rattle.model.specs.Site.{SiteStep, arrivalRefusal, observed, siteMessageRefusal, siteReceives}
@@ -33,13 +33,13 @@ abbrev pub startRefusal : Settings → List ℕ → ℕ
 startRefusal settings memory =
     settingsRefusal settings
     orElse when (ltb (length memory) (sitesWords settings)) memoryTooShort
-    orElse accepted
+    orElse noRefusal
 
 -- "Started fresh, every number is 0 (unused slots too)".
 abbrev pub cleared : Settings → List ℕ → List ℕ
 cleared settings memory = overwrite (replicate (sitesWords settings) 0) memory
 
-pub record StartSays
+pub record StartSitesSays
     (settings : Settings)
     (before after : List ℕ)
     (answer : StartedSites) : Type 0 where
@@ -106,7 +106,7 @@ receivedMessages settings numbers which m memory =
     then receivedStep settings numbers m memory .messages
     else []
 
-pub record ReceiveSays
+pub record SiteReceiveSays
     (settings : Settings)
     (numbers : SiteRecord)
     (which : ℕ)

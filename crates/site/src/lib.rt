@@ -8,12 +8,12 @@ ghost use lib.ListN.{length, replicate};
 ghost use Rattle.model.specs.Lent.{before, after};
 ghost use Rattle.model.specs.SiteMemory.{overwrite};
 ghost use Rattle.model.specs.NetworkMemory.{freshSites};
-ghost use Rattle.site.specs.Calls.{observeRefusal, receiveRefusal, StartSays, ObserveSays, ReceiveSays};
+ghost use Rattle.site.specs.Calls.{observeRefusal, receiveRefusal, StartSitesSays, ObserveSays, SiteReceiveSays};
 use messages::no_message;
-use model::ACCEPTED;
 use model::Arrival;
 use model::MEMORY_TOO_SHORT;
 use model::Message;
+use model::NO_REFUSAL;
 use model::SITE_RECORDS;
 use model::Settings;
 use model::SiteRecord;
@@ -31,10 +31,10 @@ pub struct StartedSites {
 
 // Why an arrival is refused: 1, 2, 3, 4, 11; then 5, 6, 7, 8.
 fn observe_refusal(settings: Settings, site: SiteRecord, arrival: Arrival, memory: &[Word]) -> u32
-    ensures { λ r. ⌜ r ≡ observeRefusal settings site arrival (now (memory .entry)) ⌝ }
+    ensures { λ r. ⌜ r ≡ observeRefusal settings site arrival (before memory) ⌝ }
 {
     let refusal = site_memory::site_memory_refusal(settings, site, memory);
-    if refusal != ACCEPTED {
+    if refusal != NO_REFUSAL {
         return refusal;
     }
     site_refusals::arrival_refusal(settings, site, arrival)
@@ -50,7 +50,7 @@ pub fn observe(
     ensures { λ r. ⌜ ObserveSays settings site arrival (before memory) (after memory) r ⌝ }
 {
     let refusal = observe_refusal(settings, site, arrival, memory);
-    if refusal != ACCEPTED {
+    if refusal != NO_REFUSAL {
         let none = no_message();
         return Observed {
             refusal: refusal,
@@ -71,10 +71,10 @@ fn receive_refusal(
     message: Message,
     memory: &[Word],
 ) -> u32
-    ensures { λ r. ⌜ r ≡ receiveRefusal settings site which message (now (memory .entry)) ⌝ }
+    ensures { λ r. ⌜ r ≡ receiveRefusal settings site which message (before memory) ⌝ }
 {
     let refusal = site_memory::site_memory_refusal(settings, site, memory);
-    if refusal != ACCEPTED {
+    if refusal != NO_REFUSAL {
         return refusal;
     }
     if settings.sites <= which {
@@ -91,10 +91,10 @@ pub fn receive(
     message: Message,
     memory: &[Word],
 ) -> Replied
-    ensures { λ r. ⌜ ReceiveSays settings site which message (now (memory .entry)) r ⌝ }
+    ensures { λ r. ⌜ SiteReceiveSays settings site which message (before memory) r ⌝ }
 {
     let refusal = receive_refusal(settings, site, which, message, memory);
-    if refusal != ACCEPTED {
+    if refusal != NO_REFUSAL {
         let none = no_message();
         return Replied {
             refusal: refusal,
@@ -136,11 +136,11 @@ fn clear(memory: &mut [Word], words: usize)
 
 // All sites started fresh, their memory one after another.
 pub fn start_sites(settings: Settings, memory: &mut [Word]) -> StartedSites
-    ensures { λ r. ⌜ StartSays settings (before memory) (after memory) r ⌝ }
+    ensures { λ r. ⌜ StartSitesSays settings (before memory) (after memory) r ⌝ }
 {
     let fresh = fresh_sites();
     let refusal = settings::test_settings(settings);
-    if refusal != ACCEPTED {
+    if refusal != NO_REFUSAL {
         return StartedSites {
             refusal: refusal,
             sites: fresh,
@@ -155,7 +155,7 @@ pub fn start_sites(settings: Settings, memory: &mut [Word]) -> StartedSites
     }
     clear(memory, words);
     StartedSites {
-        refusal: ACCEPTED,
+        refusal: NO_REFUSAL,
         sites: fresh,
     }
 }

@@ -20,7 +20,7 @@ use Rattle.model.specs.Counters.{Counter}
 use Rattle.model.specs.Site.{Site}
 use Rattle.model.specs.SiteMemory.{counterIn, countersIn, counterNumbers, counterWords, siteWords, siteIn, siteMemory, overwrite}
 use Rattle.model.specs.SoundNetwork.{SoundSite}
-use Rattle.counters.proofs.CounterMemory.{length-counterNumbers}
+use Rattle.site_counters.proofs.CounterMemory.{length-counterNumbers}
 use Rattle.site_memory.proofs.SiteMemoryLaws.{length-siteMemory}
 
 pub record Storable (settings : Settings) (site : Site) : Type 0 where

@@ -6,14 +6,14 @@ use mathlib.Core.Path.{_≡_}
 use mathlib.Core.List.{List}
 use Rattle.model.specs.declared.Settings.{Settings}
 use Rattle.model.specs.declared.SiteRecord.{SiteRecord}
-use Rattle.model.specs.Refusals.{accepted}
+use Rattle.model.specs.Refusals.{noRefusal}
 use Rattle.model.specs.SiteMemory.{siteMemoryRefusal}
-use Rattle.model.proofs.TestedMemory.{site-tested}
-use Rattle.model.proofs.ConsistentSites.{sound-of-consistent}
+use Rattle.model.proofs.Thresholds.TestedMemory.{site-tested}
+use Rattle.model.proofs.Soundness.ConsistentSites.{sound-of-consistent}
 use Rattle.site_memory.specs.Ready.{StepReady}
 
 pub step-ready : (settings : Settings) (numbers : SiteRecord) (memory : List ℕ)
-    → siteMemoryRefusal settings numbers memory ≡ accepted
+    → siteMemoryRefusal settings numbers memory ≡ noRefusal
     → StepReady settings numbers memory
 step-ready settings numbers memory none =
     let tested = site-tested settings numbers memory none in

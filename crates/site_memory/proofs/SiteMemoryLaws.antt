@@ -16,8 +16,8 @@ use Rattle.model.specs.declared.SiteRecord.{SiteRecord}
 use Rattle.model.specs.Limits.{valueCount}
 use Rattle.model.specs.Site.{Site}
 use Rattle.model.specs.SiteMemory.{counterWords, siteWords, siteIn, siteRecord, siteMemory, countersIn, counterNumbers, overwrite}
-use Rattle.model.proofs.ConsistentSites.{length-countersIn}
-use Rattle.counters.proofs.CounterMemory.{length-counterNumbers, counters-read, counters-kept}
+use Rattle.model.proofs.Soundness.ConsistentSites.{length-countersIn}
+use Rattle.site_counters.proofs.CounterMemory.{length-counterNumbers, counters-read, counters-kept}
 
 -- A site whose counters and values fit its memory.
 module _

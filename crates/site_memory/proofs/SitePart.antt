@@ -16,8 +16,8 @@ use Rattle.model.specs.declared.Settings.{Settings}
 use Rattle.model.specs.Limits.{mostSites, mostSiteWords}
 use Rattle.model.specs.SiteMemory.{siteWords}
 use Rattle.model.specs.NetworkMemory.{sitesWords}
-use Rattle.model.proofs.SettingsLaws.{Settled}
-use Rattle.model.proofs.ReportLaws.{valueCount-is}
+use Rattle.model.proofs.Thresholds.SettingsLaws.{Settled}
+use Rattle.model.proofs.BetweenArrivals.ReportLaws.{valueCount-is}
 
 -- Numbers of memory, and their bytes, are far from what a machine number holds.
 module _ {settings : Settings} (fit : Settled settings) where

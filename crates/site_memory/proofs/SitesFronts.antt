@@ -15,7 +15,7 @@ use Rattle.model.specs.declared.SiteRecord.{SiteRecord}
 use Rattle.model.specs.Site.{Site}
 use Rattle.model.specs.SiteMemory.{siteWords, siteMemory}
 use Rattle.model.specs.NetworkMemory.{sitesIn, sitesMemory}
-use Rattle.model.proofs.NeverFewer.{NoFewer, no-fewer-later}
+use Rattle.model.proofs.Soundness.NeverFewer.{NoFewer, no-fewer-later}
 use Rattle.site_memory.proofs.OneSite.{siteIn-front, siteMemory-again}
 use Rattle.site_memory.proofs.SitesMemoryLaws.{AllStorable, later, part-long, part-length, rest-long, written-length}
 

@@ -20,7 +20,7 @@ use Rattle.model.specs.Site.{Site, freshSite}
 use Rattle.model.specs.SiteMemory.{siteWords, countersIn, siteIn, siteRecord, siteMemory}
 use Rattle.model.specs.NetworkMemory.{sitesIn, sitesMemory, siteRecords}
 use Rattle.model.specs.SoundNetwork.{SoundSite}
-use Rattle.model.proofs.ConsistentSites.{length-countersIn}
+use Rattle.model.proofs.Soundness.ConsistentSites.{length-countersIn}
 use Rattle.site_memory.proofs.SiteMemoryLaws.{siteIn-siteMemory, siteMemory-siteIn, siteRecord-siteIn}
 use Rattle.site_memory.proofs.OneSite.{Storable, siteIn-front, length-written}
 use Rattle.site_memory.proofs.SitesMemoryLaws.{AllStorable, later, part-length, rest-long, drop-sitesMemory, written-length}

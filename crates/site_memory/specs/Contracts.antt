@@ -11,11 +11,11 @@ use Prim.Native.Nat.{ℕ, _+_, _≤_, _<_}
 use lib.ListN.{length}
 use Rattle.model.specs.declared.Settings.{Settings}
 use Rattle.model.specs.declared.SiteRecord.{SiteRecord}
-use Rattle.model.specs.Refusals.{accepted}
+use Rattle.model.specs.Refusals.{noRefusal}
 use Rattle.model.specs.Limits.{valueCount}
 use Rattle.model.specs.Settings.{settingsRefusal}
 use Rattle.model.specs.SiteMemory.{siteWords, siteIn, countersIn, counterConsistent, countersConsistent}
-use Rattle.counters.specs.Stored.{storedAt}
+use Rattle.site_counters.specs.Stored.{storedAt}
 
 -- Whether the counter at a place, and whether each of the counters in use, is consistent.
 abbrev pub counterPasses : Settings → SiteRecord → List ℕ → ℕ → Bool
@@ -28,7 +28,7 @@ countersPass settings numbers memory used =
 
 -- Settings that pass, and memory that is long enough.
 pub record MemoryFits (settings : Settings) (memory : List ℕ) : Type 0 where
-  pub settings-accepted : settingsRefusal settings ≡ accepted
+  pub settings-accepted : settingsRefusal settings ≡ noRefusal
   pub long-enough : siteWords settings ≤ length memory
 
 -- Places of a histogram within the memory, from a place on.

@@ -8,12 +8,12 @@ ghost use Rattle.model.specs.Limits.{topValue};
 ghost use Rattle.model.specs.Messages.{isProbe};
 ghost use Rattle.model.specs.Site.{addressRefusal, roomRefusal, arrivalRefusal, dueAtSite, wrongAtSite, siteDueRefusal, siteMessageRefusal};
 ghost use Rattle.site_refusals.specs.Bare.{bareSite};
-use model::ACCEPTED;
 use model::AMOUNT_NOT_DUE;
 use model::ANNOUNCEMENT;
 use model::Arrival;
 use model::MESSAGE_NOT_DUE;
 use model::Message;
+use model::NO_REFUSAL;
 use model::POLL;
 use model::PROBE;
 use model::SITE_FULL;
@@ -38,7 +38,7 @@ pub fn address_refusal(settings: Settings, arrival: Arrival) -> u32
     if TOP_VALUE < arrival.value {
         return VALUE_TOO_LARGE;
     }
-    ACCEPTED
+    NO_REFUSAL
 }
 
 // Whether a site takes no further arrival: 8.
@@ -48,7 +48,7 @@ fn room_refusal(site: SiteRecord) -> u32
     if SITE_LIMIT <= site.arrivals {
         return SITE_FULL;
     }
-    ACCEPTED
+    NO_REFUSAL
 }
 
 // Why an arrival is refused at a site that is consistent: 5, 6, 7; then 8.
@@ -56,7 +56,7 @@ pub fn arrival_refusal(settings: Settings, site: SiteRecord, arrival: Arrival) -
     ensures { λ r. ⌜ r ≡ arrivalRefusal settings (bareSite site) arrival ⌝ }
 {
     let refusal = address_refusal(settings, arrival);
-    if refusal != ACCEPTED {
+    if refusal != NO_REFUSAL {
         return refusal;
     }
     room_refusal(site)
@@ -124,7 +124,7 @@ fn due_refusal(site: SiteRecord, which: u32, message: Message) -> u32
     if amount_wrong(site, message) {
         return AMOUNT_NOT_DUE;
     }
-    ACCEPTED
+    NO_REFUSAL
 }
 
 // Why a message is refused at a site that is consistent: 5; then 9, 7, 10.

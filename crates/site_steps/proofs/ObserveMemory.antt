@@ -20,7 +20,7 @@ use Rattle.model.specs.Limits.{valueCount}
 use Rattle.model.specs.Counters.{Counter, counterAt}
 use Rattle.model.specs.Site.{Site, observed, oneMoreAt, placeFor, countersWith, reportAt, reportsItem}
 use Rattle.model.specs.SiteMemory.{counterWords, siteWords, siteIn, siteMemory, counterNumbers, overwrite}
-use Rattle.counters.proofs.CounterMemory.{length-counterNumbers, withReported, set-reported}
+use Rattle.site_counters.proofs.CounterMemory.{length-counterNumbers, withReported, set-reported}
 use Rattle.site_memory.proofs.ValueLaws.{getD-valuesAt}
 
 -- ---- A report in memory

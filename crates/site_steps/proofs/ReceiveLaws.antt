@@ -15,13 +15,13 @@ use borrow.Author.Tests.{leb-false, ltb-false, not-false}
 use Rattle.model.specs.declared.Settings.{Settings}
 use Rattle.model.specs.declared.SiteRecord.{SiteRecord}
 use Rattle.model.specs.declared.Message.{Message}
-use Rattle.model.specs.Refusals.{accepted}
+use Rattle.model.specs.Refusals.{noRefusal}
 use Rattle.model.specs.Limits.{topValue}
 use Rattle.model.specs.Messages.{isPoll, isProbe}
 use Rattle.model.specs.Site.{Site, dueAtSite, wrongAtSite, siteMessageRefusal, siteReceives}
 use Rattle.model.specs.SiteMemory.{siteIn, siteRecord, countersIn}
-use Rattle.model.proofs.RefusalLaws.{passed}
-use Rattle.model.proofs.ConsistentSites.{length-countersIn}
+use Rattle.model.proofs.Thresholds.RefusalLaws.{passed}
+use Rattle.model.proofs.Soundness.ConsistentSites.{length-countersIn}
 
 -- ---- A message that is not refused
 
@@ -32,7 +32,7 @@ pub record Due (settings : Settings) (site : Site) (which : ℕ) (m : Message) :
   pub not-wrong : wrongAtSite site m ≡ false
 
 pub message-due : (settings : Settings) (site : Site) (which : ℕ) (m : Message)
-    → siteMessageRefusal settings site which m ≡ accepted
+    → siteMessageRefusal settings site which m ≡ noRefusal
     → Due settings site which m
 message-due settings site which m none =
     let site-row = passed (leb (settings .sites) (m .site)) 5 _ (omega arith) none in

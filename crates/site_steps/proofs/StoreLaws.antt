@@ -22,13 +22,13 @@ use Rattle.model.specs.Counters.{Counter, counterAt}
 use Rattle.model.specs.Site.{Site, observed, oneMoreAt, placeFor, countersWith}
 use Rattle.model.specs.SiteMemory.{counterWords, siteIn, siteRecord, counterNumbers, overwrite}
 use Rattle.model.specs.SoundNetwork.{SoundSite}
-use Rattle.model.proofs.SettingsLaws.{Settled, settled}
-use Rattle.model.proofs.ReportLaws.{value-counted}
-use Rattle.model.proofs.ConsistentSites.{length-countersIn}
-use Rattle.model.proofs.SoundSites.{ArrivalTaken, taken-of-no-refusal, CountedAt, sound-counted}
-use Rattle.counters.specs.declared.Counted.{Counted}
-use Rattle.counters.specs.Stored.{counterOf}
-use Rattle.counters.specs.Count.{greatestWord, CountAsks, CountSays}
+use Rattle.model.proofs.Thresholds.SettingsLaws.{Settled, settled}
+use Rattle.model.proofs.BetweenArrivals.ReportLaws.{value-counted}
+use Rattle.model.proofs.Soundness.ConsistentSites.{length-countersIn}
+use Rattle.model.proofs.Soundness.SoundSites.{ArrivalTaken, taken-of-no-refusal, CountedAt, sound-counted}
+use Rattle.site_counters.specs.declared.Counted.{Counted}
+use Rattle.site_counters.specs.Stored.{counterOf}
+use Rattle.site_counters.specs.Count.{greatestWord, CountItemAsks, CountItemSays}
 use Rattle.site_memory.proofs.ValueLaws.{getD-le-sum}
 use Rattle.site_steps.specs.Steps.{ObserveAsks, ReportAsks, ReportSays, StoreSays, messagesDue, GatherSays, ObserveStepSays}
 use Rattle.site_steps.specs.declared.StoredArrival.{StoredArrival}
@@ -69,7 +69,7 @@ module _
 
   -- ---- What each call requires
 
-  pub count-asks : CountAsks before (settings .capacity) (numbers .used)
+  pub count-asks : CountItemAsks before (settings .capacity) (numbers .used)
   count-asks = record {
     fits = omega (arith, asks .ready .long-enough);
     some = capacity-known .capacity .at-least;
@@ -83,7 +83,8 @@ module _
   module _
       (stored : List ℕ)
       (counted : Counted)
-      (says : CountSays before stored (settings .capacity) (numbers .used) (arrival .item) counted)
+      (says : CountItemSays before stored (settings .capacity) (numbers .used) (arrival .item)
+      counted)
       (stored-long : length stored ≡ length before) where
     pub report-asks : ReportAsks stored (counted .place) (counterOf (counted .counter))
     report-asks = record {

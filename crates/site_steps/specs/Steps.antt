@@ -15,14 +15,14 @@ use Rattle.model.specs.declared.Arrival.{Arrival}
 use Rattle.model.specs.declared.Message.{Message}
 use Rattle.model.specs.declared.SiteRecord.{SiteRecord}
 use Rattle.model.specs.Choice.{if_then_else_}
-use Rattle.model.specs.Refusals.{accepted}
+use Rattle.model.specs.Refusals.{noRefusal}
 use Rattle.model.specs.Limits.{topValue}
 use Rattle.model.specs.Messages.{noMessage, isProbe}
 use Rattle.model.specs.Counters.{Counter, unreported}
 use Rattle.model.specs.Site.{SiteStep, arrivalRefusal, reportsItem, observed, siteReceives}
 use Rattle.model.specs.SiteMemory.{siteIn, siteRecord, siteMemory}
-use Rattle.counters.specs.declared.StoredCounter.{StoredCounter}
-use Rattle.counters.specs.Stored.{counterOf}
+use Rattle.site_counters.specs.declared.StoredCounter.{StoredCounter}
+use Rattle.site_counters.specs.Stored.{counterOf}
 use Rattle.site_memory.specs.Ready.{StepReady}
 use Rattle.site_steps.specs.declared.Observed.{Observed}
 use Rattle.site_steps.specs.declared.Replied.{Replied}
@@ -63,7 +63,7 @@ pub record GatherSays
     (numbers : SiteRecord)
     (messages : List Message)
     (answer : Observed) : Type 0 where
-  pub refusal : answer .refusal ≡ accepted
+  pub refusal : answer .refusal ≡ noRefusal
   pub site : answer .site ≡ numbers
   pub count : answer .count ≡ length messages
   pub first : answer .first ≡ getD messages 0 noMessage
@@ -83,7 +83,7 @@ pub record ObserveAsks
     (arrival : Arrival)
     (memory : List ℕ) : Type 0 where
   pub ready : StepReady settings numbers memory
-  pub not-refused : arrivalRefusal settings (siteIn settings numbers memory) arrival ≡ accepted
+  pub not-refused : arrivalRefusal settings (siteIn settings numbers memory) arrival ≡ noRefusal
 
 -- The model's step on the site that record and memory hold.
 abbrev pub observedIn : Settings → SiteRecord → Arrival → List ℕ → SiteStep
@@ -136,7 +136,7 @@ pub record ReceiveStepSays
     (m : Message)
     (memory : List ℕ)
     (answer : Replied) : Type 0 where
-  pub refusal : answer .refusal ≡ accepted
+  pub refusal : answer .refusal ≡ noRefusal
   pub site : answer .site ≡ siteRecord (receivedIn settings numbers m memory .site)
   pub count : answer .count ≡ length (receivedIn settings numbers m memory .messages)
   pub reply : answer .reply ≡ getD (receivedIn settings numbers m memory .messages) 0 noMessage

@@ -8,23 +8,23 @@ ghost use lib.ListN.{length, getD};
 ghost use Rattle.model.specs.Choice.{if_then_else_};
 ghost use Rattle.model.specs.Lent.{before, after};
 ghost use Rattle.model.specs.Site.{oneMoreAt};
-ghost use Rattle.counters.specs.Count.{greatestWord};
-ghost use Rattle.counters.specs.Stored.{counterOf};
+ghost use Rattle.site_counters.specs.Count.{greatestWord};
+ghost use Rattle.site_counters.specs.Stored.{counterOf};
 ghost use Rattle.site_steps.specs.Steps.{ReportAsks, StoredReportSays, DueSays, ObserveAsks, StoreSays, ObserveStepSays, ReceiveAsks, ReceiveStepSays};
-use counters::StoredCounter;
 use messages::count_report_of;
 use messages::item_report_of;
 use messages::no_message;
 use messages::poll_answer_of;
 use messages::probe_answer_of;
-use model::ACCEPTED;
 use model::Arrival;
 use model::Message;
+use model::NO_REFUSAL;
 use model::POLL;
 use model::PROBE;
 use model::Settings;
 use model::SiteRecord;
 use model::Word;
+use site_counters::StoredCounter;
 
 // What an arrival leads to: the site's record then, and the messages that go out, of which there
 // are `count`; an absent one is all zeros.
@@ -101,7 +101,7 @@ fn gather(
     if item_due {
         if count_due {
             return Observed {
-                refusal: ACCEPTED,
+                refusal: NO_REFUSAL,
                 site: site,
                 count: 2,
                 first: item_report,
@@ -109,7 +109,7 @@ fn gather(
             };
         }
         return Observed {
-            refusal: ACCEPTED,
+            refusal: NO_REFUSAL,
             site: site,
             count: 1,
             first: item_report,
@@ -118,7 +118,7 @@ fn gather(
     }
     if count_due {
         return Observed {
-            refusal: ACCEPTED,
+            refusal: NO_REFUSAL,
             site: site,
             count: 1,
             first: count_report,
@@ -126,7 +126,7 @@ fn gather(
         };
     }
     Observed {
-        refusal: ACCEPTED,
+        refusal: NO_REFUSAL,
         site: site,
         count: 0,
         first: none,
@@ -153,7 +153,7 @@ fn store_arrival(
 {
     let capacity = settings.capacity as usize;
     let used = site.used as usize;
-    let counted = counters::count_item(memory, capacity, used, arrival.item);
+    let counted = site_counters::count_item(memory, capacity, used, arrival.item);
     let place = counted.place;
     let item_due = report_counter(memory, place, counted.counter, site.threshold);
     let value_place = 4 * capacity + (arrival.value as usize);
@@ -202,7 +202,7 @@ pub fn receive_step(
     memory: &[Word],
 ) -> Replied
     requires { ⌜ ReceiveAsks settings site message (now memory) ⌝ }
-    ensures { λ r. ⌜ ReceiveStepSays settings site message (now (memory .entry)) r ⌝ }
+    ensures { λ r. ⌜ ReceiveStepSays settings site message (before memory) r ⌝ }
 {
     if message.kind == POLL {
         let after = SiteRecord {
@@ -212,7 +212,7 @@ pub fn receive_step(
             used: site.used,
         };
         return Replied {
-            refusal: ACCEPTED,
+            refusal: NO_REFUSAL,
             site: after,
             count: 1,
             reply: poll_answer_of(message.site, site.pending),
@@ -223,7 +223,7 @@ pub fn receive_step(
         let value = message.a as usize;
         let count = site_memory::count_up_to(memory, from, value);
         return Replied {
-            refusal: ACCEPTED,
+            refusal: NO_REFUSAL,
             site: site,
             count: 1,
             reply: probe_answer_of(message.site, message.a, count),
@@ -236,7 +236,7 @@ pub fn receive_step(
         used: site.used,
     };
     Replied {
-        refusal: ACCEPTED,
+        refusal: NO_REFUSAL,
         site: after,
         count: 0,
         reply: no_message(),

@@ -7,8 +7,8 @@ use Rattle.model.specs.declared.Arrival.{Arrival}
 use Rattle.model.specs.declared.Sites.{Sites}
 use Rattle.model.specs.declared.CoordinatorRecord.{CoordinatorRecord}
 use Rattle.model.specs.Held.{Held, heldBy}
-use Rattle.public_delivery.specs.declared.DeliveryAnswer.{DeliveryAnswer}
-use Rattle.public_delivery.specs.Delivery.{DeliverySays}
+use Rattle.single_delivery.specs.declared.DeliveryAnswer.{DeliveryAnswer}
+use Rattle.single_delivery.specs.Delivery.{DeliverySays}
 use Rattle.record_numbers.specs.Numbers.{settingsFrom, sitesFrom, coordinatorFrom}
 
 pub says-of-numbers : (settings sites coordinator : List ℕ)

@@ -9,6 +9,7 @@ use mathlib.Core.List.{List, [], _∷_}
 use Prim.Native.Nat.{ℕ}
 use lib.IntN.{ℤ, pos}
 use lib.ListN.{length}
+use Rattle.model.specs.Lent.{before}
 use Rattle.model.specs.declared.Settings.{Settings}
 use Rattle.model.specs.declared.Arrival.{Arrival}
 use Rattle.model.specs.declared.Message.{Message}
@@ -19,18 +20,18 @@ use Rattle.model.specs.CoordinatorMemory.{coordinatorIn, coordinatorMemoryRefus
 use Rattle.site_steps.specs.declared.Observed.{Observed}
 use Rattle.site_steps.specs.declared.Replied.{Replied}
 use Rattle.site.specs.declared.StartedSites.{StartedSites}
-use Rattle.site.specs.Calls.{startRefusal, observeRefusal, receiveRefusal, StartSays, ObserveSays, ReceiveSays}
+use Rattle.site.specs.Calls.{startRefusal, observeRefusal, receiveRefusal, StartSitesSays, ObserveSays, SiteReceiveSays}
 use Rattle.coordinator.specs.declared.StartedCoordinator.{StartedCoordinator}
 use Rattle.coordinator.specs.declared.Received.{Received}
 use Rattle.coordinator.specs.Calls as coordinator
-use Rattle.listing.specs.declared.Listed.{Listed}
-use Rattle.reading.specs.declared.Margin.{Margin}
-use Rattle.reading.specs.declared.QuantileRead.{QuantileRead}
-use Rattle.reading.specs.Contracts.{marginRefusal, ReadsQuantile}
-use Rattle.listing.specs.Contracts.{listRefusal, Lists}
+use Rattle.coordinator_list.specs.declared.Listed.{Listed}
+use Rattle.coordinator_reading.specs.declared.Margin.{Margin}
+use Rattle.coordinator_reading.specs.declared.QuantileRead.{QuantileRead}
+use Rattle.coordinator_reading.specs.Contracts.{marginRefusal, QuantileSays}
+use Rattle.coordinator_list.specs.Contracts.{listRefusal, ListSays}
 use Rattle.record_numbers.specs.Numbers.{settingsFrom, siteFrom, siteNumbers, sitesNumbers, coordinatorFrom, coordinatorNumbers}
 use Rattle.testing_numbers.specs.Answers.{oneMessage, twoMessages, quantileNumbers}
-use Rattle.testing_numbers.specs.Openings.{Slice, given, Lent, lent, placesLent, siteLent, coordinatorLent, Writes, unfit, Kept, Exported}
+use Rattle.testing_numbers.specs.Openings.{Slice, Lent, lent, placesLent, siteLent, coordinatorLent, Writes, unfit, Kept, Exported}
 
 -- ---- What is handed back
 
@@ -55,14 +56,14 @@ abbrev pub HandsSites : Settings → Lent → Lent → ℕ → Type 0
 HandsSites settings memory sites =
     Hands StartedSites
     (startRefusal settings (memory .before))
-    (StartSays settings (memory .before) (memory .after))
+    (StartSitesSays settings (memory .before) (memory .after))
     (λ (started : StartedSites). Writes (sitesNumbers (started .sites)) sites)
 
 abbrev pub StartSitesExported : Slice → Slice → Slice → ℕ → Type 0
 StartSitesExported settings memory sites answer =
     Exported
-    (placesLent (given settings) (length (given sites)) 129)
-    (HandsSites (settingsFrom (given settings)) (lent memory) (lent sites) answer)
+    (placesLent (before settings) (length (before sites)) 129)
+    (HandsSites (settingsFrom (before settings)) (lent memory) (lent sites) answer)
     (Kept (lent memory ∷ (lent sites ∷ [])) answer)
 
 -- An arrival at a site: 9 numbers for two messages and how many there are.
@@ -77,8 +78,8 @@ HandsObserved settings arrival site memory out =
 abbrev pub ObserveExported : Slice → Arrival → Slice → Slice → Slice → ℕ → Type 0
 ObserveExported settings arrival site memory out answer =
     Exported
-    (siteLent (given settings) (given site) (length (given out)) 9)
-    (HandsObserved (settingsFrom (given settings)) arrival (lent site) (lent memory) (lent out)
+    (siteLent (before settings) (before site) (length (before out)) 9)
+    (HandsObserved (settingsFrom (before settings)) arrival (lent site) (lent memory) (lent out)
     answer)
     (Kept (lent site ∷ (lent memory ∷ (lent out ∷ []))) answer)
 
@@ -87,15 +88,15 @@ abbrev pub HandsReplied : Settings → ℕ → Message → List ℕ → Lent →
 HandsReplied settings which m memory site out =
     Hands Replied
     (receiveRefusal settings (siteFrom (site .before)) which m memory)
-    (ReceiveSays settings (siteFrom (site .before)) which m memory)
+    (SiteReceiveSays settings (siteFrom (site .before)) which m memory)
     (λ (answered : Replied). WritesBoth (siteNumbers (answered .site)) site
     (oneMessage (answered .count) (answered .reply)) out)
 
 abbrev pub ReplyExported : Slice → ℕ → Message → Slice → Slice → Slice → ℕ → Type 0
 ReplyExported settings which m memory site out answer =
     Exported
-    (siteLent (given settings) (given site) (length (given out)) 5)
-    (HandsReplied (settingsFrom (given settings)) which m (given memory) (lent site) (lent out)
+    (siteLent (before settings) (before site) (length (before out)) 5)
+    (HandsReplied (settingsFrom (before settings)) which m (before memory) (lent site) (lent out)
     answer)
     (Kept (lent site ∷ (lent out ∷ [])) answer)
 
@@ -106,20 +107,20 @@ abbrev pub HandsCoordinator : Settings → Lent → Lent → ℕ → Type 0
 HandsCoordinator settings memory numbers =
     Hands StartedCoordinator
     (coordinator.startRefusal settings (length (memory .before)))
-    (coordinator.Starts settings (memory .before) (memory .after))
+    (coordinator.StartCoordinatorSays settings (memory .before) (memory .after))
     (λ (started : StartedCoordinator).
     Writes (coordinatorNumbers (started .coordinator)) numbers)
 
 abbrev pub StartCoordinatorExported : Slice → Slice → Slice → ℕ → Type 0
 StartCoordinatorExported settings memory numbers answer =
     Exported
-    (placesLent (given settings) (length (given numbers)) 10)
-    (HandsCoordinator (settingsFrom (given settings)) (lent memory) (lent numbers) answer)
+    (placesLent (before settings) (length (before numbers)) 10)
+    (HandsCoordinator (settingsFrom (before settings)) (lent memory) (lent numbers) answer)
     (Kept (lent memory ∷ (lent numbers ∷ [])) answer)
 
 -- What a step hands back: the record's numbers and 5 numbers for a message.
-abbrev pub HandsReceived : Received → Lent → Lent → Type 0
-HandsReceived received numbers out =
+abbrev pub WriteReceivedSays : Received → Lent → Lent → Type 0
+WriteReceivedSays received numbers out =
     WritesBoth (coordinatorNumbers (received .coordinator)) numbers
     (oneMessage (received .count) (received .out)) out
 
@@ -128,14 +129,14 @@ abbrev pub HandsReceipt : Settings → CoordinatorRecord → Message → Lent �
 HandsReceipt settings c m numbers memory out =
     Hands Received
     (coordinator.receiveRefusal settings c m (memory .before))
-    (coordinator.Receives settings c m (memory .before) (memory .after))
-    (λ (received : Received). HandsReceived received numbers out)
+    (coordinator.CoordinatorReceiveSays settings c m (memory .before) (memory .after))
+    (λ (received : Received). WriteReceivedSays received numbers out)
 
 abbrev pub ReceiptExported : Slice → Message → Slice → Slice → Slice → ℕ → Type 0
 ReceiptExported settings m numbers memory out answer =
     Exported
-    (coordinatorLent (given settings) (given numbers) (length (given out)) 5)
-    (HandsReceipt (settingsFrom (given settings)) (coordinatorFrom (given numbers)) m
+    (coordinatorLent (before settings) (before numbers) (length (before out)) 5)
+    (HandsReceipt (settingsFrom (before settings)) (coordinatorFrom (before numbers)) m
     (lent numbers) (lent memory) (lent out) answer)
     (Kept (lent numbers ∷ (lent memory ∷ (lent out ∷ []))) answer)
 
@@ -144,15 +145,15 @@ abbrev pub HandsAnnouncement : Settings → CoordinatorRecord → List ℕ → L
 HandsAnnouncement settings c memory numbers out =
     Hands Received
     (coordinator.announceRefusal settings c memory)
-    (coordinator.Announces settings c memory)
-    (λ (received : Received). HandsReceived received numbers out)
+    (coordinator.AnnounceSays settings c memory)
+    (λ (received : Received). WriteReceivedSays received numbers out)
 
 abbrev pub AnnouncementExported : Slice → Slice → Slice → Slice → ℕ → Type 0
 AnnouncementExported settings memory numbers out answer =
     Exported
-    (coordinatorLent (given settings) (given numbers) (length (given out)) 5)
-    (HandsAnnouncement (settingsFrom (given settings)) (coordinatorFrom (given numbers))
-    (given memory) (lent numbers) (lent out) answer)
+    (coordinatorLent (before settings) (before numbers) (length (before out)) 5)
+    (HandsAnnouncement (settingsFrom (before settings)) (coordinatorFrom (before numbers))
+    (before memory) (lent numbers) (lent out) answer)
     (Kept (lent numbers ∷ (lent out ∷ [])) answer)
 
 -- ---- Reading
@@ -162,14 +163,14 @@ abbrev pub HandsList : Settings → CoordinatorRecord → List ℕ → Lent → 
 HandsList settings c memory list out =
     Hands Listed
     (listRefusal settings c memory (length (list .before)))
-    (Lists settings c memory (list .before) (list .after))
+    (ListSays settings c memory (list .before) (list .after))
     (λ (listed : Listed). Writes (listed .count ∷ []) out)
 
 abbrev pub ListExported : Slice → Slice → Slice → Slice → Slice → ℕ → Type 0
 ListExported settings numbers memory list out answer =
     Exported
-    (coordinatorLent (given settings) (given numbers) (length (given out)) 1)
-    (HandsList (settingsFrom (given settings)) (coordinatorFrom (given numbers)) (given memory)
+    (coordinatorLent (before settings) (before numbers) (length (before out)) 1)
+    (HandsList (settingsFrom (before settings)) (coordinatorFrom (before numbers)) (before memory)
     (lent list) (lent out) answer)
     (Kept (lent list ∷ (lent out ∷ [])) answer)
 
@@ -177,9 +178,9 @@ ListExported settings numbers memory list out answer =
 abbrev pub MarginRefusalExported : Slice → Slice → ℕ → Slice → ℕ → Type 0
 MarginRefusalExported settings numbers item memory answer =
     Exported
-    (coordinatorLent (given settings) (given numbers) 0 0)
-    (answer ≡ marginRefusal (settingsFrom (given settings)) (coordinatorFrom (given numbers)) item
-    (given memory))
+    (coordinatorLent (before settings) (before numbers) 0 0)
+    (answer ≡ marginRefusal (settingsFrom (before settings)) (coordinatorFrom (before numbers)) item
+    (before memory))
     (answer ≡ unfit)
 
 -- The margin, 0 where it is refused.
@@ -192,9 +193,9 @@ marginRead settings c item memory =
 abbrev pub MarginExported : Slice → Slice → ℕ → Slice → ℤ → Type 0
 MarginExported settings numbers item memory answer =
     Exported
-    (coordinatorLent (given settings) (given numbers) 0 0)
-    (answer ≡ marginRead (settingsFrom (given settings)) (coordinatorFrom (given numbers)) item
-    (given memory))
+    (coordinatorLent (before settings) (before numbers) 0 0)
+    (answer ≡ marginRead (settingsFrom (before settings)) (coordinatorFrom (before numbers)) item
+    (before memory))
     (answer ≡ pos 0)
 
 -- What both calls hand on.
@@ -208,13 +209,13 @@ abbrev pub HandsQuantile : Settings → CoordinatorRecord → List ℕ → Lent 
 HandsQuantile settings c memory out =
     Hands QuantileRead
     (coordinatorMemoryRefusal settings c memory)
-    (ReadsQuantile settings c memory)
+    (QuantileSays settings c memory)
     (λ (read : QuantileRead). Writes (quantileNumbers (read .quantile)) out)
 
 abbrev pub QuantileExported : Slice → Slice → Slice → Slice → ℕ → Type 0
 QuantileExported settings numbers memory out answer =
     Exported
-    (coordinatorLent (given settings) (given numbers) (length (given out)) 2)
-    (HandsQuantile (settingsFrom (given settings)) (coordinatorFrom (given numbers))
-    (given memory) (lent out) answer)
+    (coordinatorLent (before settings) (before numbers) (length (before out)) 2)
+    (HandsQuantile (settingsFrom (before settings)) (coordinatorFrom (before numbers))
+    (before memory) (lent out) answer)
     (Kept (lent out ∷ []) answer)

@@ -10,8 +10,8 @@ use Prim.Native.Nat.{ℕ, _≤_}
 use lib.ListN.{length}
 use Rattle.model.specs.declared.Arrival.{Arrival}
 use Rattle.model.specs.Held.{Held, heldBy}
-use Rattle.public_delivery.specs.declared.DeliveryAnswer.{DeliveryAnswer}
-use Rattle.public_delivery.specs.Delivery.{deliveryRefusal, DeliverySays}
+use Rattle.single_delivery.specs.declared.DeliveryAnswer.{DeliveryAnswer}
+use Rattle.single_delivery.specs.Delivery.{deliveryRefusal, DeliverySays}
 use Rattle.record_numbers.specs.Numbers.{greatestNarrow, greatestHeld, settingsFrom, sitesFrom, sitesNumbers, coordinatorFrom, coordinatorNumbers}
 use Rattle.testing_numbers.specs.Openings.{Slice, Lent, lent, networkLent, Writes, Kept, Exported}
 
@@ -58,7 +58,7 @@ heldLeft lends done =
     (lends .siteMemory .after) (lends .coordinatorMemory .after)
 
 -- The records go back to their numbers; what was carried, and what stopped it, goes to `out`.
-pub record HandsDelivery (settings : List ℕ) (arrival : Arrival) (lends : DeliveryLends)
+pub record DeliverLentSays (settings : List ℕ) (arrival : Arrival) (lends : DeliveryLends)
     (answer : ℕ) : Type 0 where
   pub refusal : answer ≡ deliveryRefusal (settingsFrom settings) (heldBefore lends) arrival
   pub done : DeliveryAnswer
@@ -73,5 +73,5 @@ DeliveryExported settings arrival lends answer =
     Exported
     (networkLent settings (lends .sites .before) (lends .coordinator .before)
     (length (lends .out .before)) 2)
-    (HandsDelivery settings arrival lends answer)
+    (DeliverLentSays settings arrival lends answer)
     (Kept (allLent lends) answer)

@@ -3,10 +3,10 @@ ghost use lib.ListN.{length};
 ghost use Rattle.model.specs.Messages.{message};
 ghost use Prim.Native.Nat.{_≤_};
 ghost use Rattle.testing_numbers.specs.Openings.{lent};
-ghost use Rattle.testing.specs.Calls.{HandsReceived, StartCoordinatorExported, ReceiptExported, AnnouncementExported, ListExported, MarginExports, MarginRefusalExported, MarginExported, QuantileExported};
+ghost use Rattle.testing.specs.Calls.{WriteReceivedSays, StartCoordinatorExported, ReceiptExported, AnnouncementExported, ListExported, MarginExports, MarginRefusalExported, MarginExported, QuantileExported};
 use coordinator::Received;
+use coordinator_reading::Margin;
 use messages::message_of;
-use reading::Margin;
 use record_numbers::coordinator_numbers::COORDINATOR_NUMBERS;
 use record_numbers::coordinator_numbers::write_coordinator;
 use testing_numbers::answers::ONE_MESSAGE;
@@ -38,7 +38,7 @@ pub extern "C" fn testing_start_coordinator(
 // The record and the message that a step hands back.
 fn write_received(numbers: &mut [u64], out: &mut [u64], received: Received)
     requires { ⌜ (10 ≤ length (now numbers)) × (5 ≤ length (now out)) ⌝ }
-    ensures { λ r. ⌜ HandsReceived received (lent numbers) (lent out) ⌝ }
+    ensures { λ r. ⌜ WriteReceivedSays received (lent numbers) (lent out) ⌝ }
 {
     let next = received.coordinator;
     write_coordinator(numbers, next);
@@ -88,7 +88,7 @@ pub extern "C" fn testing_next_announcement(
     UNFIT
 }
 
-// `listing::list_heavy_hitters`: the items go to `list`, their number to `out`.
+// `coordinator_list::list_heavy_hitters`: the items go to `list`, their number to `out`.
 #[no_mangle]
 pub extern "C" fn testing_list_heavy_hitters(
     settings: &[u32],
@@ -101,20 +101,25 @@ pub extern "C" fn testing_list_heavy_hitters(
 {
     let opened = open_coordinator(settings, numbers, out.len(), 1);
     if opened.fits {
-        let listed = listing::list_heavy_hitters(opened.settings, opened.coordinator, memory, list);
+        let listed = coordinator_list::list_heavy_hitters(
+            opened.settings,
+            opened.coordinator,
+            memory,
+            list,
+        );
         out[0] = listed.count as u64;
         return listed.refusal;
     }
     UNFIT
 }
 
-// `reading::read_margin`; margin 0 where what is lent does not fit.
+// `coordinator_reading::read_margin`; margin 0 where what is lent does not fit.
 fn margin_lent(settings: &[u32], numbers: &[u64], item: u32, memory: &[u64]) -> Margin
     ensures { λ r. ⌜ MarginExports settings numbers item memory r ⌝ }
 {
     let opened = open_coordinator(settings, numbers, 0, 0);
     if opened.fits {
-        return reading::read_margin(opened.settings, opened.coordinator, item, memory);
+        return coordinator_reading::read_margin(opened.settings, opened.coordinator, item, memory);
     }
     Margin {
         refusal: UNFIT,
@@ -150,7 +155,7 @@ pub extern "C" fn testing_margin(
     read.margin
 }
 
-// `reading::read_quantile`: whether there is one, and its value, go to `out`.
+// `coordinator_reading::read_quantile`: whether there is one, and its value, go to `out`.
 #[no_mangle]
 pub extern "C" fn testing_read_quantile(
     settings: &[u32],
@@ -162,7 +167,7 @@ pub extern "C" fn testing_read_quantile(
 {
     let opened = open_coordinator(settings, numbers, out.len(), 2);
     if opened.fits {
-        let read = reading::read_quantile(opened.settings, opened.coordinator, memory);
+        let read = coordinator_reading::read_quantile(opened.settings, opened.coordinator, memory);
         let quantile = read.quantile;
         write_quantile(out, quantile);
         return read.refusal;

@@ -1,7 +1,7 @@
 // An arrival with full delivery by the public calls.
+ghost use Rattle.model.specs.Lent.{before};
 ghost use Rattle.model.specs.Instances.{arrivalWith};
-ghost use Rattle.testing_numbers.specs.Openings.{given};
-ghost use Rattle.testing.specs.Delivery.{deliveryLends, DeliveryAsks, HandsDelivery, DeliveryExported};
+ghost use Rattle.testing.specs.Delivery.{deliveryLends, DeliveryAsks, DeliverLentSays, DeliveryExported};
 use model::Arrival;
 use record_numbers::coordinator_numbers::coordinator_from;
 use record_numbers::coordinator_numbers::write_coordinator;
@@ -23,13 +23,13 @@ fn deliver_lent(
     out: &mut [u64],
 ) -> u32
     requires { ⌜ DeliveryAsks (now settings) (now sites) (now coordinator) (now out) ⌝ }
-    ensures { λ r. ⌜ HandsDelivery (given settings) arrival
+    ensures { λ r. ⌜ DeliverLentSays (before settings) arrival
         (deliveryLends sites coordinator words tables out) r ⌝ }
 {
     let rules = settings_from(settings);
     let records = sites_from(sites);
     let before = coordinator_from(coordinator);
-    let done = public_delivery::deliver_arrival(rules, records, before, arrival, words, tables);
+    let done = single_delivery::deliver_arrival(rules, records, before, arrival, words, tables);
     let records_then = done.sites;
     let then = done.coordinator;
     write_sites(sites, records_then);
@@ -39,7 +39,7 @@ fn deliver_lent(
     done.refusal
 }
 
-// `public_delivery::deliver_arrival`, with the sites' memory `words` and the coordinator's memory
+// `single_delivery::deliver_arrival`, with the sites' memory `words` and the coordinator's memory
 // `tables`: the records go back to `sites` and `coordinator`; `out` gets the count of messages that
 // went out, and the number of a call that stopped the delivery, or 0.
 #[no_mangle]
@@ -54,7 +54,7 @@ pub extern "C" fn testing_deliver_arrival(
     tables: &mut [u64],
     out: &mut [u64],
 ) -> u32
-    ensures { λ r. ⌜ DeliveryExported (given settings) (arrivalWith at item value)
+    ensures { λ r. ⌜ DeliveryExported (before settings) (arrivalWith at item value)
         (deliveryLends sites coordinator words tables out) r ⌝ }
 {
     if network_lent(settings, sites, coordinator, out.len(), 2) {

@@ -18,7 +18,7 @@ use Rattle.tracker.specs.Batch.{BatchSays}
 use Rattle.testing_batches.specs.declared.Opening.{Opening}
 use Rattle.record_numbers.specs.Numbers.{settingsFrom, sitesFrom, coordinatorFrom}
 use Rattle.testing_numbers.specs.Openings.{Lent, change, Kept}
-use Rattle.testing_batches.specs.Batch.{batchFits, openingOf, noOpening, openingFrom, Opens, ClosesAsk, Closes, BatchLends, allLent, callOf, leftBy, BatchExports}
+use Rattle.testing_batches.specs.Batch.{batchFits, openingOf, noOpening, openingFrom, OpenLentSays, CloseLentAsks, CloseLentSays, BatchLends, allLent, callOf, leftBy, BatchExports}
 use Rattle.testing_numbers.proofs.Lending.{NetworkLent, network-is}
 
 pub batch-fits : (settings sites coordinator : List ℕ) (places : ℕ)
@@ -57,8 +57,8 @@ fits-of-opened settings sites coordinator places opened =
     by-fits false unfit = absurd (false≢true (rw unfit at opened))
 
 pub closes-ask : {settings : List ℕ} {sites coordinator : Lent} {out : List ℕ} {opening : Opening}
-    → Opens settings sites coordinator (length out) opening
-    → ClosesAsk (opening .fits) (sites .after) (coordinator .after) out
+    → OpenLentSays settings sites coordinator (length out) opening
+    → CloseLentAsks (opening .fits) (sites .after) (coordinator .after) out
 closes-ask {settings} {sites} {coordinator} {out} {opening} opens =
     record {
       sites-long = λ fit. rw (opens .sites-stay) (shown fit .sites-long);
@@ -76,7 +76,7 @@ closes-ask {settings} {sites} {coordinator} {out} {opening} opens =
 -- Where what is lent does not fit, the tracker's call is refused and the numbers stay.
 kept-all : (arrivals : List Arrival) (lends : BatchLends) (done : BatchAnswer) (answer : ℕ)
     → BatchSays (callOf noOpening arrivals lends) (leftBy done lends)
-    → Closes false done (lends .sites) (lends .coordinator) (lends .out) answer
+    → CloseLentSays false done (lends .sites) (lends .coordinator) (lends .out) answer
     → Kept (allLent lends) answer
 kept-all arrivals lends done answer says closes =
     let kept = closes .kept refl in
@@ -92,10 +92,10 @@ kept-all arrivals lends done answer says closes =
 -- What the three calls say makes what the boundary promises.
 pub batch-exported : (settings : List ℕ) (arrivals : List Arrival) (lends : BatchLends)
     (sites coordinator : List ℕ) (opening : Opening) (done : BatchAnswer) (answer : ℕ)
-    → Opens settings (change (lends .sites .before) sites)
+    → OpenLentSays settings (change (lends .sites .before) sites)
     (change (lends .coordinator .before) coordinator) (length (lends .out .before)) opening
     → BatchSays (callOf opening arrivals lends) (leftBy done lends)
-    → Closes (opening .fits) done (change sites (lends .sites .after))
+    → CloseLentSays (opening .fits) done (change sites (lends .sites .after))
     (change coordinator (lends .coordinator .after)) (lends .out) answer
     → BatchExports settings arrivals lends answer
 batch-exported settings arrivals lends sites coordinator opening done answer opens says closes =
@@ -122,11 +122,11 @@ batch-exported settings arrivals lends sites coordinator opening done answer ope
     second = lends .coordinator .before
 
     closed : (o : Opening) → opening ≡ o
-        → Closes (o .fits) done (lends .sites) (lends .coordinator) (lends .out) answer
+        → CloseLentSays (o .fits) done (lends .sites) (lends .coordinator) (lends .out) answer
     closed o is =
-        subst (λ (c : List ℕ). Closes (o .fits) done (lends .sites)
+        subst (λ (c : List ℕ). CloseLentSays (o .fits) done (lends .sites)
         (change c (lends .coordinator .after)) (lends .out) answer) (opens .coordinator-stays)
-        (subst (λ (s : List ℕ). Closes (o .fits) done (change s (lends .sites .after))
+        (subst (λ (s : List ℕ). CloseLentSays (o .fits) done (change s (lends .sites .after))
         (change coordinator (lends .coordinator .after)) (lends .out) answer) (opens .sites-stay)
-        (subst (λ (p : Opening). Closes (p .fits) done (change sites (lends .sites .after))
+        (subst (λ (p : Opening). CloseLentSays (p .fits) done (change sites (lends .sites .after))
         (change coordinator (lends .coordinator .after)) (lends .out) answer) is closes))

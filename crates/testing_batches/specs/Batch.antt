@@ -3,7 +3,7 @@
 --
 --   batchFits ..                  whether what is lent fits
 --   openingFrom ..                what the batch call is given
---   Opens, ClosesAsk, Closes      the two parts
+--   OpenLentSays, CloseLentAsks, CloseLentSays      the two parts
 --   BatchExported ..              the promise
 use mathlib.Core.Path.{_≡_}
 use mathlib.Core.Bool.{Bool, true, false}
@@ -12,6 +12,7 @@ use Prim.Native.Nat.{ℕ, _≤_}
 use lib.ListN.{length}
 use denote.Ref.{RefT, now}
 use denote.Triple.Both.{Both}
+use Rattle.model.specs.Lent.{before}
 use Rattle.model.specs.declared.Arrival.{Arrival}
 use Rattle.model.specs.Choice.{if_then_else_}
 use Rattle.model.specs.Held.{heldBy}
@@ -20,7 +21,7 @@ use Rattle.tracker.specs.Batch.{BatchCall, BatchHeld, batchHeld, BatchSays}
 use Rattle.testing_batches.specs.declared.Opening.{Opening}
 use Rattle.record_numbers.specs.Numbers.{settingsFrom, sitesFrom, sitesNumbers, coordinatorFrom, coordinatorNumbers}
 use Rattle.testing_numbers.specs.Answers.{zeroSettings, zeroSites, zeroCoordinator}
-use Rattle.testing_numbers.specs.Openings.{Slice, given, Lent, lent, networkLent, Writes, Kept, Exported}
+use Rattle.testing_numbers.specs.Openings.{Slice, Lent, lent, networkLent, Writes, Kept, Exported}
 
 -- ---- What is lent
 
@@ -59,7 +60,8 @@ openingFrom settings sites coordinator places =
     else noOpening
 
 -- The numbers are only read.
-pub record Opens (settings : List ℕ) (sites coordinator : Lent) (places : ℕ) (opening : Opening)
+pub record OpenLentSays (settings : List ℕ) (sites coordinator : Lent) (places : ℕ)
+    (opening : Opening)
     : Type 0 where
   pub opening-is : opening ≡ openingFrom settings (sites .before) (coordinator .before) places
   pub sites-stay : sites .after ≡ sites .before
@@ -68,7 +70,7 @@ pub record Opens (settings : List ℕ) (sites coordinator : Lent) (places : ℕ)
 -- ---- After the tracker's call
 
 -- Where what is lent fits, there is room for the numbers.
-pub record ClosesAsk (fits : Bool) (sites coordinator out : List ℕ) : Type 0 where
+pub record CloseLentAsks (fits : Bool) (sites coordinator out : List ℕ) : Type 0 where
   pub sites-long : fits ≡ true → 129 ≤ length sites
   pub coordinator-long : fits ≡ true → 10 ≤ length coordinator
   pub out-long : fits ≡ true → 2 ≤ length out
@@ -85,8 +87,8 @@ pub record HandsNumbers (done : BatchAnswer) (sites coordinator out : Lent) (ans
   pub coordinator-is : Writes (coordinatorNumbers (done .coordinator)) coordinator
   pub out-is : Writes (countsNumbers done) out
 
-abbrev pub Closes : Bool → BatchAnswer → Lent → Lent → Lent → ℕ → Type 0
-Closes fits done sites coordinator out answer =
+abbrev pub CloseLentSays : Bool → BatchAnswer → Lent → Lent → Lent → ℕ → Type 0
+CloseLentSays fits done sites coordinator out answer =
     Exported
     fits
     (HandsNumbers done sites coordinator out answer)
@@ -144,7 +146,7 @@ BatchExports settings arrivals lends answer =
 abbrev pub BatchExported : Slice → Slice → Slice → Arrivals → Slice → Slice → Slice → Slice
     → ℕ → Type 0
 BatchExported settings sites coordinator arrivals words tables log out answer =
-    BatchExports (given settings) (now (arrivals .entry))
+    BatchExports (before settings) (before arrivals)
     (record {
       sites = lent sites;
       coordinator = lent coordinator;

@@ -1,8 +1,9 @@
 // The batch call, over a lent run of arrivals. Before it the records are made from the numbers, and
 // after it they are written back; what does not fit becomes settings that the tracker refuses.
 ghost use mathlib.Core.Path.{_≡_};
-ghost use Rattle.testing_numbers.specs.Openings.{given, lent};
-ghost use Rattle.testing_batches.specs.Batch.{batchFits, noOpening, Opens, ClosesAsk, Closes, BatchExported};
+ghost use Rattle.model.specs.Lent.{before};
+ghost use Rattle.testing_numbers.specs.Openings.{lent};
+ghost use Rattle.testing_batches.specs.Batch.{batchFits, noOpening, OpenLentSays, CloseLentAsks, CloseLentSays, BatchExported};
 use model::Arrival;
 use model::CoordinatorRecord;
 use model::Settings;
@@ -29,7 +30,7 @@ pub struct Opening {
 
 // Whether what is lent fits.
 fn batch_fits(settings: &[u32], sites: &[u64], coordinator: &[u64], places: usize) -> bool
-    ensures { λ r. ⌜ r ≡ batchFits (given settings) (given sites) (given coordinator) places ⌝ }
+    ensures { λ r. ⌜ r ≡ batchFits (before settings) (before sites) (before coordinator) places ⌝ }
 {
     network_lent(settings, sites, coordinator, places, 2)
 }
@@ -48,7 +49,7 @@ fn no_opening() -> Opening
 
 // The records of the numbers, which are only read.
 fn open_lent(settings: &[u32], sites: &mut [u64], coordinator: &mut [u64], places: usize) -> Opening
-    ensures { λ r. ⌜ Opens (given settings) (lent sites) (lent coordinator) places r ⌝ }
+    ensures { λ r. ⌜ OpenLentSays (before settings) (lent sites) (lent coordinator) places r ⌝ }
 {
     if batch_fits(settings, sites, coordinator, places) {
         let records = sites_from(sites);
@@ -71,8 +72,9 @@ fn close_lent(
     coordinator: &mut [u64],
     out: &mut [u64],
 ) -> u32
-    requires { ⌜ ClosesAsk (opening .fits) (now sites) (now coordinator) (now out) ⌝ }
-    ensures { λ r. ⌜ Closes (opening .fits) done (lent sites) (lent coordinator) (lent out) r ⌝ }
+    requires { ⌜ CloseLentAsks (opening .fits) (now sites) (now coordinator) (now out) ⌝ }
+    ensures { λ r. ⌜ CloseLentSays (opening .fits) done (lent sites) (lent coordinator) (lent out)
+        r ⌝ }
 {
     if opening.fits {
         let records = done.sites;

@@ -19,7 +19,7 @@ use Rattle.record_numbers.specs.Numbers.{coordinatorFits, greatestHeld, greates
 use Rattle.testing_numbers.specs.declared.openings.PlacesOpened.{PlacesOpened}
 use Rattle.testing_numbers.specs.declared.openings.SiteOpened.{SiteOpened}
 use Rattle.testing_numbers.specs.declared.openings.CoordinatorOpened.{CoordinatorOpened}
-use Rattle.testing_numbers.specs.Openings.{placesLent, siteLent, coordinatorLent, networkLent, MadeIf, OpensPlaces, OpensSite, OpensCoordinator, Exported}
+use Rattle.testing_numbers.specs.Openings.{placesLent, siteLent, coordinatorLent, networkLent, MadeIf, OpenPlacesSays, OpenSiteSays, OpenCoordinatorSays, Exported}
 
 pub record PlacesLent (settings : List ℕ) (places least : ℕ) : Type 0 where
   pub settings-long : 6 ≤ length settings
@@ -108,14 +108,14 @@ opens-zeros unfit are-zeros = record {
 -- ---- Openings that fit
 
 pub places-room : {settings : List ℕ} {places least : ℕ} {opened : PlacesOpened}
-    → OpensPlaces settings places least opened
+    → OpenPlacesSays settings places least opened
     → opened .fits ≡ true
     → PlacesLent settings places least
 places-room {settings} {places} {least} opens fit =
     places-are settings places least (sym (opens .opens .fits-is) ∙ fit)
 
 pub site-room : {settings site : List ℕ} {places least : ℕ} {opened : SiteOpened}
-    → OpensSite settings site places least opened
+    → OpenSiteSays settings site places least opened
     → opened .fits ≡ true
     → SiteLent settings site places least
 site-room {settings} {site} {places} {least} opens fit =
@@ -123,7 +123,7 @@ site-room {settings} {site} {places} {least} opens fit =
 
 pub coordinator-room : {settings numbers : List ℕ} {places least : ℕ}
     {opened : CoordinatorOpened}
-    → OpensCoordinator settings numbers places least opened
+    → OpenCoordinatorSays settings numbers places least opened
     → opened .fits ≡ true
     → CoordinatorLent settings numbers places least
 coordinator-room {settings} {numbers} {places} {least} opens fit =
@@ -131,33 +131,33 @@ coordinator-room {settings} {numbers} {places} {least} opens fit =
 
 -- Each place that such an opening has shown, for `search`: `room` holds all.
 pub places-enough : {settings : List ℕ} {places least : ℕ} {opened : PlacesOpened}
-    → OpensPlaces settings places least opened
+    → OpenPlacesSays settings places least opened
     → opened .fits ≡ true
     → least ≤ places
 places-enough opens fit = places-room opens fit .places-enough
 
 pub site-long : {settings site : List ℕ} {places least : ℕ} {opened : SiteOpened}
-    → OpensSite settings site places least opened
+    → OpenSiteSays settings site places least opened
     → opened .fits ≡ true
     → 4 ≤ length site
 site-long opens fit = site-room opens fit .site-long
 
 pub site-enough : {settings site : List ℕ} {places least : ℕ} {opened : SiteOpened}
-    → OpensSite settings site places least opened
+    → OpenSiteSays settings site places least opened
     → opened .fits ≡ true
     → least ≤ places
 site-enough opens fit = site-room opens fit .lends .places-enough
 
 pub coordinator-long : {settings numbers : List ℕ} {places least : ℕ}
     {opened : CoordinatorOpened}
-    → OpensCoordinator settings numbers places least opened
+    → OpenCoordinatorSays settings numbers places least opened
     → opened .fits ≡ true
     → 10 ≤ length numbers
 coordinator-long opens fit = coordinator-room opens fit .numbers-long
 
 pub coordinator-enough : {settings numbers : List ℕ} {places least : ℕ}
     {opened : CoordinatorOpened}
-    → OpensCoordinator settings numbers places least opened
+    → OpenCoordinatorSays settings numbers places least opened
     → opened .fits ≡ true
     → least ≤ places
 coordinator-enough opens fit = coordinator-room opens fit .lends .places-enough

@@ -1,10 +1,10 @@
 -- What is lent to the calls of the boundary: whether it fits, the records of its numbers, and what
 -- a call promises where it fits and where it does not.
 --
---   Slice, given, lent                           numbers as a call's promise names them
+--   Slice, lent                                  numbers as a call's promise names them
 --   placesLent, siteLent, .. networkLent         whether what is lent fits
 --   MadeIf                                       the records, all zeros where it does not fit
---   OpensPlaces, OpensSite, OpensCoordinator     the same of each opening
+--   OpenPlacesSays, OpenSiteSays, OpenCoordinatorSays     the same of each opening
 --   Exported fits Handed Kept                    Handed where what is lent fits, else Kept
 use mathlib.Core.Path.{_≡_}
 use mathlib.Core.Bool.{Bool, true, false, _&&_}
@@ -26,10 +26,6 @@ use Rattle.testing_numbers.specs.Answers.{zeroSettings, zeroCoordinator}
 -- A lent slice of numbers, as a promise names it.
 abbrev pub Slice : Type 0
 Slice = Both (RefT (List ℕ)) (RefT (List ℕ))
-
--- Its numbers before the call.
-abbrev pub given : Slice → List ℕ
-given numbers = now (numbers .entry)
 
 -- Lent numbers, before the call and after it.
 pub record Lent : Type 0 where
@@ -103,17 +99,17 @@ pub record MadeIf (Opened : Type 0) (test fits : Bool) (whole zeros opened : Ope
   pub made : fits ≡ true → opened ≡ whole
   pub left : fits ≡ false → opened ≡ zeros
 
-pub record OpensPlaces (settings : List ℕ) (places least : ℕ) (opened : PlacesOpened)
+pub record OpenPlacesSays (settings : List ℕ) (places least : ℕ) (opened : PlacesOpened)
     : Type 0 where
   pub opens : MadeIf PlacesOpened (placesLent settings places least) (opened .fits)
       (placesMade settings) noPlaces opened
 
-pub record OpensSite (settings site : List ℕ) (places least : ℕ) (opened : SiteOpened)
+pub record OpenSiteSays (settings site : List ℕ) (places least : ℕ) (opened : SiteOpened)
     : Type 0 where
   pub opens : MadeIf SiteOpened (siteLent settings site places least) (opened .fits)
       (siteMade settings site) noSite opened
 
-pub record OpensCoordinator (settings numbers : List ℕ) (places least : ℕ)
+pub record OpenCoordinatorSays (settings numbers : List ℕ) (places least : ℕ)
     (opened : CoordinatorOpened) : Type 0 where
   pub opens : MadeIf CoordinatorOpened (coordinatorLent settings numbers places least)
       (opened .fits) (coordinatorMade settings numbers) noCoordinator opened

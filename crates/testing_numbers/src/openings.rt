@@ -1,6 +1,7 @@
 // Whether what is lent fits the boundary, and the records made from it.
 ghost use mathlib.Core.Path.{_≡_};
-ghost use Rattle.testing_numbers.specs.Openings.{given, placesLent, siteLent, coordinatorLent, networkLent, OpensPlaces, OpensSite, OpensCoordinator};
+ghost use Rattle.model.specs.Lent.{before};
+ghost use Rattle.testing_numbers.specs.Openings.{placesLent, siteLent, coordinatorLent, networkLent, OpenPlacesSays, OpenSiteSays, OpenCoordinatorSays};
 use crate::zeros::zero_coordinator;
 use crate::zeros::zero_settings;
 use crate::zeros::zero_site;
@@ -20,7 +21,7 @@ pub const UNFIT: u32 = 255;
 
 // Whether the settings are there, and enough places for an answer.
 pub fn places_lent(settings: &[u32], places: usize, least: usize) -> bool
-    ensures { λ r. ⌜ r ≡ placesLent (given settings) places least ⌝ }
+    ensures { λ r. ⌜ r ≡ placesLent (before settings) places least ⌝ }
 {
     if settings.len() < SETTINGS_NUMBERS {
         return false;
@@ -30,7 +31,7 @@ pub fn places_lent(settings: &[u32], places: usize, least: usize) -> bool
 
 // The same with a site's record.
 pub fn site_lent(settings: &[u32], site: &[u64], places: usize, least: usize) -> bool
-    ensures { λ r. ⌜ r ≡ siteLent (given settings) (given site) places least ⌝ }
+    ensures { λ r. ⌜ r ≡ siteLent (before settings) (before site) places least ⌝ }
 {
     if places_lent(settings, places, least) {
         return SITE_NUMBERS <= site.len();
@@ -40,7 +41,7 @@ pub fn site_lent(settings: &[u32], site: &[u64], places: usize, least: usize) ->
 
 // The same with the coordinator's record.
 pub fn coordinator_lent(settings: &[u32], numbers: &[u64], places: usize, least: usize) -> bool
-    ensures { λ r. ⌜ r ≡ coordinatorLent (given settings) (given numbers) places least ⌝ }
+    ensures { λ r. ⌜ r ≡ coordinatorLent (before settings) (before numbers) places least ⌝ }
 {
     if places_lent(settings, places, least) {
         return coordinator_fits(numbers);
@@ -56,7 +57,8 @@ pub fn network_lent(
     places: usize,
     least: usize,
 ) -> bool
-    ensures { λ r. ⌜ r ≡ networkLent (given settings) (given sites) (given numbers) places least ⌝ }
+    ensures { λ r. ⌜ r ≡ networkLent (before settings) (before sites) (before numbers) places
+        least ⌝ }
 {
     if coordinator_lent(settings, numbers, places, least) {
         return SITES_NUMBERS <= sites.len();
@@ -86,7 +88,7 @@ pub struct CoordinatorOpened {
 
 // The settings; zeros where what is lent does not fit.
 pub fn open_places(settings: &[u32], places: usize, least: usize) -> PlacesOpened
-    ensures { λ r. ⌜ OpensPlaces (given settings) places least r ⌝ }
+    ensures { λ r. ⌜ OpenPlacesSays (before settings) places least r ⌝ }
 {
     if places_lent(settings, places, least) {
         return PlacesOpened {
@@ -102,7 +104,7 @@ pub fn open_places(settings: &[u32], places: usize, least: usize) -> PlacesOpene
 
 // The settings and the site's record.
 pub fn open_site(settings: &[u32], site: &[u64], places: usize, least: usize) -> SiteOpened
-    ensures { λ r. ⌜ OpensSite (given settings) (given site) places least r ⌝ }
+    ensures { λ r. ⌜ OpenSiteSays (before settings) (before site) places least r ⌝ }
 {
     if site_lent(settings, site, places, least) {
         return SiteOpened {
@@ -125,7 +127,7 @@ pub fn open_coordinator(
     places: usize,
     least: usize,
 ) -> CoordinatorOpened
-    ensures { λ r. ⌜ OpensCoordinator (given settings) (given numbers) places least r ⌝ }
+    ensures { λ r. ⌜ OpenCoordinatorSays (before settings) (before numbers) places least r ⌝ }
 {
     if coordinator_lent(settings, numbers, places, least) {
         return CoordinatorOpened {

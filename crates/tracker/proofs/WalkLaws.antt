@@ -18,18 +18,18 @@ use borrow.Author.Tests.{eq-eqb, ne-eqb}
 use Rattle.model.specs.declared.Settings.{Settings}
 use Rattle.model.specs.declared.Arrival.{Arrival}
 use Rattle.model.specs.Choice.{if_then_else_, isZero}
-use Rattle.model.specs.Refusals.{accepted}
+use Rattle.model.specs.Refusals.{noRefusal}
 use Rattle.model.specs.Network.{Network}
 use Rattle.model.specs.Runs.{Batch, batchFrom, freshBatch}
 use Rattle.coordinator_kinds.proofs.MemoryLaws.{memory-kept}
 use Rattle.site_memory.proofs.SitesReading.{siteRecords-sitesIn, sitesMemory-sitesIn}
 use Rattle.model.specs.Held.{Held, noRecord, networkOf}
-use Rattle.sending.specs.Log.{logRoom}
-use Rattle.delivery.specs.Holding.{WithLog}
-use Rattle.network_tests.proofs.SoundLaws.{Passing, passing}
+use Rattle.tracker_queue.specs.Log.{logRoom}
+use Rattle.tracker_delivery.specs.Holding.{WithLog}
+use Rattle.tracker_memory.proofs.SoundLaws.{Passing, passing}
 use Rattle.tracker_steps.specs.declared.BatchAnswer.{BatchAnswer}
 use Rattle.tracker.specs.Batch.{BatchCall, BatchHeld, batchHeld, startRefusal, batchIn, BatchSays}
-use Rattle.tracker_steps.specs.Steps.{opened, OpenSays, oneRefusal, batchOne, BatchHolds, BatchReady, OneAsks, OneSays}
+use Rattle.tracker_steps.specs.Steps.{opened, OpenBatchSays, oneRefusal, batchOne, BatchHolds, BatchReady, OneAsks, OneSays}
 use Rattle.tracker_steps.proofs.BatchLaws.{ready-next}
 
 -- ---- The batch with the arrivals still to come
@@ -49,7 +49,7 @@ batchRest settings room batch rest =
 
 pub batchRest-on : (settings : Settings) (room : ℕ) (batch : Batch) (arrival : Arrival)
     (rest : List Arrival)
-    → batch .refusal ≡ accepted
+    → batch .refusal ≡ noRefusal
     → batchRest settings room batch (arrival ∷ rest)
     ≡ batchRest settings room (batchOne settings room batch arrival) rest
 batchRest-on settings room batch arrival rest goes =
@@ -67,14 +67,14 @@ batchRest-on settings room batch arrival rest goes =
 -- ---- The call so far
 
 pub record Goes (call : BatchCall) (rest : List Arrival) (now : BatchHeld) : Type 0 where
-  pub start-accepted : startRefusal call ≡ accepted
+  pub start-accepted : startRefusal call ≡ noRefusal
   pub batch : Batch
   pub holds : BatchHolds (call .settings) (givenOf call) batch now
-  pub ready : batch .refusal ≡ accepted → BatchReady (call .settings) (givenOf call) batch
+  pub ready : batch .refusal ≡ noRefusal → BatchReady (call .settings) (givenOf call) batch
   pub comes-to : batchRest (call .settings) (logRoom (call .log)) batch rest ≡ batchIn call
 
 pub record Refused (call : BatchCall) (now : BatchHeld) : Type 0 where
-  pub start-refused : startRefusal call ≡ accepted → ⊥
+  pub start-refused : startRefusal call ≡ noRefusal → ⊥
   pub now-is : now ≡ openedIn call (startRefusal call)
 
 pub data Walked (call : BatchCall) (rest : List Arrival) (now : BatchHeld) : Type 0 where
@@ -83,7 +83,7 @@ pub data Walked (call : BatchCall) (rest : List Arrival) (now : BatchHeld) : Typ
 
 -- ---- The start
 
-module _ (call : BatchCall) (none : startRefusal call ≡ accepted) where
+module _ (call : BatchCall) (none : startRefusal call ≡ noRefusal) where
   abbrev given : Held
   given = call .held
 
@@ -98,7 +98,7 @@ module _ (call : BatchCall) (none : startRefusal call ≡ accepted) where
 
   -- What was given, read and written again, is what was given.
   holds-first : BatchHolds (call .settings) (givenOf call) (freshBatch network)
-      (openedIn call accepted)
+      (openedIn call noRefusal)
   holds-first = record {
     refusal = refl;
     accepted = refl;
@@ -152,7 +152,7 @@ walked-start call = by-refusal (ℕ-discrete (startRefusal call) 0)
 
 -- The memory as the start's tests left it, which only read it.
 pub walked-open : (call : BatchCall) (answer : BatchAnswer) (siteMemory coordinatorMemory : List ℕ)
-    → OpenSays (call .settings) (call .held .sites) (call .held .coordinator)
+    → OpenBatchSays (call .settings) (call .held .sites) (call .held .coordinator)
     (call .held .siteMemory) (call .held .coordinatorMemory) answer siteMemory coordinatorMemory
     → Walked call (call .arrivals) (batchHeld answer siteMemory coordinatorMemory (call .log))
 walked-open call answer siteMemory coordinatorMemory says =
@@ -162,13 +162,13 @@ walked-open call answer siteMemory coordinatorMemory says =
 
 module _ {call : BatchCall} {now : BatchHeld} where
   -- A call that was refused when it started has that refusal.
-  not-refused : Refused call now → now .refusal ≡ accepted → ⊥
+  not-refused : Refused call now → now .refusal ≡ noRefusal → ⊥
   not-refused failed none =
       failed .start-refused
       (sym (ap (λ (n : BatchHeld). n .refusal) (failed .now-is)) ∙ none)
 
   abbrev asks-of : {rest : List Arrival} (on : Goes call rest now)
-      → now .refusal ≡ accepted
+      → now .refusal ≡ noRefusal
       → OneAsks (call .settings) now
   asks-of on none = record {
     given = givenOf call;
@@ -178,21 +178,21 @@ module _ {call : BatchCall} {now : BatchHeld} where
   }
 
   pub walked-asks : {rest : List Arrival} → Walked call rest now
-      → now .refusal ≡ accepted
+      → now .refusal ≡ noRefusal
       → OneAsks (call .settings) now
   walked-asks (refused failed) none = absurd (not-refused failed none)
   walked-asks (goes on) none = asks-of on none
 
   pub walked-step : {arrival : Arrival} {rest : List Arrival} {next : BatchHeld}
       → Walked call (arrival ∷ rest) now
-      → now .refusal ≡ accepted
+      → now .refusal ≡ noRefusal
       → OneSays (call .settings) arrival now next
       → Walked call rest next
   walked-step (refused failed) none says = absurd (not-refused failed none)
   walked-step {arrival} {rest} (goes on) none says =
       let u = asks-of on none in
       let room = logRoom (call .log) in
-      let was : on .batch .refusal ≡ accepted = sym (on .holds .refusal) ∙ none in
+      let was : on .batch .refusal ≡ noRefusal = sym (on .holds .refusal) ∙ none in
       goes (record {
         start-accepted = on .start-accepted;
         batch = batchOne (call .settings) room (on .batch) arrival;
@@ -206,13 +206,13 @@ module _ {call : BatchCall} {now : BatchHeld} where
     where
       -- A batch that goes on after an arrival has accepted it.
       none-of-next : (settings : Settings) (room : ℕ) (batch : Batch) (x : Arrival)
-          → batchOne settings room batch x .refusal ≡ accepted
-          → oneRefusal settings room batch x ≡ accepted
+          → batchOne settings room batch x .refusal ≡ noRefusal
+          → oneRefusal settings room batch x ≡ noRefusal
       none-of-next settings room batch x none-then =
           by-refusal (ℕ-discrete (oneRefusal settings room batch x) 0)
         where
           by-refusal : Dec (oneRefusal settings room batch x ≡ 0)
-              → oneRefusal settings room batch x ≡ accepted
+              → oneRefusal settings room batch x ≡ noRefusal
           by-refusal (yes is) = is
           by-refusal (no some) =
               rw (ne-eqb (oneRefusal settings room batch x) 0 some) at none-then
@@ -234,7 +234,7 @@ module _ {call : BatchCall} {now : BatchHeld} where
         log = rw test;
       })
 
-  says-batch : startRefusal call ≡ accepted
+  says-batch : startRefusal call ≡ noRefusal
       → (batch : Batch)
       → BatchHolds (call .settings) (givenOf call) batch now
       → batch ≡ batchIn call
@@ -271,7 +271,7 @@ module _ {call : BatchCall} {now : BatchHeld} where
       rest-none false = refl
 
   pub walked-stopped : {rest : List Arrival} → Walked call rest now
-      → (now .refusal ≡ accepted → ⊥)
+      → (now .refusal ≡ noRefusal → ⊥)
       → BatchSays call now
   walked-stopped (refused failed) some = says-refused failed
   walked-stopped {rest} (goes on) some =

@@ -2,8 +2,8 @@
 -- what number, records and every place of lent memory and log equal, refused or not.
 --
 --   BatchSays ..                  the promise
--- Passed on: logRoom, messageNumbers and messagesIn, the log as crate `delivery` has it, and
--- BatchHeld of crate `tracker_steps`.
+-- Passed on: logRoom, messageNumbers and messagesIn, the log as crate `tracker_delivery` has it,
+-- and BatchHeld of crate `tracker_steps`.
 use mathlib.Core.Path.{_≡_}
 use mathlib.Core.List.{List}
 use Prim.Native.Nat.{ℕ, _+_}
@@ -17,7 +17,7 @@ use Rattle.model.specs.CoordinatorMemory.{coordinatorRecord, coordinatorMemory}
 use Rattle.model.specs.NetworkMemory.{siteRecords, sitesMemory}
 use Rattle.model.specs.Held.{Held, networkOf, heldRefusal}
 use Rattle.model.specs.Runs.{Batch, batchOf}
-pub use Rattle.sending.specs.Log.{logRoom, messageNumbers, messagesIn}
+pub use Rattle.tracker_queue.specs.Log.{logRoom, messageNumbers, messagesIn}
 pub use Rattle.tracker_steps.specs.Steps.{BatchHeld, batchHeld}
 
 -- ---- The call

@@ -2,13 +2,14 @@
 // the call starts; then each arrival is tested and delivered, until one is refused. Its parts are
 // those of crate `tracker_steps`.
 
+ghost use Rattle.model.specs.Lent.{before, after};
 ghost use mathlib.Core.List.{[], _∷_};
 ghost use Rattle.model.specs.Held.{heldBy};
 ghost use Rattle.tracker_steps.specs.Steps.{batchHeld};
 ghost use Rattle.tracker.specs.Batch.{BatchSays};
-use model::ACCEPTED;
 use model::Arrival;
 use model::CoordinatorRecord;
+use model::NO_REFUSAL;
 use model::Settings;
 use model::Sites;
 use model::Word;
@@ -31,13 +32,13 @@ pub fn run_one(
 ) -> BatchAnswer
     ensures { λ r. ⌜ BatchSays (record {
       settings = settings;
-      held = heldBy sites coordinator (now («site_memory» .entry))
-          (now («coordinator_memory» .entry));
+      held = heldBy sites coordinator (before «site_memory»)
+          (before «coordinator_memory»);
       arrivals = arrival ∷ [];
-      log = now (log .entry);
+      log = before log;
     })
-        (batchHeld r (now («site_memory» .exit)) (now («coordinator_memory» .exit))
-        (now (log .exit))) ⌝ }
+        (batchHeld r (after «site_memory») (after «coordinator_memory»)
+        (after log)) ⌝ }
 {
     let answer = open_batch(
         settings,
@@ -46,7 +47,7 @@ pub fn run_one(
         site_memory,
         coordinator_memory,
     );
-    if answer.refusal != ACCEPTED {
+    if answer.refusal != NO_REFUSAL {
         return answer;
     }
     take_arrival(
@@ -73,13 +74,13 @@ pub fn run_batch(
 ) -> BatchAnswer
     ensures { λ r. ⌜ BatchSays (record {
       settings = settings;
-      held = heldBy sites coordinator (now («site_memory» .entry))
-          (now («coordinator_memory» .entry));
-      arrivals = now (arrivals .entry);
-      log = now (log .entry);
+      held = heldBy sites coordinator (before «site_memory»)
+          (before «coordinator_memory»);
+      arrivals = before arrivals;
+      log = before log;
     })
-        (batchHeld r (now («site_memory» .exit)) (now («coordinator_memory» .exit))
-        (now (log .exit))) ⌝ }
+        (batchHeld r (after «site_memory») (after «coordinator_memory»)
+        (after log)) ⌝ }
 {
     let mut answer = open_batch(
         settings,
@@ -89,7 +90,7 @@ pub fn run_batch(
         coordinator_memory,
     );
     let mut i: usize = 0;
-    while i < arrivals.len() && answer.refusal == ACCEPTED {
+    while i < arrivals.len() && answer.refusal == NO_REFUSAL {
         let arrival = arrivals[i];
         let which = place_of(arrival);
         let own = answer.sites.records[which];

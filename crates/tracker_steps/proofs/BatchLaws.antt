@@ -16,23 +16,23 @@ use borrow.Author.Tests.{eq-eqb, ne-eqb, ltb-false}
 use Rattle.model.specs.declared.Settings.{Settings}
 use Rattle.model.specs.declared.Arrival.{Arrival}
 use Rattle.model.specs.declared.SiteRecord.{SiteRecord}
-use Rattle.model.specs.Refusals.{accepted, logTooShort}
+use Rattle.model.specs.Refusals.{noRefusal, logTooShort}
 use Rattle.model.specs.Limits.{mostSites, siteLimit, mostMessages}
 use Rattle.model.specs.Network.{Network, afterArrival}
 use Rattle.model.specs.Runs.{Batch, refusalIn}
-use Rattle.model.proofs.RefusalLaws.{both-accepted, passed}
-use Rattle.model.proofs.SettingsLaws.{settled}
-use Rattle.model.proofs.DeliveryTheorem.{delivery-claims}
-use Rattle.model.proofs.SitesInvariant.{arrivalsAt}
-use Rattle.model.proofs.ClosedSites.{sumBelow-allArrivals}
+use Rattle.model.proofs.Thresholds.RefusalLaws.{both-accepted, passed}
+use Rattle.model.proofs.Thresholds.SettingsLaws.{settled}
+use Rattle.model.proofs.Deliveries.DeliveryTheorem.{delivery-claims}
+use Rattle.model.proofs.BetweenArrivals.SitesInvariant.{arrivalsAt}
+use Rattle.model.proofs.Deliveries.ClosedSites.{sumBelow-allArrivals}
 use Rattle.laws.proofs.Sums.{sumBelow-le, sumBelow-const}
 use Rattle.model.specs.Held.{recordAt}
-use Rattle.sending.specs.Log.{logRoom}
-use Rattle.delivery.specs.Holding.{WithLog, Carrying, Holds, Accepting, rested}
-use Rattle.delivery.specs.Arriving.{ArrivalAsks}
-use Rattle.delivery.proofs.HoldingLaws.{Stored, record-read, log-length}
-use Rattle.delivery.proofs.GoingLaws.{stored-of-sound}
-use Rattle.delivery.proofs.RestLaws.{sound-then, bounded-then, arrivals-then, holds-rested}
+use Rattle.tracker_queue.specs.Log.{logRoom}
+use Rattle.tracker_delivery.specs.Holding.{WithLog, Carrying, Holds, Accepting, rested}
+use Rattle.tracker_delivery.specs.Arriving.{ArrivalAsks}
+use Rattle.tracker_delivery.proofs.HoldingLaws.{Stored, record-read, log-length}
+use Rattle.tracker_delivery.proofs.GoingLaws.{stored-of-sound}
+use Rattle.tracker_delivery.proofs.RestLaws.{sound-then, bounded-then, arrivals-then, holds-rested}
 use Rattle.tracker_steps.specs.Steps.{BatchHeld, placesRefusal, PlacesAsk, withOne, stoppedBy, oneRefusal, batchOne, restingOn, restingIn, BatchHolds, BatchReady, OneAsks}
 use Rattle.tracker_steps.specs.Turns.{ownOf}
 use Rattle.tracker_steps.proofs.RefusalLaws.{place-known, placesRefusal-is}
@@ -43,7 +43,7 @@ pub holds-delivered : {settings : Settings} {given : WithLog} (batch : Batch) (a
     (next : BatchHeld) (after : Carrying)
     → Holds settings given (batch .messages)
     (rested (afterArrival settings (batch .network) arrival)) after
-    → next .refusal ≡ accepted
+    → next .refusal ≡ noRefusal
     → next .accepted ≡ batch .accepted + 1
     → restingIn next ≡ restingOn (after .held) (after .log) (after .written)
     → BatchHolds settings given (withOne settings batch arrival) next
@@ -133,7 +133,7 @@ module _ {settings : Settings} {now : BatchHeld} (u : OneAsks settings now) wher
   -- ---- An accepted arrival
 
   module _ (arrival : Arrival)
-      (none : oneRefusal settings room (u .batch) arrival ≡ accepted) where
+      (none : oneRefusal settings room (u .batch) arrival ≡ noRefusal) where
     pub one-accepting : Accepting settings (u .given) (u .batch .messages) network arrival
     one-accepting =
         let chain = both-accepted (refusalIn settings network arrival) _ none in
@@ -185,7 +185,7 @@ module _ {settings : Settings} {now : BatchHeld} (u : OneAsks settings now) wher
   -- ---- A refused arrival
 
   pub holds-stopped : (arrival : Arrival) (next : BatchHeld)
-      → (oneRefusal settings room (u .batch) arrival ≡ accepted → ⊥)
+      → (oneRefusal settings room (u .batch) arrival ≡ noRefusal → ⊥)
       → next .refusal ≡ oneRefusal settings room (u .batch) arrival
       → next .accepted ≡ now .accepted
       → restingIn next ≡ restingIn now

@@ -13,19 +13,19 @@ use lib.Seq.{set-getD}
 use Rattle.model.specs.declared.Settings.{Settings}
 use Rattle.model.specs.declared.Arrival.{Arrival}
 use Rattle.model.specs.declared.SiteRecord.{SiteRecord}
-use Rattle.model.specs.Refusals.{accepted}
+use Rattle.model.specs.Refusals.{noRefusal}
 use Rattle.model.specs.Runs.{Batch}
 use Rattle.site_steps.specs.declared.Observed.{Observed}
 use Rattle.model.specs.Held.{noRecord, recordAt}
-use Rattle.sending.specs.Log.{logRoom}
-use Rattle.delivery.specs.Holding.{underwayIn}
-use Rattle.delivery.specs.Arriving.{ArrivalAsks, SiteAsks, SiteSays, MessagesAsk, outOf}
-use Rattle.delivery.proofs.SiteLaws.{site-few}
-use Rattle.delivery.proofs.TakenLaws.{quiet-rests}
+use Rattle.tracker_queue.specs.Log.{logRoom}
+use Rattle.tracker_delivery.specs.Holding.{underwayIn}
+use Rattle.tracker_delivery.specs.Arriving.{ArrivalAsks, SiteAsks, SiteSays, MessagesAsk, outOf}
+use Rattle.tracker_delivery.proofs.SiteLaws.{site-few}
+use Rattle.tracker_delivery.proofs.TakenLaws.{quiet-rests}
 use Rattle.tracker_steps.specs.declared.BatchAnswer.{BatchAnswer}
 use Rattle.tracker_steps.specs.declared.Turn.{Turn}
 use Rattle.tracker_steps.specs.Steps.{BatchHeld, batchHeld, batchAnswer, placesRefusal, PlacesAsk, oneRefusal, batchOne, restingIn, BatchHolds, OneAsks, OneSays}
-use Rattle.tracker_steps.specs.Turns.{placeOf, ownOf, refusedTurn, withSiteMemory, takenIn, TurnAsks, RefusedTurn, TakenTurn, TurnTold, refused, taken, TurnSays, counted, CountAsks, DeliverAsks, DeliverSays}
+use Rattle.tracker_steps.specs.Turns.{placeOf, ownOf, refusedTurn, withSiteMemory, takenIn, TurnAsks, RefusedTurn, TakenTurn, TurnTold, refused, taken, TurnSays, counted, CountTurnAsks, DeliverTurnAsks, DeliverTurnSays}
 use Rattle.tracker_steps.proofs.RefusalLaws.{place-known, place-within}
 use Rattle.tracker_steps.proofs.BatchLaws.{one-places, refusal-is, accepted-small, one-asks, taken-is, holds-delivered, holds-stopped}
 
@@ -33,7 +33,7 @@ use Rattle.tracker_steps.proofs.BatchLaws.{one-places, refusal-is, acce
 
 abbrev pub takenTurn : Observed → Turn
 takenTurn observed = record {
-  refusal = accepted;
+  refusal = noRefusal;
   taken = 1;
   site = observed .site;
   out = outOf observed;
@@ -60,7 +60,7 @@ module _ {settings : Settings} {own : SiteRecord} {written : ℕ} (arrival : Arr
         ∙ (λ j. placesRefusal settings (own-is j) arrival (numbers-are j) (written-is j))
         ∙ refusal-is u arrival
 
-    pub turn-refused : (refusal ≡ accepted → ⊥)
+    pub turn-refused : (refusal ≡ noRefusal → ⊥)
         → (turn : Turn)
         → turn ≡ refusedTurn refusal own
         → TurnSays settings own written arrival numbers memory turn memory
@@ -76,11 +76,11 @@ module _ {settings : Settings} {own : SiteRecord} {written : ℕ} (arrival : Arr
 
     -- ---- An arrival that is not refused
 
-    module _ (none : refusal ≡ accepted) where
+    module _ (none : refusal ≡ noRefusal) where
       module _ (now : BatchHeld) (own-is : own ≡ ownOf (now .held .sites) arrival)
           (written-is : written ≡ now .written) (numbers-are : numbers ≡ length (now .log))
           (u : OneAsks settings (withSiteMemory now memory)) where
-        none-due : oneRefusal settings (logRoom (u .given .log)) (u .batch) arrival ≡ accepted
+        none-due : oneRefusal settings (logRoom (u .given .log)) (u .batch) arrival ≡ noRefusal
         none-due = sym (found-is now own-is written-is numbers-are u) ∙ none
 
         abbrev arrival-asks : ArrivalAsks settings arrival (restingIn (withSiteMemory now memory))
@@ -123,7 +123,7 @@ module _ {settings : Settings} {own : SiteRecord} {written : ℕ} (arrival : Arr
 -- ---- The messages of a turn
 
 abbrev pub messages-ask : {settings : Settings} {turn : Turn} {now : BatchHeld}
-    → DeliverAsks settings turn now
+    → DeliverTurnAsks settings turn now
     → MessagesAsk settings (turn .out) (restingIn now)
 messages-ask u = record {
   given = u .given;
@@ -157,7 +157,7 @@ module _ (now : BatchHeld) {settings : Settings} (arrival : Arrival) {own : Site
   told-of : (u : OneAsks settings now) → Told u
   told-of u = says .told now own-is refl refl u
 
-  pub count-asks : OneAsks settings now → CountAsks (batchAnswer now) (placeOf arrival) turn
+  pub count-asks : OneAsks settings now → CountTurnAsks (batchAnswer now) (placeOf arrival) turn
   count-asks u = record {
     which-within = place-within arrival;
     accepted-within = rw (u .holds .accepted) (accepted-small u);
@@ -191,10 +191,10 @@ module _ (now : BatchHeld) {settings : Settings} (arrival : Arrival) {own : Site
       accepted-more =
           ap (λ (a : BatchAnswer). a .accepted) next-is ∙ rw (t .taken-one, u .holds .accepted)
 
-      refusal-none : next .refusal ≡ accepted
+      refusal-none : next .refusal ≡ noRefusal
       refusal-none = ap (λ (a : BatchAnswer). a .refusal) next-is ∙ t .refusal-none
 
-      abbrev then-asks : DeliverAsks settings turn then
+      abbrev then-asks : DeliverTurnAsks settings turn then
       then-asks = record {
         given = u .given;
         batch = u .batch;
@@ -222,16 +222,16 @@ module _ (now : BatchHeld) {settings : Settings} (arrival : Arrival) {own : Site
 
     pub deliver-asks : OneAsks settings now
         → (turn .out .count ≡ 0 → ⊥)
-        → DeliverAsks settings turn then
+        → DeliverTurnAsks settings turn then
     deliver-asks u some = by-told (told-of u)
       where
-        by-told : Told u → DeliverAsks settings turn then
+        by-told : Told u → DeliverTurnAsks settings turn then
         by-told (refused r) = absurd (some (no-messages u r))
         by-told (taken t) = then-asks u t
 
     pub loud-says : {last : BatchHeld}
         → (turn .out .count ≡ 0 → ⊥)
-        → DeliverSays settings turn then last
+        → DeliverTurnSays settings turn then last
         → OneSays settings arrival now last
     loud-says {last} some delivered = record { next = λ u. by-told u (told-of u) }
       where

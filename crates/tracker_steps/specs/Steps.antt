@@ -3,7 +3,7 @@
 --   BatchHeld                          an answer with what is held and the log
 --   batchHeld, batchAnswer             the same from the answer and lent memory; the answer of it
 --   opened refusal sites coordinator   the answer before the first arrival
---   OpenSays                           the start's promise
+--   OpenBatchSays                           the start's promise
 --   placesRefusal ..                   5, 6, 7, 8, 14 from a record and the log's length
 --   batchOne settings room batch a     one arrival of the model's batch
 --   restingOn .., restingIn now        a delivery at rest; what is held as such
@@ -21,7 +21,7 @@ use Rattle.model.specs.declared.SiteRecord.{SiteRecord}
 use Rattle.model.specs.declared.Sites.{Sites}
 use Rattle.model.specs.declared.CoordinatorRecord.{CoordinatorRecord}
 use Rattle.model.specs.Choice.{if_then_else_, isZero}
-use Rattle.model.specs.Refusals.{when, _orElse_, accepted, logTooShort}
+use Rattle.model.specs.Refusals.{when, _orElse_, noRefusal, logTooShort}
 use Rattle.model.specs.Limits.{mostSites, mostMessages}
 use Rattle.model.specs.Messages.{messageWidth}
 use Rattle.model.specs.Site.{arrivalRefusal}
@@ -33,9 +33,9 @@ use Rattle.model.specs.SoundNetwork.{Sound}
 use Rattle.model.specs.NumberClaims.{Bounded}
 use Rattle.model.specs.DeliveryClaims.{delivery}
 use Rattle.site_refusals.specs.Bare.{bareSite}
-use Rattle.sending.specs.Log.{logRoom}
-use Rattle.sending.specs.Sending.{nothingWaits}
-use Rattle.delivery.specs.Holding.{Holds, Fits, WithLog, Carrying}
+use Rattle.tracker_queue.specs.Log.{logRoom}
+use Rattle.tracker_queue.specs.Sending.{nothingWaits}
+use Rattle.tracker_delivery.specs.Holding.{Holds, Fits, WithLog, Carrying}
 use Rattle.tracker_steps.specs.declared.BatchAnswer.{BatchAnswer}
 
 -- ---- What a batch call holds
@@ -81,7 +81,7 @@ opened refusal sites coordinator = record {
 }
 
 -- What the start answers; the memory is only read.
-pub record OpenSays
+pub record OpenBatchSays
     (settings : Settings)
     (sites : Sites)
     (coordinator : CoordinatorRecord)
@@ -101,7 +101,7 @@ abbrev pub placesRefusal : Settings → SiteRecord → Arrival → ℕ → ℕ �
 placesRefusal settings own arrival numbers written =
     arrivalRefusal settings (bareSite own) arrival
     orElse when (ltb (numbers / messageWidth - written) (mostMessages settings)) logTooShort
-    orElse accepted
+    orElse noRefusal
 
 -- The records written fit the log, and the network has no more sites than records.
 pub record PlacesAsk (settings : Settings) (written numbers : ℕ) : Type 0 where
@@ -116,7 +116,7 @@ withOne settings batch arrival =
       network = after .network;
       accepted = batch .accepted + 1;
       messages = batch .messages ++ after .messages;
-      refusal = accepted;
+      refusal = noRefusal;
     }
 
 -- The batch as it was, stopped by a refusal.

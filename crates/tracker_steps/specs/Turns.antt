@@ -7,8 +7,8 @@
 --   takenIn now ..             what is held when the arrival's site has taken it
 --   counted answer which turn  the answer with a turn in it
 --   TurnAsks, TurnSays         an arrival is refused, or its site takes it
---   CountAsks                  a turn that can be counted
---   DeliverAsks, DeliverSays   the messages of a turn
+--   CountTurnAsks                  a turn that can be counted
+--   DeliverTurnAsks, DeliverTurnSays   the messages of a turn
 use mathlib.Core.Path.{_≡_}
 use mathlib.Core.List.{List}
 use Prim.Native.Nat.{ℕ, _+_, _*_, _≤_, _<_}
@@ -19,14 +19,14 @@ use Rattle.model.specs.declared.Arrival.{Arrival}
 use Rattle.model.specs.declared.SiteRecord.{SiteRecord}
 use Rattle.model.specs.declared.Sites.{Sites}
 use Rattle.model.specs.Choice.{if_then_else_}
-use Rattle.model.specs.Refusals.{accepted}
+use Rattle.model.specs.Refusals.{noRefusal}
 use Rattle.model.specs.Limits.{mostSites, siteLimit}
 use Rattle.model.specs.Runs.{Batch}
 use Rattle.model.specs.Held.{recordIn, withRecord, afterSiteCall}
-use Rattle.sending.specs.Log.{logRoom}
-use Rattle.sending.specs.Sending.{nothingWaits}
-use Rattle.delivery.specs.Holding.{WithLog}
-use Rattle.delivery.specs.Arriving.{Taken}
+use Rattle.tracker_queue.specs.Log.{logRoom}
+use Rattle.tracker_queue.specs.Sending.{nothingWaits}
+use Rattle.tracker_delivery.specs.Holding.{WithLog}
+use Rattle.tracker_delivery.specs.Arriving.{Taken}
 use Rattle.tracker_steps.specs.declared.BatchAnswer.{BatchAnswer}
 use Rattle.tracker_steps.specs.declared.Turn.{Turn}
 use Rattle.tracker_steps.specs.Steps.{BatchHeld, batchHeld, batchAnswer, oneRefusal, withOne, restingIn, BatchHolds, OneAsks}
@@ -89,7 +89,7 @@ pub record RefusedTurn
     (now : BatchHeld)
     (turn : Turn)
     (siteBefore siteAfter : List ℕ) : Type 0 where
-  pub due : oneRefusal settings (logRoom (given .log)) batch arrival ≡ accepted → ⊥
+  pub due : oneRefusal settings (logRoom (given .log)) batch arrival ≡ noRefusal → ⊥
   pub turn-is : turn
       ≡ refusedTurn (oneRefusal settings (logRoom (given .log)) batch arrival)
       (ownOf (now .held .sites) arrival)
@@ -104,8 +104,8 @@ pub record TakenTurn
     (now : BatchHeld)
     (turn : Turn)
     (siteAfter : List ℕ) : Type 0 where
-  pub none-due : oneRefusal settings (logRoom (given .log)) batch arrival ≡ accepted
-  pub refusal-none : turn .refusal ≡ accepted
+  pub none-due : oneRefusal settings (logRoom (given .log)) batch arrival ≡ noRefusal
+  pub refusal-none : turn .refusal ≡ noRefusal
   pub taken-one : turn .taken ≡ 1
   pub place-is : placeOf arrival ≡ arrival .site
   pub taken : Taken settings given (batch .messages) (batch .network) arrival (turn .out)
@@ -154,14 +154,14 @@ counted answer which turn = record {
   coordinator = answer .coordinator;
 }
 
-pub record CountAsks (answer : BatchAnswer) (which : ℕ) (turn : Turn) : Type 0 where
+pub record CountTurnAsks (answer : BatchAnswer) (which : ℕ) (turn : Turn) : Type 0 where
   pub which-within : which < mostSites
   pub accepted-within : answer .accepted ≤ mostSites * siteLimit
   pub taken-within : turn .taken ≤ 1
 
 -- ---- The messages of a turn
 
-pub record DeliverAsks (settings : Settings) (turn : Turn) (now : BatchHeld) : Type 0 where
+pub record DeliverTurnAsks (settings : Settings) (turn : Turn) (now : BatchHeld) : Type 0 where
   pub given : WithLog
   pub batch : Batch
   pub arrival : Arrival
@@ -169,7 +169,7 @@ pub record DeliverAsks (settings : Settings) (turn : Turn) (now : BatchHeld) : T
   pub taken : Taken settings given (batch .messages) (batch .network) arrival (turn .out)
       (restingIn now)
 
-pub record DeliverSays (settings : Settings) (turn : Turn) (before after : BatchHeld) : Type 0
+pub record DeliverTurnSays (settings : Settings) (turn : Turn) (before after : BatchHeld) : Type 0
   where
-    pub next : (u : DeliverAsks settings turn before)
+    pub next : (u : DeliverTurnAsks settings turn before)
         → BatchHolds settings (u .given) (withOne settings (u .batch) (u .arrival)) after

@@ -2,20 +2,21 @@
 // calls of crate `tracker` call them. What some of them require is decided by `open_batch`, with
 // which these calls begin, and holds after each accepted arrival.
 
+ghost use Rattle.model.specs.Lent.{before, after};
 ghost use mathlib.Core.Path.{_≡_};
-ghost use Rattle.tracker_steps.specs.Steps.{OpenSays, OneAsks, OneSays, placesRefusal, PlacesAsk, batchHeld};
-ghost use Rattle.tracker_steps.specs.Turns.{placeOf, refusedTurn, counted, TurnAsks, TurnSays, CountAsks, DeliverAsks, DeliverSays};
-use model::ACCEPTED;
+ghost use Rattle.tracker_steps.specs.Steps.{OpenBatchSays, OneAsks, OneSays, placesRefusal, PlacesAsk, batchHeld};
+ghost use Rattle.tracker_steps.specs.Turns.{placeOf, refusedTurn, counted, TurnAsks, TurnSays, CountTurnAsks, DeliverTurnAsks, DeliverTurnSays};
 use model::Arrival;
 use model::CoordinatorRecord;
 use model::LOG_TOO_SHORT;
 use model::MESSAGE_WIDTH;
 use model::MOST_SITES;
+use model::NO_REFUSAL;
 use model::Settings;
 use model::SiteRecord;
 use model::Sites;
 use model::Word;
-use sending::Queue;
+use tracker_queue::Queue;
 
 // What the batch call answers: the refusal that stopped it or 0, the arrivals accepted, the
 // messages written to the log, and both records as they are then.
@@ -46,11 +47,11 @@ pub fn open_batch(
     site_memory: &mut [Word],
     coordinator_memory: &mut [u64],
 ) -> BatchAnswer
-    ensures { λ r. ⌜ OpenSays settings sites coordinator
-        (now («site_memory» .entry)) (now («coordinator_memory» .entry)) r
-        (now («site_memory» .exit)) (now («coordinator_memory» .exit)) ⌝ }
+    ensures { λ r. ⌜ OpenBatchSays settings sites coordinator
+        (before «site_memory») (before «coordinator_memory») r
+        (after «site_memory») (after «coordinator_memory») ⌝ }
 {
-    let refusal = network_tests::network_refusal(
+    let refusal = tracker_memory::network_refusal(
         settings,
         sites,
         coordinator,
@@ -89,21 +90,21 @@ fn one_refusal(
     ensures { λ r. ⌜ r ≡ placesRefusal settings own arrival numbers written ⌝ }
 {
     let of_site = site_refusals::arrival_refusal(settings, own, arrival);
-    if of_site != ACCEPTED {
+    if of_site != NO_REFUSAL {
         return of_site;
     }
     let free = ((numbers / MESSAGE_WIDTH) as u64) - written;
     if free < settings::most_messages(settings) {
         return LOG_TOO_SHORT;
     }
-    ACCEPTED
+    NO_REFUSAL
 }
 
 // The turn of an arrival that is refused with this number.
 fn refused_turn(number: u32, own: SiteRecord) -> Turn
     ensures { λ r. ⌜ r ≡ refusedTurn number own ⌝ }
 {
-    let out = sending::empty_queue();
+    let out = tracker_queue::empty_queue();
     Turn {
         refusal: number,
         taken: 0,
@@ -126,13 +127,13 @@ pub fn take_turn(
 ) -> Turn
     requires { ⌜ TurnAsks settings own written arrival numbers (now «site_memory») ⌝ }
     ensures { λ r. ⌜ TurnSays settings own written arrival numbers
-        (now («site_memory» .entry)) r (now («site_memory» .exit)) ⌝ }
+        (before «site_memory») r (after «site_memory») ⌝ }
 {
     let refusal = one_refusal(settings, own, arrival, numbers, written);
-    if refusal != ACCEPTED {
+    if refusal != NO_REFUSAL {
         return refused_turn(refusal, own);
     }
-    let observed = delivery::observe(settings, own, arrival, site_memory);
+    let observed = tracker_delivery::observe(settings, own, arrival, site_memory);
     let site = observed.site;
     let first = observed.first;
     let second = observed.second;
@@ -142,7 +143,7 @@ pub fn take_turn(
         second: second,
     };
     Turn {
-        refusal: ACCEPTED,
+        refusal: NO_REFUSAL,
         taken: 1,
         site: site,
         out: out,
@@ -151,7 +152,7 @@ pub fn take_turn(
 
 // The answer with a turn in it, of the site at this place.
 fn count_turn(answer: BatchAnswer, which: usize, turn: Turn) -> BatchAnswer
-    requires { ⌜ CountAsks answer which turn ⌝ }
+    requires { ⌜ CountTurnAsks answer which turn ⌝ }
     ensures { λ r. ⌜ r ≡ counted answer which turn ⌝ }
 {
     let sites = answer.sites;
@@ -159,7 +160,7 @@ fn count_turn(answer: BatchAnswer, which: usize, turn: Turn) -> BatchAnswer
     let mut next = answer;
     next.refusal = turn.refusal;
     next.accepted = answer.accepted + turn.taken;
-    next.sites = delivery::with_record(sites, which, site);
+    next.sites = tracker_delivery::with_record(sites, which, site);
     next
 }
 
@@ -173,19 +174,19 @@ pub fn deliver_turn(
     coordinator_memory: &mut [u64],
     log: &mut [u64],
 ) -> BatchAnswer
-    requires { ⌜ DeliverAsks settings turn
+    requires { ⌜ DeliverTurnAsks settings turn
         (batchHeld answer (now «site_memory») (now «coordinator_memory») (now log)) ⌝ }
-    ensures { λ r. ⌜ DeliverSays settings turn
-        (batchHeld answer (now («site_memory» .entry)) (now («coordinator_memory» .entry))
-        (now (log .entry)))
-        (batchHeld r (now («site_memory» .exit)) (now («coordinator_memory» .exit))
-        (now (log .exit))) ⌝ }
+    ensures { λ r. ⌜ DeliverTurnSays settings turn
+        (batchHeld answer (before «site_memory») (before «coordinator_memory»)
+        (before log))
+        (batchHeld r (after «site_memory») (after «coordinator_memory»)
+        (after log)) ⌝ }
 {
     let sites = answer.sites;
     let coordinator = answer.coordinator;
     let out = turn.out;
-    let underway = delivery::at_rest(sites, coordinator, answer.written);
-    let after = delivery::deliver_messages(
+    let underway = tracker_delivery::at_rest(sites, coordinator, answer.written);
+    let after = tracker_delivery::deliver_messages(
         settings,
         underway,
         out,
@@ -196,7 +197,7 @@ pub fn deliver_turn(
     let sites_then = after.sites;
     let coordinator_then = after.coordinator;
     BatchAnswer {
-        refusal: ACCEPTED,
+        refusal: NO_REFUSAL,
         accepted: answer.accepted,
         written: after.written,
         sites: sites_then,
@@ -217,14 +218,14 @@ pub fn take_arrival(
     requires { ⌜ OneAsks settings
         (batchHeld answer (now «site_memory») (now «coordinator_memory») (now log)) ⌝ }
     ensures { λ r. ⌜ OneSays settings arrival
-        (batchHeld answer (now («site_memory» .entry)) (now («coordinator_memory» .entry))
-        (now (log .entry)))
-        (batchHeld r (now («site_memory» .exit)) (now («coordinator_memory» .exit))
-        (now (log .exit))) ⌝ }
+        (batchHeld answer (before «site_memory») (before «coordinator_memory»)
+        (before log))
+        (batchHeld r (after «site_memory») (after «coordinator_memory»)
+        (after log)) ⌝ }
 {
     let which = place_of(arrival);
     let sites = answer.sites;
-    let own = delivery::record_of(sites, which);
+    let own = tracker_delivery::record_of(sites, which);
     let turn = take_turn(
         settings,
         own,

@@ -10,13 +10,13 @@ use Prim.Native.Nat.{ℕ, _-_}
 use native.Mathlib.Omega.{arith}
 use lib.ListN.{length, drop, length-drop}
 use Rattle.model.specs.declared.Arrival.{Arrival}
-use Rattle.model.specs.Refusals.{when, accepted, malformedLine}
+use Rattle.model.specs.Refusals.{when, noRefusal, malformedLine}
 use Rattle.model.specs.Decimal.{Number, noNumber, number}
 use Rattle.model.specs.Lines.{Fields, malformed, fields, semicolon, readField, withField, readFieldsTo, readFields, lineOf}
-use Rattle.model.proofs.LineLaws.{fields-last, fields-last-none, fields-more, fields-more-none}
+use Rattle.model.proofs.Worklists.LineLaws.{fields-last, fields-last-none, fields-more, fields-more-none}
 use Rattle.worklist.specs.declared.NumberRead.{NumberRead}
 use Rattle.worklist.specs.declared.ThreeRead.{ThreeRead}
-use Rattle.worklist.specs.Contracts.{NumberSays, noThree, ThreeSays, LineSays}
+use Rattle.worklist.specs.Contracts.{NumberSays, noThree, ThreeSays, TestLineSays}
 
 module _ {bytes : List ℕ} {expected : Number} {answer : NumberRead} where
   pub number-found : NumberSays bytes expected answer
@@ -118,9 +118,9 @@ module _ (bytes : List ℕ) (three : ThreeRead)
   line-is found = sym (rw found at (says .is))
 
   pub line-found : three .found ≡ true
-      → LineSays bytes
+      → TestLineSays bytes
       (record {
-        refusal = accepted;
+        refusal = noRefusal;
         arrival = arrivalIn three;
         used = three .next;
       })
@@ -134,7 +134,7 @@ module _ (bytes : List ℕ) (three : ThreeRead)
       }
 
   pub line-missing : three .found ≡ false
-      → LineSays bytes
+      → TestLineSays bytes
       (record {
         refusal = malformedLine;
         arrival = arrivalIn three;

@@ -24,7 +24,7 @@ use native.Mathlib.Numerals.{add-one}
 use Rattle.model.specs.Choice.{if_then_else_}
 use Rattle.model.specs.Limits.{numberLimit}
 use Rattle.model.specs.Decimal.{isDigit, digitValue, leadingZero, Number, noNumber, number, moreDigits, readNumber}
-use Rattle.model.proofs.DecimalLaws.{digit-within, more-digits-on, more-digits-stop, more-digits-long}
+use Rattle.model.proofs.Worklists.DecimalLaws.{digit-within, more-digits-on, more-digits-stop, more-digits-long}
 use Rattle.model.specs.Lines.{beforeMark}
 use Rattle.worklist.specs.declared.NumberRead.{NumberRead}
 use Rattle.worklist.specs.Contracts.{notRead, NumberSays}

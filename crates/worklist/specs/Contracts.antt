@@ -38,18 +38,18 @@ noThree = record { found = false; first = 0; second = 0; third = 0; next = 0 }
 
 -- What each function reads: the digits after a first one, a number, a number that was read with the
 -- mark after it, and a field, at a place of the bytes.
-abbrev pub DigitsSay : List ℕ → ℕ → ℕ → NumberRead → Type 0
-DigitsSay bytes start first answer =
+abbrev pub MoreDigitsSays : List ℕ → ℕ → ℕ → NumberRead → Type 0
+MoreDigitsSays bytes start first answer =
     NumberSays bytes (moreDigits 6 first (drop start bytes)) answer
 
-abbrev pub NumberAt : List ℕ → ℕ → NumberRead → Type 0
-NumberAt bytes at answer = NumberSays bytes (readNumber (drop at bytes)) answer
+abbrev pub ReadNumberSays : List ℕ → ℕ → NumberRead → Type 0
+ReadNumberSays bytes at answer = NumberSays bytes (readNumber (drop at bytes)) answer
 
 abbrev pub EndedSays : ℕ → List ℕ → NumberRead → NumberRead → Type 0
 EndedSays mark bytes begun answer = NumberSays bytes (endedNumber mark bytes begun) answer
 
-abbrev pub FieldAt : ℕ → List ℕ → ℕ → NumberRead → Type 0
-FieldAt mark bytes at answer = NumberSays bytes (readField mark (drop at bytes)) answer
+abbrev pub ReadFieldSays : ℕ → List ℕ → ℕ → NumberRead → Type 0
+ReadFieldSays mark bytes at answer = NumberSays bytes (readField mark (drop at bytes)) answer
 
 -- The fields that an answer of the reader stands for, with the bytes after them.
 abbrev pub threeIn : List ℕ → ThreeRead → Fields
@@ -65,12 +65,12 @@ pub record ThreeSays (bytes : List ℕ) (expected : Fields) (answer : ThreeRead)
   pub zeros : answer .found ≡ false → answer ≡ noThree
 
 -- Three fields at a place of the bytes.
-abbrev pub ThreeAt : ℕ → List ℕ → ℕ → ThreeRead → Type 0
-ThreeAt last bytes at answer = ThreeSays bytes (readFieldsTo last 3 (drop at bytes)) answer
+abbrev pub ReadThreeSays : ℕ → List ℕ → ℕ → ThreeRead → Type 0
+ReadThreeSays last bytes at answer = ThreeSays bytes (readFieldsTo last 3 (drop at bytes)) answer
 
 -- The line test: 13 for a malformed first line; its arrival and the bytes it takes, all zeros if
 -- it is malformed.
-pub record LineSays (bytes : List ℕ) (answer : LineRead) : Type 0 where
+pub record TestLineSays (bytes : List ℕ) (answer : LineRead) : Type 0 where
   pub refusal : answer .refusal ≡ when (not (readLine bytes .wellFormed)) malformedLine
   pub arrival : answer .arrival ≡ readLine bytes .arrival
   pub used : answer .used ≡ readLine bytes .used

@@ -1,18 +1,19 @@
 // Decimal numbers and worklist lines, read from bytes.
 
+ghost use Rattle.model.specs.Lent.{before};
 ghost use mathlib.Core.Path.{_≡_};
 ghost use mathlib.Core.Bool.{true};
 ghost use Prim.Native.Nat.{_+_, _-_, _≤_, _<_};
 ghost use lib.ListN.{length, drop};
 ghost use Rattle.model.specs.Limits.{numberLimit};
 ghost use Rattle.model.specs.Decimal.{isDigit, digitValue, leadingZero};
-ghost use Rattle.worklist.specs.Contracts.{notRead, DigitsSay, NumberAt, EndedSays, FieldAt, ThreeAt, LineSays};
-use model::ACCEPTED;
+ghost use Rattle.worklist.specs.Contracts.{notRead, MoreDigitsSays, ReadNumberSays, EndedSays, ReadFieldSays, ReadThreeSays, TestLineSays};
 use model::Arrival;
 use model::LINE_FEED;
 use model::MALFORMED_LINE;
 use model::MORE_DIGITS;
 use model::NINE;
+use model::NO_REFUSAL;
 use model::SEMICOLON;
 use model::ZERO;
 
@@ -69,7 +70,7 @@ fn digit_value(byte: u8) -> u32
 // The digits after a number's first, at most six of them; a seventh makes it too long.
 fn more_digits(bytes: &[u8], start: usize, first: u32) -> NumberRead
     requires { ⌜ (start ≤ length (now bytes)) × (first < 10) ⌝ }
-    ensures { λ r. ⌜ DigitsSay (now (bytes .entry)) start first r ⌝ }
+    ensures { λ r. ⌜ MoreDigitsSays (before bytes) start first r ⌝ }
 {
     let mut next = start;
     let mut value = first;
@@ -100,7 +101,7 @@ fn more_digits(bytes: &[u8], start: usize, first: u32) -> NumberRead
 
 // Whether a number's first digit is a 0 with another digit after it.
 fn leading_zero(bytes: &[u8], first: u8, next: usize) -> bool
-    ensures { λ r. ⌜ r ≡ leadingZero first (drop next (now (bytes .entry))) ⌝ }
+    ensures { λ r. ⌜ r ≡ leadingZero first (drop next (before bytes)) ⌝ }
 {
     if bytes.len() <= next {
         return false;
@@ -113,7 +114,7 @@ fn leading_zero(bytes: &[u8], first: u8, next: usize) -> bool
 
 // The number that stands at a place of the bytes.
 fn read_number(bytes: &[u8], at: usize) -> NumberRead
-    ensures { λ r. ⌜ NumberAt (now (bytes .entry)) at r ⌝ }
+    ensures { λ r. ⌜ ReadNumberSays (before bytes) at r ⌝ }
 {
     if bytes.len() <= at {
         return no_number();
@@ -132,7 +133,7 @@ fn read_number(bytes: &[u8], at: usize) -> NumberRead
 // A number that was read, if the mark stands right after it.
 fn ended_by(bytes: &[u8], number: NumberRead, mark: u8) -> NumberRead
     requires { ⌜ (number .next ≤ length (now bytes)) × (number .value < numberLimit) ⌝ }
-    ensures { λ r. ⌜ EndedSays mark (now (bytes .entry)) number r ⌝ }
+    ensures { λ r. ⌜ EndedSays mark (before bytes) number r ⌝ }
 {
     let next = number.next;
     let value = number.value;
@@ -151,7 +152,7 @@ fn ended_by(bytes: &[u8], number: NumberRead, mark: u8) -> NumberRead
 
 // The number at a place of the bytes, with the mark that must end it.
 fn read_field(bytes: &[u8], at: usize, mark: u8) -> NumberRead
-    ensures { λ r. ⌜ FieldAt mark (now (bytes .entry)) at r ⌝ }
+    ensures { λ r. ⌜ ReadFieldSays mark (before bytes) at r ⌝ }
 {
     let number = read_number(bytes, at);
     if number.found {
@@ -163,7 +164,7 @@ fn read_field(bytes: &[u8], at: usize, mark: u8) -> NumberRead
 // Three fields from a place on, the third ended by a mark that the caller names. Internal: for the
 // crates that read whole lines of such fields.
 pub fn read_three(bytes: &[u8], at: usize, last: u8) -> ThreeRead
-    ensures { λ r. ⌜ ThreeAt last (now (bytes .entry)) at r ⌝ }
+    ensures { λ r. ⌜ ReadThreeSays last (before bytes) at r ⌝ }
 {
     let first = read_field(bytes, at, SEMICOLON);
     if first.found {
@@ -192,7 +193,7 @@ pub fn read_three(bytes: &[u8], at: usize, last: u8) -> ThreeRead
 
 // The line test: the first line of some bytes as an arrival, or refusal 13.
 pub fn test_line(bytes: &[u8]) -> LineRead
-    ensures { λ r. ⌜ LineSays (now (bytes .entry)) r ⌝ }
+    ensures { λ r. ⌜ TestLineSays (before bytes) r ⌝ }
 {
     let line = read_three(bytes, 0, LINE_FEED);
     let arrival = Arrival {
@@ -202,7 +203,7 @@ pub fn test_line(bytes: &[u8]) -> LineRead
     };
     if line.found {
         return LineRead {
-            refusal: ACCEPTED,
+            refusal: NO_REFUSAL,
             arrival: arrival,
             used: line.next,
         };

@@ -3,7 +3,7 @@ use mathlib.Core.Path.{refl, ap, sym}
 use mathlib.Core.Bool.{Bool}
 use borrow.Author.Needs.{needs}
 use Rattle.model.specs.Refusals.{when, messageNotDue}
-use Rattle.model.proofs.RefusalLaws.{Still, begin, pass-part, refuse-part, end, told}
+use Rattle.model.proofs.Thresholds.RefusalLaws.{Still, begin, pass-part, refuse-part, end, told}
 use Rattle.coordinator.specs.Calls.{announceRefusal}
 use Rattle.coordinator.proofs.announce_refusal.Statement.{statement}
 use Rattle.coordinator.proofs.announce_refusal.Tie as tie

@@ -2,7 +2,7 @@
 use mathlib.Core.Path.{refl, sym, _∙_}
 use borrow.Author.Needs.{needs}
 use Rattle.coordinator.proofs.CallLaws.{step-asks, hands-refused, hands-accepted}
-use Rattle.model.proofs.RefusalLaws.{accepts, refuses}
+use Rattle.model.proofs.Thresholds.RefusalLaws.{accepts, refuses}
 use Rattle.coordinator.specs.Calls.{receiveRefusal}
 use Rattle.coordinator.proofs.receive.Statement.{statement}
 use Rattle.coordinator.proofs.receive.Tie as tie

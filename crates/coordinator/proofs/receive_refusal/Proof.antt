@@ -1,7 +1,7 @@
 -- Each return is the part of `receiveRefusal` that decides.
 use mathlib.Core.Path.{refl}
 use borrow.Author.Needs.{needs}
-use Rattle.model.proofs.RefusalLaws.{begin, pass-part, refuse-part, end, told}
+use Rattle.model.proofs.Thresholds.RefusalLaws.{begin, pass-part, refuse-part, end, told}
 use Rattle.coordinator.proofs.receive_refusal.Statement.{statement}
 use Rattle.coordinator.proofs.receive_refusal.Tie as tie
 

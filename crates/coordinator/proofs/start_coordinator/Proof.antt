@@ -5,8 +5,8 @@ use mathlib.Core.Path.{_≡_, ap, sym, _∙_}
 use Prim.Native.Nat.{ℕ, _+_}
 use borrow.Author.Needs.{needs}
 use Rattle.coordinator.proofs.CallLaws.{fresh-memory, start-long}
-use Rattle.model.proofs.ReportLaws.{valueCount-is}
-use Rattle.model.proofs.RefusalLaws.{accepts, refuses}
+use Rattle.model.proofs.BetweenArrivals.ReportLaws.{valueCount-is}
+use Rattle.model.proofs.Thresholds.RefusalLaws.{accepts, refuses}
 use Rattle.coordinator.specs.Calls.{startRefusal}
 use Rattle.model.specs.CoordinatorMemory.{coordinatorWords}
 use Rattle.model.specs.SiteMemory.{overwrite}

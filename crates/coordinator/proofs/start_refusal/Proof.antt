@@ -4,8 +4,8 @@ use native.Mathlib.Omega.{arith}
 use borrow.Author.Tests.{lt-ltb, le-ltb}
 use borrow.Author.Needs.{needs}
 use Rattle.model.specs.CoordinatorMemory.{coordinatorWords}
-use Rattle.model.proofs.RefusalLaws.{Still, begin, pass, pass-part, refuse, refuse-part, end, told}
-use Rattle.model.proofs.ReportLaws.{valueCount-is}
+use Rattle.model.proofs.Thresholds.RefusalLaws.{Still, begin, pass, pass-part, refuse, refuse-part, end, told}
+use Rattle.model.proofs.BetweenArrivals.ReportLaws.{valueCount-is}
 use Rattle.coordinator.specs.Calls.{startRefusal}
 use Rattle.coordinator.proofs.start_refusal.Statement.{statement}
 use Rattle.coordinator.proofs.start_refusal.Tie as tie

@@ -6,7 +6,7 @@ use borrow.Author.Needs.{needs}
 use Rattle.model.specs.declared.Settings.{Settings}
 use Rattle.model.specs.Coordinator.{coordinatorDueRefusal}
 use Rattle.model.specs.CoordinatorMemory.{coordinatorIn}
-use Rattle.model.proofs.RefusalLaws.{Still, begin, pass, refuse, end, told}
+use Rattle.model.proofs.Thresholds.RefusalLaws.{Still, begin, pass, refuse, end, told}
 use Rattle.coordinator_refusals.proofs.due_refusal.Statement.{statement}
 use Rattle.coordinator_refusals.proofs.due_refusal.Tie as tie
 

@@ -3,8 +3,8 @@ use Prim.Native.Nat.{_-_}
 use native.Mathlib.Omega.{arith}
 use borrow.Author.Needs.{needs}
 use borrow.Author.Tests.{ltb-true, ltb-false}
-use Rattle.session_steps.specs.Outcome.{buffers}
-use Rattle.session.specs.Limits.{inputRoom}
+use Rattle.drawtrack_steps.specs.Outcome.{buffers}
+use Rattle.drawtrack_session.specs.Limits.{inputRoom}
 use Rattle.drawtrack.specs.Serving.{situation, Serving}
 use Rattle.drawtrack.proofs.ServingLaws.{serving-begins, serving-on, serving-over, serves}
 use Rattle.drawtrack.proofs.serve.Statement.{statement}

@@ -3,7 +3,7 @@ use Prim.Native.Nat.{_+_}
 use mathlib.Core.Path.{_≡_, ap}
 use native.Mathlib.Omega.{arith}
 use Rattle.model.specs.Settings.{digits}
-use Rattle.model.proofs.Digits.{digits-half, digits-bound}
+use Rattle.model.proofs.MessageCount.Digits.{digits-half, digits-bound}
 use Rattle.settings.proofs.count_digits.Statement.{statement}
 use Rattle.settings.proofs.count_digits.Tie as tie
 

@@ -8,8 +8,8 @@ use borrow.Author.Needs.{needs}
 use borrow.Author.Tests.{eq-eqb, ne-eqb}
 use Rattle.model.specs.Limits.{mostSites, allowanceFactor}
 use Rattle.model.specs.Settings.{settingsRefusal}
-use Rattle.model.proofs.SettingsLaws.{settled}
-use Rattle.model.proofs.Digits.{digits-bound}
+use Rattle.model.proofs.Thresholds.SettingsLaws.{settled}
+use Rattle.model.proofs.MessageCount.Digits.{digits-bound}
 use Rattle.settings.proofs.message_allowance.Statement.{statement}
 use Rattle.settings.proofs.message_allowance.Tie as tie
 

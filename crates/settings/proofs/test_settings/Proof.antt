@@ -7,7 +7,7 @@ use native.Mathlib.Nat.{mul-le-mul}
 use borrow.Author.Tests.{lt-ltb, le-ltb}
 use borrow.Author.Needs.{needs}
 use Rattle.model.specs.Settings.{settingsRefusal}
-use Rattle.model.proofs.RefusalLaws.{Still, begin, pass, refuse, end, told}
+use Rattle.model.proofs.Thresholds.RefusalLaws.{Still, begin, pass, refuse, end, told}
 use Rattle.settings.proofs.test_settings.Statement.{statement}
 use Rattle.settings.proofs.test_settings.Tie as tie
 

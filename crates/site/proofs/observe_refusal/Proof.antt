@@ -1,7 +1,7 @@
 -- `site::observe_refusal` meets its contract: the memory's refusals first, then the arrival's.
 use mathlib.Core.Path.{refl}
 use borrow.Author.Needs.{needs}
-use Rattle.model.proofs.RefusalLaws.{begin, pass-part, refuse-part, end, told}
+use Rattle.model.proofs.Thresholds.RefusalLaws.{begin, pass-part, refuse-part, end, told}
 use Rattle.site.proofs.observe_refusal.Statement.{statement}
 use Rattle.site.proofs.observe_refusal.Tie as tie
 

@@ -3,7 +3,7 @@
 use mathlib.Core.Path.{refl}
 use borrow.Author.Tests.{le-leb, lt-leb}
 use borrow.Author.Needs.{needs}
-use Rattle.model.proofs.RefusalLaws.{Still, begin, pass, pass-part, refuse, refuse-part, end, told}
+use Rattle.model.proofs.Thresholds.RefusalLaws.{Still, begin, pass, pass-part, refuse, refuse-part, end, told}
 use Rattle.site.specs.Calls.{receiveRefusal}
 use Rattle.site.proofs.receive_refusal.Statement.{statement}
 use Rattle.site.proofs.receive_refusal.Tie as tie

@@ -3,7 +3,7 @@ use mathlib.Core.Path.{_∙_, ap}
 use native.Mathlib.Omega.{arith}
 use borrow.Author.Needs.{needs}
 use Rattle.model.specs.SiteMemory.{siteIn, counterConsistent}
-use Rattle.counters.specs.Stored.{counterOf}
+use Rattle.site_counters.specs.Stored.{counterOf}
 use Rattle.site_memory.proofs.ConsistencyLaws.{item-unknown, parts-above, count-above, counter-passes}
 use Rattle.site_memory.proofs.counter_consistent.Statement.{statement}
 use Rattle.site_memory.proofs.counter_consistent.Tie as tie

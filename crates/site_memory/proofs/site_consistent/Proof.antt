@@ -2,7 +2,7 @@
 use mathlib.Core.Path.{_∙_, sym}
 use native.Mathlib.Omega.{arith}
 use borrow.Author.Needs.{needs}
-use Rattle.model.proofs.SettingsLaws.{settled}
+use Rattle.model.proofs.Thresholds.SettingsLaws.{settled}
 use Rattle.site_memory.proofs.ConsistencyLaws.{used-above, arrivals-above, pending-above, threshold-above, counters-pass, counters-fail}
 use Rattle.site_memory.proofs.site_consistent.Statement.{statement}
 use Rattle.site_memory.proofs.site_consistent.Tie as tie

@@ -7,7 +7,7 @@ use lib.ListN.{length}
 use borrow.Author.Tests.{lt-ltb, le-ltb}
 use borrow.Author.Needs.{needs}
 use Rattle.model.specs.SiteMemory.{siteWords, siteMemoryRefusal}
-use Rattle.model.proofs.RefusalLaws.{Still, begin, pass, pass-part, refuse, refuse-part, end, told}
+use Rattle.model.proofs.Thresholds.RefusalLaws.{Still, begin, pass, pass-part, refuse, refuse-part, end, told}
 use Rattle.site_memory.proofs.site_memory_refusal.Statement.{statement}
 use Rattle.site_memory.proofs.site_memory_refusal.Tie as tie
 

@@ -1,8 +1,8 @@
 -- `site_memory::site_words` meets its contract: the histogram has 1024 places.
 use native.Mathlib.Omega.{arith}
 use borrow.Author.Needs.{needs}
-use Rattle.model.proofs.SettingsLaws.{settled}
-use Rattle.model.proofs.ReportLaws.{valueCount-is}
+use Rattle.model.proofs.Thresholds.SettingsLaws.{settled}
+use Rattle.model.proofs.BetweenArrivals.ReportLaws.{valueCount-is}
 use Rattle.site_memory.proofs.site_words.Statement.{statement}
 use Rattle.site_memory.proofs.site_words.Tie as tie
 

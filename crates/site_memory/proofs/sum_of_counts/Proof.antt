@@ -3,7 +3,7 @@
 use Prim.Native.Nat.{_-_, _+_}
 use native.Mathlib.Omega.{arith}
 use borrow.Author.Needs.{needs}
-use Rattle.model.proofs.ReportLaws.{valueCount-is}
+use Rattle.model.proofs.BetweenArrivals.ReportLaws.{valueCount-is}
 use Rattle.site_memory.proofs.ValueLaws.{Adding, adding-start, adding-on, adding-end}
 use Rattle.site_memory.proofs.sum_of_counts.Statement.{statement}
 use Rattle.site_memory.proofs.sum_of_counts.Tie as tie

@@ -5,7 +5,7 @@ use native.Mathlib.Omega.{arith}
 use lib.Dec.{eqb}
 use lib.ListN.{take, drop}
 use Rattle.model.specs.SiteMemory.{sum}
-use Rattle.model.proofs.ReportLaws.{valueCount-is}
+use Rattle.model.proofs.BetweenArrivals.ReportLaws.{valueCount-is}
 use Rattle.site_memory.proofs.values_sum_to.Statement.{statement}
 use Rattle.site_memory.proofs.values_sum_to.Tie as tie
 

@@ -4,7 +4,7 @@ use Prim.Native.Nat.{ℕ}
 use borrow.Author.Tests.{lt-ltb, le-ltb, le-leb, lt-leb}
 use Rattle.model.specs.Limits.{topValue}
 use Rattle.model.specs.Site.{addressRefusal}
-use Rattle.model.proofs.RefusalLaws.{Still, begin, pass, refuse, end}
+use Rattle.model.proofs.Thresholds.RefusalLaws.{Still, begin, pass, refuse, end}
 use Rattle.site_refusals.proofs.address_refusal.Statement.{statement}
 use Rattle.site_refusals.proofs.address_refusal.Tie as tie
 

@@ -1,7 +1,7 @@
 -- `site_refusals::arrival_refusal` meets its contract: 5, 6, 7 first, then 8.
 use mathlib.Core.Path.{refl}
 use borrow.Author.Needs.{needs}
-use Rattle.model.proofs.RefusalLaws.{begin, pass-part, refuse-part, end, told}
+use Rattle.model.proofs.Thresholds.RefusalLaws.{begin, pass-part, refuse-part, end, told}
 use Rattle.site_refusals.proofs.arrival_refusal.Statement.{statement}
 use Rattle.site_refusals.proofs.arrival_refusal.Tie as tie
 

@@ -3,7 +3,7 @@ use mathlib.Core.Path.{refl}
 use Prim.Native.Nat.{ℕ}
 use borrow.Author.Needs.{needs}
 use Rattle.model.specs.Site.{siteDueRefusal}
-use Rattle.model.proofs.RefusalLaws.{Still, begin, pass, refuse, end, told}
+use Rattle.model.proofs.Thresholds.RefusalLaws.{Still, begin, pass, refuse, end, told}
 use Rattle.site_refusals.specs.Bare.{bareSite}
 use Rattle.site_refusals.proofs.due_refusal.Statement.{statement}
 use Rattle.site_refusals.proofs.due_refusal.Tie as tie

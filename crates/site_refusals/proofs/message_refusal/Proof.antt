@@ -2,7 +2,7 @@
 use mathlib.Core.Path.{refl}
 use borrow.Author.Tests.{le-leb, lt-leb}
 use borrow.Author.Needs.{needs}
-use Rattle.model.proofs.RefusalLaws.{begin, pass, refuse, end}
+use Rattle.model.proofs.Thresholds.RefusalLaws.{begin, pass, refuse, end}
 use Rattle.site_refusals.proofs.message_refusal.Statement.{statement}
 use Rattle.site_refusals.proofs.message_refusal.Tie as tie
 

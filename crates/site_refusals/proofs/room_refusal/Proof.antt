@@ -1,7 +1,7 @@
 -- `site_refusals::room_refusal` meets its contract: one row.
 use mathlib.Core.Path.{refl}
 use borrow.Author.Tests.{le-leb, lt-leb}
-use Rattle.model.proofs.RefusalLaws.{begin, pass, refuse, end}
+use Rattle.model.proofs.Thresholds.RefusalLaws.{begin, pass, refuse, end}
 use Rattle.site_refusals.proofs.room_refusal.Statement.{statement}
 use Rattle.site_refusals.proofs.room_refusal.Tie as tie
 

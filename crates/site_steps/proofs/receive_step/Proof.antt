@@ -4,8 +4,8 @@ use native.Mathlib.Omega.{arith}
 use borrow.Author.Tests.{eq-eqb, ne-eqb}
 use borrow.Author.Needs.{needs}
 use Rattle.model.specs.Messages.{pollKind, probeKind, probeAnswer}
-use Rattle.model.proofs.SettingsLaws.{settled}
-use Rattle.model.proofs.ReportLaws.{value-counted}
+use Rattle.model.proofs.Thresholds.SettingsLaws.{settled}
+use Rattle.model.proofs.BetweenArrivals.ReportLaws.{value-counted}
 use Rattle.site_steps.proofs.ReceiveLaws.{record-with}
 use Rattle.site_steps.proofs.receive_step.Statement.{statement}
 use Rattle.site_steps.proofs.receive_step.Tie as tie

@@ -7,7 +7,7 @@ use Rattle.model.specs.declared.Sites.{Sites}
 use Rattle.model.specs.declared.CoordinatorRecord.{CoordinatorRecord}
 use Rattle.model.specs.Held.{heldBy}
 use Rattle.tracker_steps.specs.declared.BatchAnswer.{BatchAnswer}
-use Rattle.tracker_steps.specs.Steps.{OpenSays, batchHeld}
+use Rattle.tracker_steps.specs.Steps.{OpenBatchSays, batchHeld}
 use Rattle.tracker.proofs.WalkLaws.{Walked, walked-open, walked-asks, walked-step, walked-done, walked-stopped}
 use borrow.Author.Needs.{needs}
 use Rattle.tracker.proofs.run_one.Statement.{statement}
@@ -17,7 +17,7 @@ use Rattle.tracker.proofs.run_one.Tie as tie
 opened-one : (settings : Settings) (sites : Sites) (coordinator : CoordinatorRecord)
     (arrival : Arrival) (siteMemory coordinatorMemory log : List ℕ)
     (answer : BatchAnswer) (siteThen coordinatorThen : List ℕ)
-    → OpenSays settings sites coordinator siteMemory coordinatorMemory answer siteThen
+    → OpenBatchSays settings sites coordinator siteMemory coordinatorMemory answer siteThen
     coordinatorThen
     → Walked (record {
       settings = settings;

@@ -5,7 +5,7 @@ use borrow.Author.Tests.{lt-ltb, le-ltb}
 use borrow.Author.Needs.{needs}
 use Rattle.model.specs.Limits.{mostMessages}
 use Rattle.model.specs.Messages.{messageWidth}
-use Rattle.model.proofs.RefusalLaws.{Still, begin, pass, pass-part, refuse, refuse-part, end, told}
+use Rattle.model.proofs.Thresholds.RefusalLaws.{Still, begin, pass, pass-part, refuse, refuse-part, end, told}
 use Rattle.tracker_steps.specs.Steps.{placesRefusal}
 use Rattle.tracker_steps.proofs.one_refusal.Statement.{statement}
 use Rattle.tracker_steps.proofs.one_refusal.Tie as tie

@@ -2,7 +2,7 @@
 use native.Mathlib.Omega.{arith}
 use borrow.Author.Needs.{needs}
 use mathlib.Core.Path.{refl}
-use Rattle.model.proofs.DecimalLaws.{digit-within}
+use Rattle.model.proofs.Worklists.DecimalLaws.{digit-within}
 use Rattle.worklist.proofs.digit_value.Statement.{statement}
 use Rattle.worklist.proofs.digit_value.Tie as tie
 

@@ -68,7 +68,8 @@ returns c =
       says = says;
       sites-are = at-write-sites .write-sites .ensures;
       coordinator-is = at-write-coordinator .write-coordinator .ensures;
-      out-is = front-sets (done .carried ∷ (done .stopped ∷ [])) (a .out .now) (start .pre .out-long);
+      out-is = front-sets (done .carried ∷ (done .stopped ∷ [])) (a .out .now)
+          (start .pre .out-long);
     }
 
 pub deliver-lent-spec : {M : Type 1} → statement M

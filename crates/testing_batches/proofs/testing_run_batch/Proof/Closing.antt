@@ -6,7 +6,7 @@
 -- Numbers behind `move` count the context's items, as `cell` of Locals does.
 use Rattle.walks.proofs.Kit.{_≡_, refl, _∙_, ℕ, List, [], _∷_, _++_, length, named, w32, vint, ent, via, id⊢, Item, ⋆, atRet, Sq, runs, _$_, !, by, move, fsplit, feqL, look, init, forget, stop, from, load, and-then, no-more, land, returns, fmOf, uint-tells, u32, u64, finally, ends-at}
 use Rattle.testing_numbers.specs.Openings.{change}
-use Rattle.testing_batches.specs.Batch.{Closes, BatchLends}
+use Rattle.testing_batches.specs.Batch.{CloseLentSays, BatchLends}
 use Rattle.testing_batches.proofs.Batching.{closes-ask, batch-exported}
 use Rattle.walks.proofs.Data.{number, Good, is-typed}
 use Rattle.walks.proofs.Elem.{Looked}
@@ -35,7 +35,7 @@ module _ {M : Type 1} (logic : Logic M) (f : Called) (room : Rooms f) (l : Place
   -- What `close_lent` promises.
   abbrev Said : ℕ → Lasts → Type 0
   Said r os =
-      Closes (o .opening .fits) (b .answer) (change (o .sites) (os .1 .1 .0))
+      CloseLentSays (o .opening .fits) (b .answer) (change (o .sites) (os .1 .1 .0))
       (change (o .coordinator) (os .1 .1 .1 .0)) (change (f .out .list) (os .1 .1 .1 .1 .0)) r
 
   -- ---- The exit

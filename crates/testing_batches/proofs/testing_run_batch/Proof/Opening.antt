@@ -5,7 +5,7 @@
 -- Numbers behind `move` count the context's items, as `cell` of Locals does.
 use Rattle.walks.proofs.Kit.{refl, [], _∷_, length, named, id⊢, atRet, Sq, runs, _$_, !, move, whole, sub, look-in, look, init, forget, stop, fld, from, load, of-opd, and-then, no-more, assigns, land, fmOf, u32, u64}
 use Rattle.testing_numbers.specs.Openings.{change}
-use Rattle.testing_batches.specs.Batch.{Opens}
+use Rattle.testing_batches.specs.Batch.{OpenLentSays}
 use Rattle.walks.proofs.Data.{is-typed}
 use Rattle.walks.proofs.Again.{lends, returned}
 use Rattle.walks.proofs.Elem.{twice}
@@ -51,7 +51,7 @@ module _ {M : Type 1} (logic : Logic M) (f : Called) (room : Rooms f) (l : Place
       (and-then ! (load ! (from ! (stop !)) (look ! (at 14 15) refl))
       (no-more !)))))
       VO (opening-data .tells)
-      (λ opening ws. Opens (f .settings .list) (change (f .sites .list) (ws .1 .0))
+      (λ opening ws. OpenLentSays (f .settings .list) (change (f .sites .list) (ws .1 .0))
       (change (f .coordinator .list) (ws .1 .1 .0)) (length (f .out .list)) opening)
       (λ opening ws. id⊢ 𝓤 _) (λ opening ws opens good.
       -- [κ; ν₁; ν₂; sites' last list; coordinator's; settings; kept; kept; arrivals; …]

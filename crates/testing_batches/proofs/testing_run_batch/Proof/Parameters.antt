@@ -20,7 +20,7 @@ use Rattle.tracker_steps.specs.declared.BatchAnswer.{BatchAnswer}
 use Rattle.tracker.specs.Batch.{BatchCall, batchHeld, BatchSays}
 use Rattle.testing_batches.specs.declared.Opening.{Opening}
 use Rattle.testing_numbers.specs.Openings.{change}
-use Rattle.testing_batches.specs.Batch.{Opens}
+use Rattle.testing_batches.specs.Batch.{OpenLentSays}
 use Rattle.testing_batches.proofs.Opening as O
 use Rattle.testing_batches.proofs.Opening.Laws as O′
 use Rattle.walks.proofs.Data.{Data, struct, Good}
@@ -92,7 +92,7 @@ pub record AfterOpening (f : Called) : Type 0 where
   pub sites : List ℕ
   pub coordinator : List ℕ
   pub opening-good : Good opening-data opening
-  pub opens : Opens (f .settings .list) (change (f .sites .list) sites)
+  pub opens : OpenLentSays (f .settings .list) (change (f .sites .list) sites)
       (change (f .coordinator .list) coordinator) (length (f .out .list)) opening
   pub sites-same : length sites ≡ length (f .sites .list)
   pub coordinator-same : length coordinator ≡ length (f .coordinator .list)

@@ -9,7 +9,7 @@ use Rattle.model.specs.Limits.{mostSites}
 use Rattle.model.specs.Held.{noRecord}
 use Rattle.tracker_steps.specs.declared.BatchAnswer.{BatchAnswer}
 use Rattle.tracker_steps.specs.declared.Turn.{Turn}
-use Rattle.tracker_steps.specs.Turns.{placeOf, counted, CountAsks}
+use Rattle.tracker_steps.specs.Turns.{placeOf, counted, CountTurnAsks}
 use Rattle.tracker_steps.proofs.BatchAnswer.Laws as K′
 use Rattle.tracker.proofs.Records.{recordSize, recordsPlace, values, length-values, values-set, many-records, turn-refusal-fits, turn-record-good, counted-good}
 use Rattle.tracker.proofs.run_batch.Proof.Parameters.{Called, Point, answered, Logic}
@@ -36,7 +36,7 @@ module _ {M : Type 1} (logic : Logic M) (f : Called) (l : Places) (i : ℕ) (tur
   open Logic logic using (𝓤, H, A, W, mem, run, 𝓣)
 
   pub counts : (s : Point f) (a : Arrival) → placeOf a < mostSites
-      → CountAsks (s .answer) (placeOf a) turn
+      → CountTurnAsks (s .answer) (placeOf a) turn
       → ((good : Good answer-data (counted (s .answer) (placeOf a) turn))
       → Sq W (Counted logic f l i turn (answered s (counted (s .answer) (placeOf a) turn) good))
       (runs (𝓣 .C) (𝓣 .Λ) (locals logic f l) sending

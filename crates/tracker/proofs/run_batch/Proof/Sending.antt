@@ -8,7 +8,7 @@
 use Rattle.walks.proofs.Kit.{_≡_, refl, _∙_, subst, Bool, true, false, not, ℕ, zero, suc, _<_, _^_, _+_, arith, List, [], _∷_, Holds, eqb, length, eq-eqb, eqb-true, Body, skip, seq, assign, block, loop, cond, switch, exit, return, call, named, SProp, ent, id⊢, Wp, afterTurn, ⋆, anyQ, Sq, runs, _$_, _∵_, !, qed, by, move, whole, sub, look-in, look, init, store, forget, stop, fld, from, load, lit, of-opd, bin, and-then, no-more, assigns, assigns-last, branches, skips, first, exec, land, fmOf, u32, u64}
 use Rattle.tracker_steps.specs.declared.Turn.{Turn}
 use Rattle.tracker_steps.specs.Steps.{batchHeld}
-use Rattle.tracker_steps.specs.Turns.{DeliverAsks, DeliverSays}
+use Rattle.tracker_steps.specs.Turns.{DeliverTurnAsks, DeliverTurnSays}
 use Rattle.walks.proofs.Data.{Good, is-typed}
 use Rattle.walks.proofs.Again.{lends, returned}
 use Rattle.walks.proofs.Handing.{asking}
@@ -91,10 +91,10 @@ module _ {M : Type 1} (logic : Logic M) (f : Called) (ok : Typed f) (l : Places)
   -- ---- The messages
 
   module _ (s : Point f) where
-    pub sends : ((turn .out .count ≡ 0 → ⊥) → DeliverAsks (f .settings) turn (heldAt s))
+    pub sends : ((turn .out .count ≡ 0 → ⊥) → DeliverTurnAsks (f .settings) turn (heldAt s))
         → (turn .out .count ≡ 0 → ent 𝓤 (⋆ 𝓤 H A (At logic f l (i + 1) s)) X)
         → ((s′ : Point f) → (turn .out .count ≡ 0 → ⊥)
-        → DeliverSays (f .settings) turn (heldAt s) (heldAt s′)
+        → DeliverTurnSays (f .settings) turn (heldAt s) (heldAt s′)
         → ent 𝓤 (⋆ 𝓤 H A (At logic f l (i + 1) s′)) X)
         → Sq W (Counted logic f l i turn s)
         (runs (𝓣 .C) (𝓣 .Λ) (locals logic f l) sending
@@ -133,7 +133,7 @@ module _ {M : Type 1} (logic : Logic M) (f : Called) (ok : Typed f) (l : Places)
         (and-then ! (load ! (from ! (stop !)) (look ! (at 6 40) refl))
         (and-then ! (load ! (from ! (stop !)) (look ! (at 6 42) refl)) (no-more !)))))))
         VK (answer-data .tells)
-        (λ r ws. DeliverSays (f .settings) turn (heldAt s)
+        (λ r ws. DeliverTurnSays (f .settings) turn (heldAt s)
         (batchHeld r (ws .1 .1 .1 .0) (ws .1 .1 .1 .1 .0) (ws .1 .1 .1 .1 .1 .0)))
         (λ r ws. id⊢ 𝓤 _) (λ r ws e good.
         -- [ν₁; ν₂; ν₃; sites' last list; coordinator's; log's; kept; kept; kept; the run; κ; …]

@@ -3,7 +3,7 @@
 --
 --   begins   the body of the function
 -- Numbers behind `move` count the context's items, as `cell` of Locals does.
-use Rattle.tracker_steps.specs.Steps.{OpenSays}
+use Rattle.tracker_steps.specs.Steps.{OpenBatchSays}
 use Rattle.walks.proofs.Kit.{refl, ℕ, List, [], _∷_, lit<, named, id⊢, atRet, Sq, runs, _$_, !, move, look, init, forget, stop, from, load, lit, of-opd, and-then, no-more, assigns, land, fmOf, u32, u64}
 use Rattle.walks.proofs.Data.{is-typed}
 use Rattle.walks.proofs.Again.{lends, returned}
@@ -48,7 +48,7 @@ module _ {M : Type 1} (logic : Logic M) (f : Called) (ok : Typed f) (l : Places)
       (and-then ! (load ! (from ! (stop !)) (look ! (at 7 16) refl))
       (and-then ! (load ! (from ! (stop !)) (look ! (at 7 18) refl)) (no-more !))))))
       VK (answer-data .tells)
-      (λ r ws. OpenSays (f .settings) (f .sites) (f .coordinator) (f .siteMemory .list)
+      (λ r ws. OpenBatchSays (f .settings) (f .sites) (f .coordinator) (f .siteMemory .list)
       (f .coordinatorMemory .list) r (ws .1 .1 .1 .0) (ws .1 .1 .1 .1 .0))
       (λ r ws. id⊢ 𝓤 _) (λ r ws e good.
       -- [ν₁; ν₂; sites' last list; coordinator's; kept; kept; the run; κ; log; κ₃; _42; …]

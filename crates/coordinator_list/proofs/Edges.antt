@@ -1,0 +1,16 @@
+-- The list's chain at the edge: each row by computation.
+use mathlib.Core.Path.{refl}
+use Rattle.model.specs.Limits.{valueCount}
+use Rattle.coordinator_list.specs.Edges.{ListEdges}
+
+pub list-edges : ListEdges
+unfolding valueCount
+list-edges = record {
+  none-listed = refl;
+  one-listed = refl;
+  one-without-place = refl;
+  three-listed = refl;
+  three-in-two = refl;
+  eleven-before-twelve = refl;
+  four-before-twelve = refl;
+}

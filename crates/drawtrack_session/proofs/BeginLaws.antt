@@ -1,0 +1,159 @@
+-- The call `begin` does what its definition says.
+--
+--   Served, served                    what the tests of a start leave: all within the limits
+--   begin-refused, begin-started      the two answers
+use mathlib.Core.Path.{_≡_, sym, ap, _∙_}
+use mathlib.Core.Bool.{_||_}
+use mathlib.Core.List.{List}
+use Prim.Native.Nat.{ℕ, _-_, _≤_}
+use native.Mathlib.Nat.{mul-le-mul}
+use native.Mathlib.Omega.{arith}
+use lib.Dec.{ltb}
+use lib.ListN.{length, length-drop}
+use borrow.Author.Tests.{eq-eqb, ne-eqb, le-ltb, ltb-false}
+use Rattle.laws.proofs.Tests.{neither-of-or}
+use Rattle.model.specs.declared.Settings.{Settings}
+use Rattle.model.specs.Refusals.{noRefusal, memoryTooShort}
+use Rattle.model.specs.Settings.{settingsRefusal}
+use Rattle.model.specs.SiteMemory.{siteWords}
+use Rattle.model.specs.Coordinator.{freshCoordinator}
+use Rattle.model.specs.CoordinatorMemory.{coordinatorWords, coordinatorMemory}
+use Rattle.model.specs.NetworkMemory.{sitesWords}
+use Rattle.model.specs.Lines.{Fields, readFields}
+use Rattle.model.proofs.Thresholds.RefusalLaws.{both-accepted, passed}
+use Rattle.model.proofs.BetweenArrivals.ReportLaws.{valueCount-is}
+use Rattle.model.specs.Transcript.{beyondProgram}
+use Rattle.worklist_reader.specs.declared.SettingsRead.{SettingsRead}
+use Rattle.worklist_reader.specs.Contracts.{SettingsSays, bytesAfter}
+use Rattle.site.specs.declared.StartedSites.{StartedSites}
+use Rattle.site.specs.Calls as SiteCalls
+use Rattle.coordinator.specs.declared.StartedCoordinator.{StartedCoordinator}
+use Rattle.coordinator.specs.Calls as CoordinatorCalls
+use Rattle.drawtrack_steps.specs.declared.Session.{Session}
+use Rattle.drawtrack_steps.specs.declared.Moved.{Moved}
+use Rattle.drawtrack_steps.specs.Outcome.{Buffers, buffers, withOut, outcome, RefuseSays, refusedOf}
+use Rattle.drawtrack_session.specs.Limits.{programSites, programCapacity, programUniverse, siteRoom, coordinatorRoom}
+use Rattle.drawtrack_session.specs.Begin.{shorterThanLimits, startRefusalOf, beginRefusalOf, freshSession, firstSession, startedOf, beginOf}
+
+-- ---- Settings and memory within the program's limits
+
+pub record Served (settings : Settings) (siteNumbers coordinatorNumbers : ℕ) : Type 0 where
+  pub passes : settingsRefusal settings ≡ noRefusal
+  pub few-sites : settings .sites ≤ programSites
+  pub few-counters : settings .capacity ≤ programCapacity
+  pub few-items : settings .universe ≤ programUniverse
+  pub sites-long : siteRoom ≤ siteNumbers
+  pub coordinator-long : coordinatorRoom ≤ coordinatorNumbers
+
+pub served : (line : ℕ) (settings : Settings) (bytes siteNumbers coordinatorNumbers : ℕ)
+    → startRefusalOf line settings bytes siteNumbers coordinatorNumbers ≡ noRefusal
+    → Served settings siteNumbers coordinatorNumbers
+served line settings bytes siteNumbers coordinatorNumbers none =
+    let rows = both-accepted line _ none in
+    let later = both-accepted (settingsRefusal settings) _ (rows .later-accepted) in
+    let within = passed (beyondProgram settings bytes) memoryTooShort _ (omega arith)
+    (later .later-accepted) in
+    let long = passed (shorterThanLimits siteNumbers coordinatorNumbers) memoryTooShort _
+    (omega arith) (within .later-accepted) in
+    let three = neither-of-or
+    (ltb 4 (settings .sites) || ltb 100 (settings .capacity) || ltb 1000 (settings .universe)) _
+    (within .test-failed) in
+    let two = neither-of-or (ltb 4 (settings .sites) || ltb 100 (settings .capacity)) _
+    (three .first-false) in
+    let one = neither-of-or (ltb 4 (settings .sites)) _ (two .first-false) in
+    let both = neither-of-or (ltb siteNumbers siteRoom) _ (long .test-failed) in
+    record {
+      passes = later .first-accepted;
+      few-sites = ltb-false 4 (settings .sites) (one .first-false);
+      few-counters = ltb-false 100 (settings .capacity) (one .second-false);
+      few-items = ltb-false 1000 (settings .universe) (two .second-false);
+      sites-long = ltb-false siteNumbers siteRoom (both .first-false);
+      coordinator-long = ltb-false coordinatorNumbers coordinatorRoom (both .second-false);
+    }
+
+-- The start calls are accepted then.
+module _ (settings : Settings) (siteMemory memory : List ℕ)
+    (fit : Served settings (length siteMemory) (length memory)) where
+  sites-few : sitesWords settings ≤ siteRoom
+  sites-few =
+      let words : siteWords settings ≤ 1424 = omega (arith, fit .few-counters, valueCount-is) in
+      omega (arith, mul-le-mul (fit .few-sites) words)
+
+  pub sites-start : SiteCalls.startRefusal settings siteMemory ≡ noRefusal
+  sites-start =
+      rw (
+        fit .passes,
+        le-ltb (length siteMemory) (sitesWords settings)
+            (omega (arith, sites-few, fit .sites-long)),
+      )
+
+  pub coordinator-start : CoordinatorCalls.startRefusal settings (length memory) ≡ noRefusal
+  coordinator-start =
+      rw (
+        fit .passes,
+        le-ltb (length memory) (coordinatorWords settings)
+            (omega (arith, fit .few-items, valueCount-is, fit .coordinator-long)),
+      )
+
+-- ---- The two answers
+
+module _ (input : List ℕ) (given : Buffers) (read : SettingsRead) (says : SettingsSays input read)
+    (session : Session) (session-is : session ≡ freshSession (read .settings) (read .used))
+    (refusal : ℕ)
+    (refusal-says : refusal
+    ≡ startRefusalOf (read .refusal) (read .settings) (length input - read .used)
+    (length (given .siteMemory)) (length (given .coordinatorMemory))) where
+  abbrev found : Fields
+  found = readFields 6 input
+
+  rest-length : length input - read .used ≡ length (bytesAfter input found)
+  rest-length = sym (length-drop (read .used) input) ∙ ap length (says .rest)
+
+  refusal-is : refusal ≡ beginRefusalOf input found given
+  refusal-is =
+      refusal-says
+      ∙ (λ i. startRefusalOf (says .refusal i) (says .settings i) (rest-length i)
+      (length (given .siteMemory)) (length (given .coordinatorMemory)))
+
+  first-is : session ≡ firstSession input found
+  first-is = session-is ∙ (λ i. freshSession (says .settings i) (says .used i))
+
+  pub begin-refused : (after : List ℕ) (moved : Moved)
+      → RefuseSays session refusal (given .out) after moved
+      → (refusal ≡ noRefusal → ⊥)
+      → outcome moved (withOut given after) ≡ beginOf input given
+  begin-refused after moved refuses refused =
+      let rule = beginRefusalOf input found given in
+      refuses .is given
+      ∙ (λ i. refusedOf (first-is i) (refusal-is i) given)
+      ∙ sym (rw (ne-eqb rule 0 (λ none. refused (refusal-is ∙ none))))
+
+  pub begin-started : (siteAfter coordinatorAfter : List ℕ)
+      (sites : StartedSites) (coordinator : StartedCoordinator)
+      → SiteCalls.StartSitesSays (read .settings) (given .siteMemory) siteAfter sites
+      → CoordinatorCalls.StartCoordinatorSays (read .settings) (given .coordinatorMemory)
+      coordinatorAfter
+      coordinator
+      → refusal ≡ noRefusal
+      → outcome (record { session = session; written = 0 })
+      (buffers siteAfter coordinatorAfter (given .log) (given .list) (given .out))
+      ≡ beginOf input given
+  begin-started siteAfter coordinatorAfter sites coordinator sites-say coordinator-says none =
+      let settings = read .settings in
+      let fit = served (read .refusal) settings (length input - read .used)
+      (length (given .siteMemory)) (length (given .coordinatorMemory))
+      (sym refusal-says ∙ none) in
+      let sites-then : siteAfter ≡ SiteCalls.cleared settings (given .siteMemory) =
+      sites-say .memory
+      ∙ rw (eq-eqb (SiteCalls.startRefusal settings (given .siteMemory)) 0
+      (sites-start settings (given .siteMemory) (given .coordinatorMemory) fit)) in
+      let coordinator-then : coordinatorAfter
+      ≡ coordinatorMemory (freshCoordinator settings) (given .coordinatorMemory) =
+      coordinator-says .memory
+      ∙ rw (eq-eqb (CoordinatorCalls.startRefusal settings (length (given .coordinatorMemory))) 0
+      (coordinator-start settings (given .siteMemory) (given .coordinatorMemory) fit)) in
+      let rule = beginRefusalOf input found given in
+      (λ i. outcome (record { session = session-is i; written = 0 })
+      (buffers (sites-then i) (coordinator-then i) (given .log) (given .list) (given .out)))
+      ∙ (λ i. startedOf (freshSession (says .settings i) (says .used i)) given)
+      ∙ sym (rw (eq-eqb rule 0 (sym refusal-is ∙ none)))

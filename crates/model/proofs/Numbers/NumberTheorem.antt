@@ -1,0 +1,146 @@
+-- The coordinator's numbers stay small, from any sound network through any batch: the claims of
+-- specs/NumberClaims.antt. Growth is counted by all arrivals, and these are bounded.
+use mathlib.Core.Path.{_≡_, refl, ap}
+use mathlib.Core.Bool.{Bool, true, false}
+use mathlib.Core.List.{List, [], _∷_}
+use Prim.Native.Nat.{ℕ, _+_, _-_}
+use native.Mathlib.Omega.{arith}
+use lib.ListN.{length}
+use borrow.Author.Tests.{eqb-true}
+use Rattle.model.specs.declared.Settings.{Settings}
+use Rattle.model.specs.declared.Arrival.{Arrival}
+use Rattle.model.specs.Choice.{isZero}
+use Rattle.model.specs.Refusals.{noRefusal}
+use Rattle.model.specs.Settings.{settingsRefusal}
+use Rattle.model.specs.Network.{Network, siteAt, Delivered, afterArrival}
+use Rattle.model.specs.NetworkMemory.{allArrivals}
+use Rattle.model.specs.Runs.{refusalIn, batchRefusal, Batch, batchFrom, batchOf}
+use Rattle.model.specs.SoundNetwork.{Sound}
+use Rattle.model.specs.NumberClaims.{Grown, BatchNumbers, NumberClaims}
+use Rattle.model.proofs.Thresholds.RefusalLaws.{both-accepted}
+use Rattle.model.proofs.Thresholds.SettingsLaws.{Settled, settled}
+use Rattle.model.proofs.Deliveries.ArrivalParts.{ArrivalCase, arrival-case, networkThen}
+use Rattle.model.proofs.Deliveries.AfterArrival.{after-arrival}
+use Rattle.model.proofs.Soundness.SoundSites.{ArrivalTaken, taken-of-no-refusal}
+use Rattle.model.proofs.Soundness.SoundTheorem.{sound-claims}
+use Rattle.model.proofs.Numbers.NumberGrowth.{counted-then, grown-then}
+use Rattle.model.proofs.Numbers.NumberBounds.{arrivals-few, bounded-start, bounded-grown, estimates-few, values-few}
+
+-- ---- Growth, arrival by arrival
+
+-- No arrival, no growth.
+pub grown-self : (network : Network) → Grown network network
+grown-self network = record {
+  estimate-grows = λ item. omega arith;
+  value-grows = λ value. omega arith;
+}
+
+-- Growth after growth.
+pub grown-more : {first second third : Network}
+    → Grown first second
+    → Grown second third
+    → Grown first third
+grown-more earlier later = record {
+  estimate-grows = λ item. omega (arith, earlier .estimate-grows item, later .estimate-grows item);
+  value-grows = λ value. omega (arith, earlier .value-grows value, later .value-grows value);
+}
+
+-- An arrival with full delivery, from the cases of its closed form.
+module _ (settings : Settings) (network : Network) (arrival : Arrival)
+    (no-refusal : settingsRefusal settings ≡ noRefusal)
+    (sound : Sound settings network)
+    (taken : refusalIn settings network arrival ≡ noRefusal) where
+  abbrev after : Network
+  after = afterArrival settings network arrival .network
+
+  which : ArrivalCase settings network arrival
+  which = arrival-case settings network arrival
+
+  same : after ≡ networkThen which
+  same =
+      ap (λ (d : Delivered). d .network)
+      (after-arrival settings network arrival (sound .idle) which)
+
+  all : length (networkThen which .sites) ≡ settings .sites
+  all =
+      rw same at
+      (sound-claims .arrival-sound settings network arrival no-refusal sound taken .all-sites)
+
+  fit : Settled settings
+  fit = settled settings no-refusal
+
+  known : ArrivalTaken settings (siteAt network (arrival .site)) arrival
+  known = taken-of-no-refusal settings (siteAt network (arrival .site)) arrival taken
+
+  arrival-grows : Grown network after
+  arrival-grows = rw same (grown-then fit sound known which all)
+
+  arrival-counted : allArrivals (after .sites) ≡ allArrivals (network .sites) + 1
+  arrival-counted = rw same (counted-then fit sound known which all)
+
+-- ---- Batches
+
+module _ (settings : Settings) (room : ℕ) (network : Network)
+    (no-refusal : settingsRefusal settings ≡ noRefusal) where
+  record Kept (batch : Batch) : Type 0 where
+    sound : Sound settings (batch .network)
+    grown : Grown network (batch .network)
+
+  -- Each arrival that the batch accepts is accepted by its site.
+  kept-batch : (arrivals : List Arrival) (batch : Batch)
+      → Kept batch
+      → Kept (batchFrom settings room batch arrivals)
+  kept-batch [] batch kept = kept
+  kept-batch (arrival ∷ arrivals) batch kept =
+      by-refusal (isZero refusal) refl (kept-batch arrivals)
+    where
+      refusal : ℕ
+      refusal =
+          batchRefusal settings (batch .network) (room - length (batch .messages)) arrival
+
+      taken : isZero refusal ≡ true → refusalIn settings (batch .network) arrival ≡ noRefusal
+      taken none = both-accepted _ _ (eqb-true refusal 0 none) .first-accepted
+
+      by-refusal : (none : Bool) → isZero refusal ≡ none
+          → ((next : Batch) → Kept next → Kept (batchFrom settings room next arrivals))
+          → Kept (batchFrom settings room batch (arrival ∷ arrivals))
+      by-refusal true none later =
+          rw (none, batchFrom)
+          (later _ (record {
+            sound = sound-claims .arrival-sound settings (batch .network) arrival no-refusal
+                (kept .sound) (taken none);
+            grown = grown-more (kept .grown)
+                (arrival-grows settings (batch .network) arrival no-refusal (kept .sound)
+                (taken none));
+          }))
+      by-refusal false some later =
+          rw (some, batchFrom) (record { sound = kept .sound; grown = kept .grown })
+
+  batch-numbers : (arrivals : List Arrival)
+      → Sound settings network
+      → BatchNumbers settings network (batchOf settings room network arrivals)
+  batch-numbers arrivals sound =
+      let fit : Settled settings = settled settings no-refusal in
+      let kept : Kept (batchOf settings room network arrivals) =
+      kept-batch arrivals _ (record { sound = sound; grown = grown-self network }) in
+      record {
+        sound = kept .sound;
+        grown = kept .grown;
+        estimates-small = λ within item.
+            estimates-few fit (kept .sound)
+            (bounded-grown (kept .grown) (bounded-start fit sound within)) item;
+        values-small = λ within value.
+            values-few fit (kept .sound)
+            (bounded-grown (kept .grown) (bounded-start fit sound within)) value;
+        total-small =
+            omega (arith, kept .sound .all-counted, arrivals-few fit (kept .sound));
+      }
+
+-- The claims on the coordinator's numbers, all proved.
+pub number-claims : NumberClaims
+number-claims = record {
+  arrival-grows = arrival-grows;
+  arrival-counted = arrival-counted;
+  batch-numbers = λ settings room network arrivals no-refusal sound.
+      batch-numbers settings room network no-refusal arrivals sound;
+}

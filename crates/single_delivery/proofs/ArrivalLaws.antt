@@ -1,0 +1,234 @@
+-- An arrival with full delivery by the public calls: the promise, from what its parts promise.
+--
+--   refused-says       the arrival is refused
+--   Delivers-it        what the parts of the code did
+--   accepted-says      the arrival is accepted, and delivered
+use mathlib.Core.Path.{_≡_, refl, sym, ap, _∙_, subst}
+use mathlib.Core.List.{List, [], _++_}
+use Prim.Native.Nat.{ℕ, _+_}
+use native.Mathlib.Omega.{arith}
+use lib.ListN.{length, length-append}
+use Rattle.model.specs.declared.Settings.{Settings}
+use Rattle.model.specs.declared.Arrival.{Arrival}
+use Rattle.model.specs.declared.Sites.{Sites}
+use Rattle.model.specs.declared.CoordinatorRecord.{CoordinatorRecord}
+use Rattle.model.specs.Refusals.{_orElse_, noRefusal}
+use Rattle.model.specs.Network.{Network}
+use Rattle.model.specs.Runs.{refusalIn, runOf}
+use Rattle.history.specs.State.{heldRefusal, Held, State, AtRest, networkOf, networkWritten, heldBy}
+use Rattle.history.specs.Histories.{afterSingle, Reachable, stepped, arrives, single}
+use Rattle.history.proofs.Answers.{accepted-choice, refused-choice}
+use Rattle.history.proofs.SingleState.{begins}
+use Rattle.history.proofs.Theorem.{demands}
+use Rattle.history.proofs.Underway.{SoundRest}
+use Rattle.single_delivery.specs.declared.Progress.{Progress}
+use Rattle.single_delivery.specs.declared.DeliveryAnswer.{DeliveryAnswer}
+use Rattle.single_delivery.specs.Steps.{Came, DeliverByCallsSays}
+use Rattle.single_delivery.specs.Arriving.{DeliveryBegun, BeginDeliverySays}
+use Rattle.single_delivery.specs.Delivery.{deliveryRefusal, deliveryIn, HistoryGoesOn, ArrivalDelivered, DeliverySays}
+use Rattle.single_delivery.proofs.EndLaws.{AtEnd, at-end}
+use Rattle.single_delivery.proofs.RestLaws.{Ended}
+use Rattle.single_delivery.proofs.OutcomeLaws.{outcome-of}
+use Rattle.single_delivery.proofs.PassedLaws.{Passed, rest-of}
+use Rattle.single_delivery.proofs.HeldLaws.{kept-after, held-after}
+use Rattle.single_delivery.proofs.HistoryLaws.{passes-of-reachable, reachable-after, start-accepted, never-stopped}
+
+-- ---- Either way
+
+-- In a history at rest the start test passes, and the number is the rules'.
+by-rules-of : {settings : Settings} (arrival : Arrival) (given : Held) (refusal : ℕ)
+    → refusal ≡ deliveryRefusal settings given arrival
+    → (before : State)
+    → before .held ≡ given
+    → AtRest before
+    → Reachable settings before
+    → refusal ≡ refusalIn settings (networkOf settings given) arrival
+by-rules-of {settings} arrival given refusal refusal-is before held-is at-rest reachable =
+    let none : heldRefusal settings given ≡ noRefusal =
+    subst (λ (held : Held). heldRefusal settings held ≡ noRefusal) held-is
+    (start-accepted before reachable at-rest) in
+    refusal-is
+    ∙ ap (λ (start : ℕ). start orElse refusalIn settings (networkOf settings given) arrival) none
+
+-- ---- Refused
+
+pub refused-says : {settings : Settings} {arrival : Arrival} (given left : Held)
+    (answer : DeliveryAnswer)
+    → answer .refusal ≡ deliveryRefusal settings given arrival
+    → (answer .refusal ≡ noRefusal → ⊥)
+    → answer .carried ≡ 0
+    → answer .stopped ≡ noRefusal
+    → left ≡ given
+    → DeliverySays settings arrival given left answer
+refused-says {settings} {arrival} given left answer refusal-is refused nothing none same =
+    let number = deliveryRefusal settings given arrival in
+    let not-accepted : number ≡ noRefusal → ⊥ = λ accepts. refused (refusal-is ∙ accepts) in
+    record {
+      refusal = refusal-is;
+      carried = nothing ∙ sym (refused-choice number _ _ not-accepted);
+      stopped = none ∙ sym (refused-choice number _ _ not-accepted);
+      held = same ∙ sym (refused-choice number _ _ not-accepted);
+      delivered = λ accepts. absurd (refused accepts);
+      by-rules = by-rules-of arrival given (answer .refusal) refusal-is;
+    }
+
+-- ---- Accepted
+
+module _ {settings : Settings} {arrival : Arrival} {sites : Sites}
+    {coordinator : CoordinatorRecord} {siteBefore siteAfter before after : List ℕ}
+    {first ended : Progress}
+    (ok : Passed settings (heldBy sites coordinator siteBefore before))
+    (begin-says : BeginDeliverySays settings arrival sites coordinator siteBefore siteAfter first)
+    (accepts : first .refusal ≡ noRefusal)
+    (deliver-says : DeliverByCallsSays settings siteAfter before after first ended) where
+  abbrev given : Held
+  given = heldBy sites coordinator siteBefore before
+
+  abbrev left : Held
+  left = heldBy (ended .sites) (ended .coordinator) siteAfter after
+
+  abbrev network : Network
+  network = networkOf settings given
+
+  -- From a state that holds what was given, with nothing waiting.
+  module _ (state : State) (held-is : state .held ≡ given) (nothing-waits : state .waiting ≡ [])
+    where
+      begun : DeliveryBegun settings state arrival first siteAfter before
+      begun = begin-says .begins accepts state before held-is nothing-waits
+
+      abbrev then : State
+      then = afterSingle settings state arrival (begun .words) (begun .part) (begun .observed)
+
+      came : Came settings (length (state .messages)) then first ended siteAfter after
+      came = deliver-says .comes (length (state .messages)) then (begun .stands)
+
+      rest : SoundRest settings state
+      rest = rest-of ok state held-is nothing-waits
+
+      here : networkOf settings (state .held) ≡ network
+      here = ap (networkOf settings) held-is
+
+      end : AtEnd settings network arrival (state .messages) then (came .taken) (came .after)
+          (ended .refusal)
+      end =
+          subst (λ (origin : Network).
+          AtEnd settings origin arrival (state .messages) then (came .taken) (came .after)
+          (ended .refusal))
+          here
+          (at-end (ok .passes)
+          (begins (ok .passes) state rest arrival (begun .words) (begun .part) (begun .observed)
+          (begun .says) (begun .accepts))
+          came (begin-says .left-is) (deliver-says .none-due))
+
+      ends : Ended settings network arrival (state .messages) (came .after) (ended .refusal)
+      ends = outcome-of (ok .passes) (ok .within) end
+
+      -- All that is left is the network that it comes to, written over what was given.
+      left-is : left
+          ≡ networkWritten settings given (deliveryIn settings network arrival .network)
+          (given .sites .messages)
+      left-is =
+          sym (came .stands .held-is)
+          ∙ held-after (ok .passes) state rest arrival (begun .words) (begun .part)
+          (begun .observed) (begun .says) (begun .accepts) (came .taken) (came .after)
+          (came .deliveries)
+          ∙ (λ i. networkWritten settings (held-is i) (ends .network-is i)
+          (held-is i .sites .messages))
+
+      -- As many messages as went out.
+      carried-is : ended .carried ≡ length (deliveryIn settings network arrival .messages)
+      carried-is =
+          let out = deliveryIn settings network arrival .messages in
+          omega (
+            arith,
+            came .stands .carried-are,
+            ap length (ends .messages-are),
+            length-append (state .messages) out,
+          )
+
+      module _ (at-rest : AtRest state) (reachable : Reachable settings state) where
+        reachable-then : Reachable settings then
+        reachable-then =
+            stepped state then reachable
+            (arrives (single arrival (begun .words) (begun .part) (begun .observed) at-rest
+            (begun .says) (begun .accepts)))
+
+        there : Reachable settings (came .after)
+        there =
+            reachable-after then reachable-then (came .taken) (came .after) (came .deliveries)
+
+        completes : ended .refusal ≡ noRefusal
+        completes = never-stopped (came .after) end there
+
+        goes-on : HistoryGoesOn settings state arrival (came .after)
+        goes-on =
+            let passes = passes-of-reachable state reachable in
+            let kept = kept-after (ok .passes) state rest arrival (begun .words) (begun .part)
+            (begun .observed) (begun .says) (begun .accepts) (came .taken) (came .after)
+            (came .deliveries) .holds in
+            let rested = ends .rests completes in
+            let as-rules = demands .second settings (came .after) passes there .at-rest rested in
+            record {
+              reachable = there;
+              at-rest = rested;
+              accepted-are = kept .same-accepted;
+              network-is =
+                  as-rules .network-is
+                  ∙ ap (λ (arrivals : List Arrival). runOf settings arrivals .network)
+                  (kept .same-accepted);
+              messages-are =
+                  as-rules .messages-are
+                  ∙ ap (λ (arrivals : List Arrival). runOf settings arrivals .messages)
+                  (kept .same-accepted);
+              tails-kept = kept .from .tails;
+            }
+
+      delivered-it : (answer : DeliveryAnswer)
+          → answer .stopped ≡ ended .refusal
+          → ArrivalDelivered settings state arrival answer left
+      delivered-it answer stopped-is = record {
+        words = begun .words;
+        part = begun .part;
+        observed = begun .observed;
+        observe-says = begun .says;
+        observe-accepts = begun .accepts;
+        calls = came .taken;
+        after = came .after;
+        deliveries = came .deliveries;
+        held-is = came .stands .held-is;
+        messages-are =
+            ends .messages-are
+            ∙ ap (λ (there : Network).
+            state .messages ++ deliveryIn settings there arrival .messages) (sym here);
+        rests = λ none. ends .rests (sym stopped-is ∙ none);
+        completes = λ at-rest reachable. stopped-is ∙ completes at-rest reachable;
+        goes-on = goes-on;
+      }
+
+  -- What was given, as a state with nothing before it.
+  abbrev fresh : State
+  fresh = record { held = given; waiting = []; accepted = []; messages = []; logged = 0 }
+
+  pub accepted-says : (answer : DeliveryAnswer)
+      → answer .refusal ≡ noRefusal
+      → noRefusal ≡ deliveryRefusal settings given arrival
+      → answer .carried ≡ ended .carried
+      → answer .stopped ≡ ended .refusal
+      → DeliverySays settings arrival given left answer
+  accepted-says answer none number-is carried-same stopped-same =
+      let number = deliveryRefusal settings given arrival in
+      record {
+        refusal = none ∙ number-is;
+        carried =
+            carried-same
+            ∙ carried-is fresh refl refl
+            ∙ sym (accepted-choice number _ _ (sym number-is));
+        stopped =
+            stopped-same
+            ∙ ends fresh refl refl .stopped-is
+            ∙ sym (accepted-choice number _ _ (sym number-is));
+        held = left-is fresh refl refl ∙ sym (accepted-choice number _ _ (sym number-is));
+        delivered = λ _ state held-is nothing-waits.
+            delivered-it state held-is nothing-waits answer stopped-same;
+        by-rules = by-rules-of arrival given (answer .refusal) (none ∙ number-is);
+      }

@@ -1,0 +1,163 @@
+// One arrival with full delivery, by the public calls alone: the pattern for a caller who takes
+// arrivals one by one. The whole network is tested first, as the batch call tests it. Then the
+// arrival goes to its site by `site::observe`; each message that goes out is handed over by
+// `site::receive` or `coordinator::receive`, in the order of going out; and kind 7 is asked for by
+// `coordinator::next_announcement` until the coordinator is idle. No internal step is taken: crate
+// `history` knows each of these calls by its contract alone, and here its histories are made by
+// code.
+
+ghost use Rattle.model.specs.Lent.{before, after};
+ghost use mathlib.Core.Path.{_≡_};
+ghost use Rattle.model.specs.Coordinator.{isAnnouncing};
+ghost use Rattle.model.specs.Held.{heldBy};
+ghost use Rattle.single_delivery.specs.Progress.{isDue};
+ghost use Rattle.single_delivery.specs.Steps.{DeliverByCallsAsks, DeliverByCallsSays};
+ghost use Rattle.single_delivery.specs.Delivery.{refusedBy, DeliverySays};
+use crate::arrivals::begin;
+use crate::calls::take_step;
+use model::Arrival;
+use model::CoordinatorRecord;
+use model::NO_REFUSAL;
+use model::Phase;
+use model::Settings;
+use model::Sites;
+use model::UNKNOWN_SITE;
+use model::Word;
+use tracker_memory::network_refusal;
+use tracker_queue::Queue;
+
+mod arrivals;
+mod calls;
+
+// Why the arrival is refused, or 0. If it is not: how many messages went out, each once; the number
+// of a call that was refused on the way and stopped the delivery, or 0 where it came to rest; and
+// both records as they are then. From records and memory that arose by the calls nothing stops it.
+pub struct DeliveryAnswer {
+    pub refusal: u32,
+    pub carried: u64,
+    pub stopped: u32,
+    pub sites: Sites,
+    pub coordinator: CoordinatorRecord,
+}
+
+// One arrival with full delivery. Refused, it changes nothing: 1, 2, 3; then 4 and 11 of the whole
+// network, coordinator and all; then 5, 6, 7, 8. Accepted at records and memory that a history left
+// at rest, it leaves them at rest, one arrival later.
+pub fn deliver_arrival(
+    settings: Settings,
+    sites: Sites,
+    coordinator: CoordinatorRecord,
+    arrival: Arrival,
+    site_memory: &mut [Word],
+    coordinator_memory: &mut [u64],
+) -> DeliveryAnswer
+    ensures { λ r. ⌜ DeliverySays settings arrival (heldBy sites coordinator
+        (before «site_memory») (before «coordinator_memory»))
+        (heldBy (r .sites) (r .coordinator) (after «site_memory»)
+        (after «coordinator_memory»)) r ⌝ }
+{
+    // 1, 2, 3; then 4 and 11: what is short or inconsistent is met before anything changes.
+    let refusal = network_refusal(
+        settings,
+        sites,
+        coordinator,
+        site_memory,
+        coordinator_memory,
+    );
+    if refusal != NO_REFUSAL {
+        return refuse(refusal, sites, coordinator);
+    }
+    // 5, since the site's record and memory are looked up by its number; then 6, 7, 8.
+    if settings.sites <= arrival.site {
+        return refuse(UNKNOWN_SITE, sites, coordinator);
+    }
+    let begun = begin(settings, sites, coordinator, arrival, site_memory);
+    if begun.refusal != NO_REFUSAL {
+        return refuse(begun.refusal, sites, coordinator);
+    }
+    // Every message handed over, answers included, and kind 7 asked for until all is at rest.
+    let ended = deliver(settings, begun, site_memory, coordinator_memory);
+    let sites_then = ended.sites;
+    let coordinator_then = ended.coordinator;
+    DeliveryAnswer {
+        refusal: NO_REFUSAL,
+        carried: ended.carried,
+        stopped: ended.refusal,
+        sites: sites_then,
+        coordinator: coordinator_then,
+    }
+}
+
+// The arrival is refused: nothing went out, and the records are as they were.
+fn refuse(refusal: u32, sites: Sites, coordinator: CoordinatorRecord) -> DeliveryAnswer
+    ensures { λ r. ⌜ r ≡ refusedBy refusal sites coordinator ⌝ }
+{
+    DeliveryAnswer {
+        refusal: refusal,
+        carried: 0,
+        stopped: NO_REFUSAL,
+        sites: sites,
+        coordinator: coordinator,
+    }
+}
+
+// A delivery in progress: both records, the messages that wait, how many went out so far, the
+// refusal of the last call, and how many calls may still be made.
+pub struct Progress {
+    pub sites: Sites,
+    pub coordinator: CoordinatorRecord,
+    pub waiting: Queue,
+    pub carried: u64,
+    pub refusal: u32,
+    pub left: u64,
+}
+
+// Call by call, until none is due.
+fn deliver(
+    settings: Settings,
+    first: Progress,
+    site_memory: &[Word],
+    coordinator_memory: &mut [u64],
+) -> Progress
+    requires { ⌜ DeliverByCallsAsks settings (now «site_memory») first ⌝ }
+    ensures { λ r. ⌜ DeliverByCallsSays settings (before «site_memory»)
+        (before «coordinator_memory») (after «coordinator_memory») first r ⌝ }
+{
+    let mut progress = first;
+    while call_due(progress) {
+        progress.left = progress.left - 1;
+        progress = take_step(settings, progress, site_memory, coordinator_memory);
+    }
+    progress
+}
+
+// Whether a call is due, and may be made: a message waits, or the coordinator announces.
+fn call_due(progress: Progress) -> bool
+    ensures { λ r. ⌜ r ≡ isDue progress ⌝ }
+{
+    if progress.refusal != NO_REFUSAL {
+        return false;
+    }
+    if progress.left == 0 {
+        return false;
+    }
+    let waiting = progress.waiting;
+    if waiting.count != 0 {
+        return true;
+    }
+    let coordinator = progress.coordinator;
+    let phase = coordinator.phase;
+    is_announcing(phase)
+}
+
+// Whether kind 7 is still to go out.
+fn is_announcing(phase: Phase) -> bool
+    ensures { λ r. ⌜ r ≡ isAnnouncing phase ⌝ }
+{
+    match phase {
+        Phase::Idle => false,
+        Phase::Collecting(_) => false,
+        Phase::Probing(_, _, _, _) => false,
+        Phase::Announcing(_) => true,
+    }
+}

@@ -1,0 +1,46 @@
+-- The contract of counting an item in the counters of a site's memory.
+--
+--   CountItemAsks memory capacity used                 what the step requires
+--   CountItemSays before after capacity used item answer   what it promises
+use mathlib.Core.Path.{_≡_}
+use mathlib.Core.List.{List}
+use Prim.Native.Nat.{ℕ, _*_, _≤_, _<_}
+use lib.ListN.{length}
+use Rattle.model.specs.Counters.{Counter, counterAt, Placement, placementFor, placeOf, countersAfter}
+use Rattle.model.specs.SiteMemory.{countersIn, counterNumbers, overwrite}
+use Rattle.site_counters.specs.declared.Counted.{Counted}
+use Rattle.site_counters.specs.Stored.{counterOf}
+
+-- The greatest number that a place of a site's memory holds.
+abbrev pub greatestWord : ℕ
+greatestWord = 4294967295
+
+-- The counters lie within the memory, and no count is at the end of its range.
+pub record CountItemAsks (memory : List ℕ) (capacity used : ℕ) : Type 0 where
+  pub fits : 4 * capacity ≤ length memory
+  pub some : 1 ≤ capacity
+  pub within : used ≤ capacity
+  pub small : (place : ℕ) → place < used
+      → counterAt (countersIn used memory) place .count < greatestWord
+
+abbrev pub placement : List ℕ → ℕ → ℕ → ℕ → Placement
+placement memory capacity used item = placementFor capacity (countersIn used memory) item
+
+abbrev pub placeIn : List ℕ → ℕ → ℕ → ℕ → ℕ
+placeIn memory capacity used item =
+    placeOf (placement memory capacity used item) (countersIn used memory)
+
+abbrev pub countersThen : List ℕ → ℕ → ℕ → ℕ → List Counter
+countersThen memory capacity used item =
+    countersAfter (placement memory capacity used item) (countersIn used memory) item
+
+-- Where the item was counted, the counters in use then, its counter and the memory.
+pub record CountItemSays
+    (before after : List ℕ)
+    (capacity used item : ℕ)
+    (answer : Counted) : Type 0 where
+  pub place : answer .place ≡ placeIn before capacity used item
+  pub used-then : answer .used ≡ length (countersThen before capacity used item)
+  pub counter : counterOf (answer .counter)
+      ≡ counterAt (countersThen before capacity used item) (placeIn before capacity used item)
+  pub memory : after ≡ overwrite (counterNumbers (countersThen before capacity used item)) before

@@ -1,0 +1,41 @@
+-- A counter as it stands in a site's memory: four numbers from a place on.
+--
+--   storedAt memory place           the counter that stands there; zeros past the end
+--   setCounter memory place counter the memory with the counter stored there
+--   counterOf stored                the model's counter that a `StoredCounter` is
+--   ordered                         the model's `precedes` of two counters, on their numbers
+use mathlib.Core.Bool.{Bool, _&&_, _||_}
+use mathlib.Core.List.{List}
+use Prim.Native.Nat.{ℕ, _+_, _*_}
+use lib.Dec.{eqb, ltb}
+use lib.ListN.{getD, set}
+use Rattle.model.specs.Counters.{Counter}
+use Rattle.site_counters.specs.declared.StoredCounter.{StoredCounter}
+
+abbrev pub storedAt : List ℕ → ℕ → Counter
+storedAt memory place = record {
+  item = getD memory (4 * place) 0;
+  count = getD memory (4 * place + 1) 0;
+  overestimate = getD memory (4 * place + 2) 0;
+  reported = getD memory (4 * place + 3) 0;
+}
+
+abbrev pub setCounter : List ℕ → ℕ → Counter → List ℕ
+setCounter memory place counter =
+    let item-set = set memory (4 * place) (counter .item) in
+    let count-set = set item-set (4 * place + 1) (counter .count) in
+    let overestimate-set = set count-set (4 * place + 2) (counter .overestimate) in
+    set overestimate-set (4 * place + 3) (counter .reported)
+
+abbrev pub counterOf : StoredCounter → Counter
+counterOf stored = record {
+  item = stored .item;
+  count = stored .count;
+  overestimate = stored .overestimate;
+  reported = stored .reported;
+}
+
+-- The order of replacement, by count and of equals by item: `precedes` on the numbers alone.
+abbrev pub ordered : ℕ → ℕ → ℕ → ℕ → Bool
+ordered count item leastCount leastItem =
+    ltb count leastCount || eqb count leastCount && ltb item leastItem

@@ -1,0 +1,160 @@
+// The counters of one site in its lent memory (Space-Saving): the search for an item, the scan for
+// the least count, and the counting of an arrival's item. The functions with a `requires` are
+// internal; the test that decides it is `site_memory::site_memory_refusal`, which every call on a
+// site makes first, or the batch call's start test.
+
+ghost use mathlib.Core.Path.{_≡_};
+ghost use Prim.Native.Nat.{_+_, _*_, _≤_};
+ghost use lib.ListN.{length};
+ghost use Rattle.model.specs.Counters.{find, leastPlace};
+ghost use Rattle.model.specs.Lent.{before, after};
+ghost use Rattle.model.specs.SiteMemory.{countersIn};
+ghost use Rattle.site_counters.specs.Count.{CountItemAsks, CountItemSays};
+ghost use Rattle.site_counters.specs.Stored.{storedAt, setCounter, counterOf, ordered};
+use model::Word;
+
+// A counter as memory holds it: document 01's slot, a code, a count, an overcount and a sent
+// number.
+pub struct StoredCounter {
+    pub item: Word,
+    pub count: Word,
+    pub overestimate: Word,
+    pub reported: Word,
+}
+
+// The lowest place of the item's counter, or the number of counters in use if it has none.
+// Internal: `site_memory_refusal` decides that the counters in use lie within the memory.
+pub fn find_counter(memory: &[Word], used: usize, item: Word) -> usize
+    requires { ⌜ 4 * used ≤ length (now memory) ⌝ }
+    ensures { λ r. ⌜ r ≡ find item (countersIn used (before memory)) ⌝ }
+{
+    let mut i = 0;
+    let found = loop {
+        if used <= i {
+            break used;
+        }
+        if memory[4 * i] == item {
+            break i;
+        }
+        i += 1;
+    };
+    found
+}
+
+// Whether a counter comes before another: by count, and of equals by item. Both are compared as one
+// number, count first, so that the scan has no branch on equal counts, which nothing could foresee.
+pub fn is_before(count: Word, item: Word, least_count: Word, least_item: Word) -> bool
+    ensures { λ r. ⌜ r ≡ ordered count item «least_count» «least_item» ⌝ }
+{
+    let rank = 4294967296 * (count as u64) + (item as u64);
+    let least = 4294967296 * (least_count as u64) + (least_item as u64);
+    rank < least
+}
+
+// The place of the least count, of equals the one of the least item. Internal, as `find_counter`.
+pub fn least_counter(memory: &[Word], used: usize) -> usize
+    requires { ⌜ 4 * used ≤ length (now memory) ⌝ }
+    ensures { λ r. ⌜ r ≡ leastPlace (countersIn used (before memory)) ⌝ }
+{
+    let mut best = 0;
+    let mut i = 1;
+    while i < used {
+        if is_before(
+            memory[4 * i + 1],
+            memory[4 * i],
+            memory[4 * best + 1],
+            memory[4 * best],
+        ) {
+            best = i;
+        }
+        i += 1;
+    }
+    best
+}
+
+// The counter at a place. Internal: `site_memory_refusal` decides that all counters lie within the
+// memory.
+pub fn counter_at(memory: &[Word], place: usize) -> StoredCounter
+    requires { ⌜ 4 * place + 4 ≤ length (now memory) ⌝ }
+    ensures { λ r. ⌜ counterOf r ≡ storedAt (before memory) place ⌝ }
+{
+    let start = 4 * place;
+    StoredCounter {
+        item: memory[start],
+        count: memory[start + 1],
+        overestimate: memory[start + 2],
+        reported: memory[start + 3],
+    }
+}
+
+// A counter stored at a place. Internal, as `counter_at`.
+pub fn put_counter(memory: &mut [Word], place: usize, counter: StoredCounter)
+    requires { ⌜ 4 * place + 4 ≤ length (now memory) ⌝ }
+    ensures { λ r. ⌜ after memory ≡ setCounter (before memory) place (counterOf counter) ⌝ }
+{
+    let start = 4 * place;
+    memory[start] = counter.item;
+    memory[start + 1] = counter.count;
+    memory[start + 2] = counter.overestimate;
+    memory[start + 3] = counter.reported;
+}
+
+// What counting an item did: the place of its counter, the counters in use then, and the counter.
+pub struct Counted {
+    pub place: usize,
+    pub used: usize,
+    pub counter: StoredCounter,
+}
+
+// An item counted: in its own counter, in the next unused one, or in place of the least. Internal:
+// `site_memory_refusal` decides that there is a counter, that all lie within the memory, and that
+// no count is above the site's limit.
+pub fn count_item(memory: &mut [Word], capacity: usize, used: usize, item: Word) -> Counted
+    requires { ⌜ CountItemAsks (now memory) capacity used ⌝ }
+    ensures { λ r. ⌜ CountItemSays (before memory) (after memory) capacity used item r ⌝ }
+{
+    let found = find_counter(memory, used, item);
+    if found < used {
+        let old = counter_at(memory, found);
+        let more = StoredCounter {
+            item: old.item,
+            count: old.count + 1,
+            overestimate: old.overestimate,
+            reported: old.reported,
+        };
+        put_counter(memory, found, more);
+        return Counted {
+            place: found,
+            used: used,
+            counter: more,
+        };
+    }
+    if used < capacity {
+        let first = StoredCounter {
+            item: item,
+            count: 1,
+            overestimate: 0,
+            reported: 0,
+        };
+        put_counter(memory, used, first);
+        return Counted {
+            place: used,
+            used: used + 1,
+            counter: first,
+        };
+    }
+    let least = least_counter(memory, used);
+    let replaced = counter_at(memory, least);
+    let replacing = StoredCounter {
+        item: item,
+        count: replaced.count + 1,
+        overestimate: replaced.count,
+        reported: 0,
+    };
+    put_counter(memory, least, replacing);
+    Counted {
+        place: least,
+        used: used,
+        counter: replacing,
+    }
+}

@@ -1,0 +1,109 @@
+-- Messages that go out in a delivery: each is written to the log, counted, and waits last.
+--
+--   queueOf messages              the messages that wait, as code carries them: two at most
+--   joined, withoutHead           a message waits last; the head is taken
+--   sent, sentIf, sentTwo         a message goes out; only if there is one; none, one or two
+--   loggedIf, loggedTwo           what is written to the log then
+--   SendAsks, SendTwoAsks         what sending asks: free records, and a count not too large
+--   SendSays, AnswerSays, SendTwoSays  what it promises: the delivery then, and the log
+use mathlib.Core.Path.{_≡_}
+use mathlib.Core.List.{List}
+use Prim.Native.Nat.{ℕ, _+_, _*_, _≤_}
+use lib.Dec.{eqb}
+use lib.ListN.{length, getD}
+use Rattle.model.specs.declared.Message.{Message}
+use Rattle.model.specs.Choice.{if_then_else_, isZero}
+use Rattle.model.specs.Limits.{messageLimit}
+use Rattle.model.specs.Messages.{messageWidth, noMessage}
+use Rattle.tracker_queue.specs.declared.Queue.{Queue}
+use Rattle.tracker_queue.specs.declared.Traffic.{Traffic}
+use Rattle.tracker_queue.specs.Log.{putRecord}
+
+-- ---- The messages that wait
+
+abbrev pub queueOf : List Message → Queue
+queueOf messages = record {
+  count = length messages;
+  first = getD messages 0 noMessage;
+  second = getD messages 1 noMessage;
+}
+
+abbrev pub nothingWaits : Queue
+nothingWaits = record { count = 0; first = noMessage; second = noMessage }
+
+abbrev pub oneWaits : Message → Queue
+oneWaits m = record { count = 1; first = m; second = noMessage }
+
+abbrev pub joined : Queue → Message → Queue
+joined queue m =
+    if isZero (queue .count) then oneWaits m
+    else record { count = 2; first = queue .first; second = m }
+
+abbrev pub withoutHead : Queue → Queue
+withoutHead queue = if eqb (queue .count) 2 then oneWaits (queue .second) else nothingWaits
+
+-- ---- A message goes out
+
+abbrev pub sent : Traffic → Message → Traffic
+sent traffic m = record {
+  messages = traffic .messages + 1;
+  written = traffic .written + 1;
+  waiting = joined (traffic .waiting) m;
+}
+
+-- A step answers with one message, or with none.
+abbrev pub sentIf : ℕ → Traffic → Message → Traffic
+sentIf count traffic m = if isZero count then traffic else sent traffic m
+
+abbrev pub loggedIf : ℕ → List ℕ → ℕ → Message → List ℕ
+loggedIf count log place m = if isZero count then log else putRecord log place m
+
+-- An arrival sends none, one or two.
+abbrev pub sentTwo : ℕ → Traffic → Message → Message → Traffic
+sentTwo count traffic first second =
+    if eqb count 2 then sent (sentIf count traffic first) second else sentIf count traffic first
+
+abbrev pub loggedTwo : ℕ → List ℕ → ℕ → Message → Message → List ℕ
+loggedTwo count log place first second =
+    if eqb count 2
+    then putRecord (loggedIf count log place first) (place + 1) second
+    else loggedIf count log place first
+
+pub record SendAsks (traffic : Traffic) (log : List ℕ) : Type 0 where
+  pub room : messageWidth * traffic .written + messageWidth ≤ length log
+  pub count-within : traffic .messages ≤ messageLimit + traffic .written
+
+pub record SendTwoAsks (count : ℕ) (traffic : Traffic) (log : List ℕ) : Type 0 where
+  pub room : messageWidth * traffic .written + messageWidth * count ≤ length log
+  pub count-within : traffic .messages ≤ messageLimit + traffic .written
+
+-- ---- What sending promises
+
+pub record SendSays
+    (before : Traffic)
+    (m : Message)
+    (logBefore : List ℕ)
+    (after : Traffic)
+    (logAfter : List ℕ) : Type 0 where
+  pub goes-out : after ≡ sent before m
+  pub logged : logAfter ≡ putRecord logBefore (before .written) m
+
+pub record AnswerSays
+    (count : ℕ)
+    (before : Traffic)
+    (m : Message)
+    (logBefore : List ℕ)
+    (after : Traffic)
+    (logAfter : List ℕ) : Type 0 where
+  pub goes-out : after ≡ sentIf count before m
+  pub logged : logAfter ≡ loggedIf count logBefore (before .written) m
+
+pub record SendTwoSays
+    (count : ℕ)
+    (before : Traffic)
+    (first second : Message)
+    (logBefore : List ℕ)
+    (after : Traffic)
+    (logAfter : List ℕ) : Type 0 where
+  pub go-out : after ≡ sentTwo count before first second
+  pub logged : logAfter ≡ loggedTwo count logBefore (before .written) first second

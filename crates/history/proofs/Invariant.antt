@@ -67,7 +67,7 @@ pub record StateOk (settings : Settings) (n : ℕ) (state : State) : Type 0 wher
 
 -- ---- What a standing is worth
 
--- Each site and the coordinator that a state holds, and the limit of 100,000,000,000.
+-- Each site and the coordinator that a state holds, and the limit of its numbers.
 abbrev pub SoundHeld : Settings → State → Type 0
 SoundHeld settings state = SoundParts settings (networkOf settings (state .held))
 

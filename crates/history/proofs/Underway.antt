@@ -54,7 +54,7 @@ pub record Underway
       (delivery (networkOf settings (state .held)) (state .waiting) log)
   pub messages-are : state .messages ≡ past ++ log
 
--- Each site and the coordinator by itself, and the limit of 100,000,000,000.
+-- Each site and the coordinator by itself, and the limit of its numbers.
 pub record SoundParts (settings : Settings) (network : Network) : Type 0 where
   pub sites-sound : (j : ℕ) → j < settings .sites → SoundSite settings (siteAt network j)
   pub coordinator-sound : SoundCoordinator settings (network .coordinator)

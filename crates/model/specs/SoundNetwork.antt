@@ -1,6 +1,6 @@
 -- A sound network: what document 01's list "Inconsistent" denies, as facts of the model's values.
--- It is the meaning of refusal 11 but for the limits 10^11 and 10^14, which only memory that never
--- arose can pass (a number may pass them within a call).
+-- It is the meaning of refusal 11 but for the limits on numbers and on messages, which only memory
+-- that never arose can pass (a number may pass them within a call).
 --
 --   SoundCounter universe arrivals threshold counter   a counter in use
 --   SoundSite settings site                            a site by itself

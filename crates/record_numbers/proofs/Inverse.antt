@@ -29,7 +29,8 @@ use Rattle.model.specs.declared.Phase.{Phase}
 use Rattle.model.specs.declared.Phase.the-variants.{Idle, Collecting, Probing, Announcing}
 use Rattle.model.specs.declared.CoordinatorRecord.{CoordinatorRecord}
 use Rattle.model.specs.Choice.{isZero}
-use Rattle.record_numbers.specs.Numbers.{settingsNumbers, settingsFrom, messageNumbers, messageFrom, siteAt, siteNumbers, siteFrom, zeroSite, recordsNumbers, recordsFrom, sitesNumbers, sitesFrom, phaseOf, phaseNumbers, phaseFrom, phaseWell, tenNumbers, coordinatorNumbers, coordinatorFrom, coordinatorWell}
+use Rattle.model.specs.Held.{noRecord}
+use Rattle.record_numbers.specs.Numbers.{siteWidth, countPlace, sitesWidth, settingsNumbers, settingsFrom, messageNumbers, messageFrom, siteAt, siteNumbers, siteFrom, recordsNumbers, recordsFrom, sitesNumbers, sitesFrom, phaseOf, phaseNumbers, phaseFrom, phaseWell, tenNumbers, coordinatorNumbers, coordinatorFrom, coordinatorWell}
 use Rattle.record_numbers.proofs.Records.{length-recordsFrom, length-recordsNumbers}
 
 -- ---- Settings, messages, a site's record
@@ -56,17 +57,17 @@ site-back site rest = refl
 
 -- The record whose numbers begin at a place.
 site-at-same : (numbers : List ℕ) (n : ℕ)
-    → n + 4 ≤ length numbers
-    → siteNumbers (siteAt numbers n) ≡ take 4 (drop n numbers)
+    → n + siteWidth ≤ length numbers
+    → siteNumbers (siteAt numbers n) ≡ take siteWidth (drop n numbers)
 site-at-same numbers n long =
     let one : n + 1 ≡ suc n = omega arith in
     let two : n + 2 ≡ suc (suc n) = omega arith in
     let three : n + 3 ≡ suc (suc (suc n)) = omega arith in
-    rw (one, two, three) (read-take 0 4 n numbers long)
+    rw (one, two, three) (read-take 0 siteWidth n numbers long)
 
 pub site-same : (numbers : List ℕ)
-    → 4 ≤ length numbers
-    → siteNumbers (siteFrom numbers) ≡ take 4 numbers
+    → siteWidth ≤ length numbers
+    → siteNumbers (siteFrom numbers) ≡ take siteWidth numbers
 site-same numbers long = site-at-same numbers 0 (omega arith)
 
 -- ---- The coordinator
@@ -140,7 +141,7 @@ coordinator-same numbers well =
 -- The record at a place, read from the first n.
 getD-recordsFrom : (n : ℕ) (numbers : List ℕ) (i : ℕ)
     → i < n
-    → getD (recordsFrom n numbers) i zeroSite ≡ siteAt numbers (4 * i)
+    → getD (recordsFrom n numbers) i noRecord ≡ siteAt numbers (siteWidth * i)
 getD-recordsFrom zero numbers i inside = absurd (omega arith)
 getD-recordsFrom (suc n) numbers i inside = by-place (ℕ-discrete i n)
     (λ before. getD-recordsFrom n numbers i before)
@@ -149,38 +150,39 @@ getD-recordsFrom (suc n) numbers i inside = by-place (ℕ-discrete i n)
     width = length-recordsFrom n numbers
 
     by-place : Dec (i ≡ n)
-        → (i < n → getD (recordsFrom n numbers) i zeroSite ≡ siteAt numbers (4 * i))
-        → getD (recordsFrom (suc n) numbers) i zeroSite ≡ siteAt numbers (4 * i)
+        → (i < n → getD (recordsFrom n numbers) i noRecord ≡ siteAt numbers (siteWidth * i))
+        → getD (recordsFrom (suc n) numbers) i noRecord ≡ siteAt numbers (siteWidth * i)
     by-place (yes last) earlier =
-        ap (λ (j : ℕ). getD (recordsFrom (suc n) numbers) j zeroSite) (last ∙ sym width)
-        ∙ getD-snoc-new zeroSite (recordsFrom n numbers) (siteAt numbers (4 * n))
-        ∙ ap (λ (j : ℕ). siteAt numbers (4 * j)) (sym last)
+        ap (λ (j : ℕ). getD (recordsFrom (suc n) numbers) j noRecord) (last ∙ sym width)
+        ∙ getD-snoc-new noRecord (recordsFrom n numbers) (siteAt numbers (siteWidth * n))
+        ∙ ap (λ (j : ℕ). siteAt numbers (siteWidth * j)) (sym last)
     by-place (no other) earlier =
-        getD-snoc-old zeroSite (recordsFrom n numbers) (siteAt numbers (4 * n)) i
+        getD-snoc-old noRecord (recordsFrom n numbers) (siteAt numbers (siteWidth * n)) i
         (omega (arith, width, other))
         ∙ earlier (omega arith)
 
 -- The numbers of the first n of k records.
 records-same : (n k : ℕ) (numbers : List ℕ)
     → n ≤ k
-    → 4 * n ≤ length numbers
-    → recordsNumbers n (recordsFrom k numbers) ≡ take (4 * n) numbers
+    → siteWidth * n ≤ length numbers
+    → recordsNumbers n (recordsFrom k numbers) ≡ take (siteWidth * n) numbers
 records-same zero k numbers within long = refl
 records-same (suc n) k numbers within long =
-    let next : 4 * n + 4 ≡ 4 * suc n = omega arith in
+    let next : siteWidth * n + siteWidth ≡ siteWidth * suc n = omega arith in
     (λ i. records-same n k numbers (omega arith) (omega arith) i
     ++ siteNumbers (getD-recordsFrom k numbers n (omega arith) i))
-    ∙ ap (λ (l : List ℕ). take (4 * n) numbers ++ l) (site-at-same numbers (4 * n) (omega arith))
-    ∙ sym (take-add (4 * n) 4 numbers)
+    ∙ ap (λ (l : List ℕ). take (siteWidth * n) numbers ++ l)
+    (site-at-same numbers (siteWidth * n) (omega arith))
+    ∙ sym (take-add (siteWidth * n) siteWidth numbers)
     ∙ ap (λ (j : ℕ). take j numbers) next
 
 pub sites-same : (numbers : List ℕ)
-    → 129 ≤ length numbers
-    → sitesNumbers (sitesFrom numbers) ≡ take 129 numbers
+    → sitesWidth ≤ length numbers
+    → sitesNumbers (sitesFrom numbers) ≡ take sitesWidth numbers
 sites-same numbers long =
-    ap (λ (l : List ℕ). l ++ (getD numbers 128 0 ∷ []))
+    ap (λ (l : List ℕ). l ++ (getD numbers countPlace 0 ∷ []))
     (records-same 32 32 numbers (omega arith) (omega arith))
-    ∙ sym (take-suc numbers 128 0 (omega arith))
+    ∙ sym (take-suc numbers countPlace 0 (omega arith))
 
 -- A record that stands right behind so many numbers.
 site-behind : (front back : List ℕ) (n : ℕ)
@@ -196,30 +198,32 @@ site-behind front back n width =
 
 -- The numbers of one record, and others behind them.
 abbrev recordAnd : List SiteRecord → ℕ → List ℕ → List ℕ
-recordAnd records n rest = siteNumbers (getD records n zeroSite) ++ rest
+recordAnd records n rest = siteNumbers (getD records n noRecord) ++ rest
 
 -- The record at a place among the numbers of the first n.
 site-written : (n : ℕ) (records : List SiteRecord) (rest : List ℕ) (i : ℕ)
     → i < n
-    → siteAt (recordsNumbers n records ++ rest) (4 * i) ≡ getD records i zeroSite
+    → siteAt (recordsNumbers n records ++ rest) (siteWidth * i) ≡ getD records i noRecord
 site-written zero records rest i inside = absurd (omega arith)
 site-written (suc n) records rest i inside =
-    ap (λ (l : List ℕ). siteAt l (4 * i))
-    (append-assoc (recordsNumbers n records) (siteNumbers (getD records n zeroSite)) rest)
+    ap (λ (l : List ℕ). siteAt l (siteWidth * i))
+    (append-assoc (recordsNumbers n records) (siteNumbers (getD records n noRecord)) rest)
     ∙ by-place (ℕ-discrete i n)
     (λ before. site-written n records (recordAnd records n rest) i before)
   where
     by-place : Dec (i ≡ n)
         → (i < n
-        → siteAt (recordsNumbers n records ++ recordAnd records n rest) (4 * i)
-        ≡ getD records i zeroSite)
-        → siteAt (recordsNumbers n records ++ recordAnd records n rest) (4 * i)
-        ≡ getD records i zeroSite
+        → siteAt (recordsNumbers n records ++ recordAnd records n rest) (siteWidth * i)
+        ≡ getD records i noRecord)
+        → siteAt (recordsNumbers n records ++ recordAnd records n rest) (siteWidth * i)
+        ≡ getD records i noRecord
     by-place (yes last) earlier =
-        ap (λ (j : ℕ). siteAt (recordsNumbers n records ++ recordAnd records n rest) (4 * j)) last
-        ∙ site-behind (recordsNumbers n records) (recordAnd records n rest) (4 * n)
+        ap
+        (λ (j : ℕ). siteAt (recordsNumbers n records ++ recordAnd records n rest) (siteWidth * j))
+        last
+        ∙ site-behind (recordsNumbers n records) (recordAnd records n rest) (siteWidth * n)
         (length-recordsNumbers n records)
-        ∙ ap (λ (j : ℕ). getD records j zeroSite) (sym last)
+        ∙ ap (λ (j : ℕ). getD records j noRecord) (sym last)
     by-place (no other) earlier = earlier (omega arith)
 
 -- So many records and what stands behind them, read again.
@@ -229,7 +233,7 @@ records-back : (n : ℕ) (records : List SiteRecord) (rest : List ℕ)
 records-back n records rest whole =
     let numbers = recordsNumbers n records ++ rest in
     let width = length-recordsFrom n numbers in
-    ext-getD zeroSite (recordsFrom n numbers) records (width ∙ sym whole)
+    ext-getD noRecord (recordsFrom n numbers) records (width ∙ sym whole)
     (λ i inside.
     let below : i < n = omega (arith, width) in
     getD-recordsFrom n numbers i below ∙ site-written n records rest i below)
@@ -243,6 +247,7 @@ sites-back sites rest whole =
     append-assoc front (sites .messages ∷ []) rest in
     let records = ap (recordsFrom 32) numbers-are
     ∙ records-back 32 (sites .records) (sites .messages ∷ rest) whole in
-    let messages = ap (λ (l : List ℕ). getD l 128 0) numbers-are
-    ∙ getD-at front (sites .messages) rest 0 128 (length-recordsNumbers 32 (sites .records)) in
+    let messages = ap (λ (l : List ℕ). getD l countPlace 0) numbers-are
+    ∙ getD-at front (sites .messages) rest 0 countPlace
+    (length-recordsNumbers 32 (sites .records)) in
     λ i. record { records = records i; messages = messages i }

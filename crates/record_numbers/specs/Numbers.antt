@@ -25,6 +25,7 @@ use Rattle.model.specs.declared.CoordinatorRecord.{CoordinatorRecord}
 use Rattle.record_numbers.specs.declared.coordinator_numbers.PhaseNumbers.{PhaseNumbers}
 use Rattle.model.specs.Choice.{if_then_else_, isZero}
 use Rattle.model.specs.Limits.{mostSites}
+use Rattle.model.specs.Held.{noRecord}
 use Rattle.model.specs.Messages.{message}
 use Rattle.model.specs.Settings.{settingsWith}
 
@@ -56,6 +57,16 @@ messageFrom numbers =
 
 -- ---- Sites
 
+-- A record's numbers, the place of the count of messages behind all records, and all of them.
+abbrev pub siteWidth : ℕ
+siteWidth = 4
+
+abbrev pub countPlace : ℕ
+countPlace = siteWidth * mostSites
+
+abbrev pub sitesWidth : ℕ
+sitesWidth = countPlace + 1
+
 -- Arrivals, pending, threshold, used: the record whose numbers begin at a place.
 abbrev pub siteAt : List ℕ → ℕ → SiteRecord
 siteAt numbers at = record {
@@ -75,23 +86,19 @@ siteNumbers site = site .arrivals ∷ (site .pending ∷ (site .threshold ∷ (s
 -- The first n records of the numbers, four numbers each.
 abbrev pub recordsFrom : ℕ → List ℕ → List SiteRecord
 recordsFrom zero numbers = []
-recordsFrom (suc n) numbers = recordsFrom n numbers ++ (siteAt numbers (4 * n) ∷ [])
+recordsFrom (suc n) numbers = recordsFrom n numbers ++ (siteAt numbers (siteWidth * n) ∷ [])
 
 -- All 32 records, then the count of messages.
 abbrev pub sitesFrom : List ℕ → Sites
 sitesFrom numbers = record {
   records = recordsFrom mostSites numbers;
-  messages = getD numbers 128 0;
+  messages = getD numbers countPlace 0;
 }
-
--- The record that stands for one past the end: all numbers 0.
-abbrev pub zeroSite : SiteRecord
-zeroSite = record { arrivals = 0; pending = 0; threshold = 0; used = 0 }
 
 -- The first n records, four numbers each.
 abbrev pub recordsNumbers : ℕ → List SiteRecord → List ℕ
 recordsNumbers zero records = []
-recordsNumbers (suc n) records = recordsNumbers n records ++ siteNumbers (getD records n zeroSite)
+recordsNumbers (suc n) records = recordsNumbers n records ++ siteNumbers (getD records n noRecord)
 
 -- Those of all 32, then the count of messages.
 abbrev pub sitesNumbers : Sites → List ℕ

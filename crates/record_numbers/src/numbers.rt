@@ -5,7 +5,7 @@ ghost use mathlib.Core.Path.{_≡_};
 ghost use Prim.Native.Nat.{_≤_};
 ghost use lib.ListN.{length};
 ghost use Rattle.model.specs.SiteMemory.{overwrite};
-ghost use Rattle.record_numbers.specs.Numbers.{settingsFrom, siteFrom, siteNumbers, sitesFrom, sitesNumbers};
+ghost use Rattle.record_numbers.specs.Numbers.{siteWidth, sitesWidth, settingsFrom, siteFrom, siteNumbers, sitesFrom, sitesNumbers};
 use model::SITE_RECORDS;
 use model::Settings;
 use model::SiteRecord;
@@ -38,7 +38,7 @@ pub fn settings_from(numbers: &[u32]) -> Settings
 
 // The site's record of four numbers. The caller tests the lengths.
 pub fn site_from(numbers: &[u64]) -> SiteRecord
-    requires { ⌜ 4 ≤ length (now numbers) ⌝ }
+    requires { ⌜ siteWidth ≤ length (now numbers) ⌝ }
     ensures { λ r. ⌜ r ≡ siteFrom (before numbers) ⌝ }
 {
     SiteRecord {
@@ -51,7 +51,7 @@ pub fn site_from(numbers: &[u64]) -> SiteRecord
 
 // The four numbers of a site's record. The caller tests the lengths.
 pub fn write_site(numbers: &mut [u64], site: SiteRecord)
-    requires { ⌜ 4 ≤ length (now numbers) ⌝ }
+    requires { ⌜ siteWidth ≤ length (now numbers) ⌝ }
     ensures { λ r. ⌜ after numbers
         ≡ overwrite (siteNumbers site) (before numbers) ⌝ }
 {
@@ -63,7 +63,7 @@ pub fn write_site(numbers: &mut [u64], site: SiteRecord)
 
 // All records and the count of messages. The caller tests the lengths.
 pub fn sites_from(numbers: &[u64]) -> Sites
-    requires { ⌜ 129 ≤ length (now numbers) ⌝ }
+    requires { ⌜ sitesWidth ≤ length (now numbers) ⌝ }
     ensures { λ r. ⌜ r ≡ sitesFrom (before numbers) ⌝ }
 {
     let zero = SiteRecord {
@@ -75,7 +75,7 @@ pub fn sites_from(numbers: &[u64]) -> Sites
     let mut records = [zero; SITE_RECORDS];
     let mut i = 0;
     while i < SITE_RECORDS {
-        let at = 4 * i;
+        let at = SITE_NUMBERS * i;
         records[i] = SiteRecord {
             arrivals: numbers[at],
             pending: numbers[at + 1],
@@ -92,14 +92,14 @@ pub fn sites_from(numbers: &[u64]) -> Sites
 
 // Their numbers. The caller tests the lengths.
 pub fn write_sites(numbers: &mut [u64], sites: Sites)
-    requires { ⌜ 129 ≤ length (now numbers) ⌝ }
+    requires { ⌜ sitesWidth ≤ length (now numbers) ⌝ }
     ensures { λ r. ⌜ after numbers
         ≡ overwrite (sitesNumbers sites) (before numbers) ⌝ }
 {
     let mut i = 0;
     while i < SITE_RECORDS {
         let site = sites.records[i];
-        let at = 4 * i;
+        let at = SITE_NUMBERS * i;
         numbers[at] = site.arrivals;
         numbers[at + 1] = site.pending;
         numbers[at + 2] = site.threshold;

@@ -47,8 +47,9 @@ deliveryRefusal settings held arrival =
 
 -- ---- What the delivery comes to
 
--- Kinds 1 and 2 both go out, and kind 1 brings the item's estimate above 100,000,000,000: kind 2
--- meets a coordinator whose memory is inconsistent. No estimate that arose comes near.
+-- Kinds 1 and 2 both go out, and kind 1 brings the item's estimate above the coordinator's
+-- limit: kind 2 meets a coordinator whose memory is inconsistent. No estimate that arose comes
+-- near.
 abbrev pub meetsLimit : Settings → Network → Arrival → Bool
 meetsLimit settings network arrival =
     let site = siteAt network (arrival .site) in

@@ -29,7 +29,7 @@ use Rattle.coordinator_reading.specs.declared.Margin.{Margin}
 use Rattle.coordinator_reading.specs.declared.QuantileRead.{QuantileRead}
 use Rattle.coordinator_reading.specs.Contracts.{marginRefusal, QuantileSays}
 use Rattle.coordinator_list.specs.Contracts.{listRefusal, ListSays}
-use Rattle.record_numbers.specs.Numbers.{settingsFrom, siteFrom, siteNumbers, sitesNumbers, coordinatorFrom, coordinatorNumbers}
+use Rattle.record_numbers.specs.Numbers.{settingsFrom, siteFrom, siteNumbers, sitesNumbers, coordinatorFrom, coordinatorNumbers, sitesWidth}
 use Rattle.testing_numbers.specs.Answers.{oneMessage, twoMessages, quantileNumbers}
 use Rattle.testing_numbers.specs.Openings.{Slice, Lent, lent, placesLent, siteLent, coordinatorLent, Writes, unfit, Kept, Exported}
 
@@ -51,7 +51,7 @@ pub record WritesBoth (next : List ℕ) (numbers : Lent) (sent : List ℕ) (out 
 
 -- ---- Sites
 
--- Starting all sites: 129 numbers for the records and the count.
+-- Starting all sites: numbers for the records and the count.
 abbrev pub HandsSites : Settings → Lent → Lent → ℕ → Type 0
 HandsSites settings memory sites =
     Hands StartedSites
@@ -62,7 +62,7 @@ HandsSites settings memory sites =
 abbrev pub StartSitesExported : Slice → Slice → Slice → ℕ → Type 0
 StartSitesExported settings memory sites answer =
     Exported
-    (placesLent (before settings) (length (before sites)) 129)
+    (placesLent (before settings) (length (before sites)) sitesWidth)
     (HandsSites (settingsFrom (before settings)) (lent memory) (lent sites) answer)
     (Kept (lent memory ∷ (lent sites ∷ [])) answer)
 

@@ -12,7 +12,7 @@ use Rattle.model.specs.declared.Arrival.{Arrival}
 use Rattle.model.specs.Held.{Held, heldBy}
 use Rattle.single_delivery.specs.declared.DeliveryAnswer.{DeliveryAnswer}
 use Rattle.single_delivery.specs.Delivery.{deliveryRefusal, DeliverySays}
-use Rattle.record_numbers.specs.Numbers.{greatestNarrow, greatestHeld, settingsFrom, sitesFrom, sitesNumbers, coordinatorFrom, coordinatorNumbers}
+use Rattle.record_numbers.specs.Numbers.{greatestNarrow, greatestHeld, settingsFrom, sitesFrom, sitesNumbers, coordinatorFrom, coordinatorNumbers, sitesWidth}
 use Rattle.testing_numbers.specs.Openings.{Slice, Lent, lent, networkLent, Writes, Kept, Exported}
 
 pub record DeliveryLends : Type 0 where
@@ -40,7 +40,7 @@ allLent lends =
 -- Numbers enough for settings, both records and the answer, each of a size that its record holds.
 pub record DeliveryAsks (settings sites coordinator out : List ℕ) : Type 0 where
   pub settings-long : 6 ≤ length settings
-  pub sites-long : 129 ≤ length sites
+  pub sites-long : sitesWidth ≤ length sites
   pub coordinator-long : 10 ≤ length coordinator
   pub coordinator-held : greatestHeld coordinator ≤ greatestNarrow
   pub out-long : 2 ≤ length out

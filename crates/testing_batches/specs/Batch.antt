@@ -19,7 +19,7 @@ use Rattle.model.specs.Held.{heldBy}
 use Rattle.tracker_steps.specs.declared.BatchAnswer.{BatchAnswer}
 use Rattle.tracker.specs.Batch.{BatchCall, BatchHeld, batchHeld, BatchSays}
 use Rattle.testing_batches.specs.declared.Opening.{Opening}
-use Rattle.record_numbers.specs.Numbers.{settingsFrom, sitesFrom, sitesNumbers, coordinatorFrom, coordinatorNumbers}
+use Rattle.record_numbers.specs.Numbers.{sitesWidth, settingsFrom, sitesFrom, sitesNumbers, coordinatorFrom, coordinatorNumbers}
 use Rattle.testing_numbers.specs.Answers.{zeroSettings, zeroSites, zeroCoordinator}
 use Rattle.testing_numbers.specs.Openings.{Slice, Lent, lent, networkLent, Writes, Kept, Exported}
 
@@ -71,7 +71,7 @@ pub record OpenLentSays (settings : List ℕ) (sites coordinator : Lent) (places
 
 -- Where what is lent fits, there is room for the numbers.
 pub record CloseLentAsks (fits : Bool) (sites coordinator out : List ℕ) : Type 0 where
-  pub sites-long : fits ≡ true → 129 ≤ length sites
+  pub sites-long : fits ≡ true → sitesWidth ≤ length sites
   pub coordinator-long : fits ≡ true → 10 ≤ length coordinator
   pub out-long : fits ≡ true → 2 ≤ length out
 

@@ -15,7 +15,7 @@ use lib.ListN.{length, getD}
 use lib.Dec.{leb}
 use borrow.Author.Tests.{leb-true}
 use Rattle.laws.proofs.Tests.{both-true}
-use Rattle.record_numbers.specs.Numbers.{coordinatorFits, greatestHeld, greatestNarrow}
+use Rattle.record_numbers.specs.Numbers.{siteWidth, sitesWidth, coordinatorFits, greatestHeld, greatestNarrow}
 use Rattle.testing_numbers.specs.declared.openings.PlacesOpened.{PlacesOpened}
 use Rattle.testing_numbers.specs.declared.openings.SiteOpened.{SiteOpened}
 use Rattle.testing_numbers.specs.declared.openings.CoordinatorOpened.{CoordinatorOpened}
@@ -37,13 +37,13 @@ places-are settings places least fits =
 
 pub record SiteLent (settings site : List ℕ) (places least : ℕ) : Type 0 where
   pub lends : PlacesLent settings places least
-  pub site-long : 4 ≤ length site
+  pub site-long : siteWidth ≤ length site
 
 pub site-is : (settings site : List ℕ) (places least : ℕ)
     → siteLent settings site places least ≡ true
     → SiteLent settings site places least
 site-is settings site places least fits =
-    let both = both-true (placesLent settings places least) (leb 4 (length site)) fits in
+    let both = both-true (placesLent settings places least) (leb siteWidth (length site)) fits in
     record {
       lends = places-are settings places least (both .first-true);
       site-long = leb-true _ _ (both .second-true);
@@ -70,14 +70,15 @@ coordinator-is settings numbers places least fits =
 
 pub record NetworkLent (settings sites numbers : List ℕ) (places least : ℕ) : Type 0 where
   pub lends : CoordinatorLent settings numbers places least
-  pub sites-long : 129 ≤ length sites
+  pub sites-long : sitesWidth ≤ length sites
 
 pub network-is : (settings sites numbers : List ℕ) (places least : ℕ)
     → networkLent settings sites numbers places least ≡ true
     → NetworkLent settings sites numbers places least
 network-is settings sites numbers places least fits =
     let both =
-    both-true (coordinatorLent settings numbers places least) (leb 129 (length sites)) fits in
+    both-true (coordinatorLent settings numbers places least) (leb sitesWidth (length sites))
+    fits in
     record {
       lends = coordinator-is settings numbers places least (both .first-true);
       sites-long = leb-true _ _ (both .second-true);
@@ -139,7 +140,7 @@ places-enough opens fit = places-room opens fit .places-enough
 pub site-long : {settings site : List ℕ} {places least : ℕ} {opened : SiteOpened}
     → OpenSiteSays settings site places least opened
     → opened .fits ≡ true
-    → 4 ≤ length site
+    → siteWidth ≤ length site
 site-long opens fit = site-room opens fit .site-long
 
 pub site-enough : {settings site : List ℕ} {places least : ℕ} {opened : SiteOpened}

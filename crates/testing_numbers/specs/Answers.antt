@@ -15,7 +15,8 @@ use Rattle.model.specs.declared.Quantile.{Quantile}
 use Rattle.model.specs.declared.Quantile.the-variants.{Nothing, Value}
 use Rattle.model.specs.Limits.{mostSites}
 use Rattle.model.specs.Settings.{settingsWith}
-use Rattle.record_numbers.specs.Numbers.{messageNumbers, zeroSite}
+use Rattle.model.specs.Held.{noRecord}
+use Rattle.record_numbers.specs.Numbers.{messageNumbers}
 use Rattle.testing_numbers.specs.declared.answers.FoundNumbers.{FoundNumbers}
 
 -- ---- Messages
@@ -49,7 +50,7 @@ abbrev pub zeroSettings : Settings
 zeroSettings = settingsWith 0 0 0 0 0 0
 
 abbrev pub zeroSites : Sites
-zeroSites = record { records = replicate mostSites zeroSite; messages = 0 }
+zeroSites = record { records = replicate mostSites noRecord; messages = 0 }
 
 -- All numbers 0.
 abbrev pub zeroCoordinator : CoordinatorRecord

@@ -18,7 +18,8 @@ use Rattle.model.specs.SiteMemory.{overwrite}
 use Rattle.testing_numbers.specs.declared.openings.PlacesOpened.{PlacesOpened}
 use Rattle.testing_numbers.specs.declared.openings.SiteOpened.{SiteOpened}
 use Rattle.testing_numbers.specs.declared.openings.CoordinatorOpened.{CoordinatorOpened}
-use Rattle.record_numbers.specs.Numbers.{settingsFrom, siteFrom, zeroSite, coordinatorFits, coordinatorFrom}
+use Rattle.model.specs.Held.{noRecord}
+use Rattle.record_numbers.specs.Numbers.{siteWidth, sitesWidth, settingsFrom, siteFrom, coordinatorFits, coordinatorFrom}
 use Rattle.testing_numbers.specs.Answers.{zeroSettings, zeroCoordinator}
 
 -- ---- Lent numbers
@@ -50,7 +51,8 @@ placesLent settings places least = leb 6 (length settings) && leb least places
 
 -- The same with the four numbers of a site's record.
 abbrev pub siteLent : List ℕ → List ℕ → ℕ → ℕ → Bool
-siteLent settings site places least = placesLent settings places least && leb 4 (length site)
+siteLent settings site places least =
+    placesLent settings places least && leb siteWidth (length site)
 
 -- The same with numbers that are a coordinator's record.
 abbrev pub coordinatorLent : List ℕ → List ℕ → ℕ → ℕ → Bool
@@ -60,7 +62,7 @@ coordinatorLent settings numbers places least =
 -- The same with 129 numbers for all sites' records.
 abbrev pub networkLent : List ℕ → List ℕ → List ℕ → ℕ → ℕ → Bool
 networkLent settings sites numbers places least =
-    coordinatorLent settings numbers places least && leb 129 (length sites)
+    coordinatorLent settings numbers places least && leb sitesWidth (length sites)
 
 -- ---- The records
 
@@ -80,7 +82,7 @@ siteMade settings site = record {
 }
 
 abbrev pub noSite : SiteOpened
-noSite = record { fits = false; settings = zeroSettings; site = zeroSite }
+noSite = record { fits = false; settings = zeroSettings; site = noRecord }
 
 -- The settings and the coordinator's record.
 abbrev pub coordinatorMade : List ℕ → List ℕ → CoordinatorOpened

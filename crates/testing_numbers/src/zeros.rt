@@ -1,7 +1,7 @@
 // Settings and records of zeros, where what is lent does not fit.
 ghost use mathlib.Core.Path.{_≡_};
 ghost use Rattle.testing_numbers.specs.Answers.{zeroSettings, zeroSites, zeroCoordinator};
-ghost use Rattle.record_numbers.specs.Numbers.{zeroSite};
+ghost use Rattle.model.specs.Held.{noRecord};
 use model::CoordinatorRecord;
 use model::Phase;
 use model::SITE_RECORDS;
@@ -25,7 +25,7 @@ pub fn zero_settings() -> Settings
 
 // A site's record of zeros.
 pub fn zero_site() -> SiteRecord
-    ensures { λ r. ⌜ r ≡ zeroSite ⌝ }
+    ensures { λ r. ⌜ r ≡ noRecord ⌝ }
 {
     SiteRecord {
         arrivals: 0,

@@ -5,6 +5,7 @@ use mathlib.Core.Path.{refl}
 use borrow.Author.Needs.{needs}
 use lib.ListN.{getD}
 use Rattle.laws.proofs.Fronts.{growing-begins}
+use Rattle.record_numbers.specs.Numbers.{countPlace}
 use Rattle.record_numbers.proofs.Records.{Reading, reading-on, reading-end}
 use Rattle.record_numbers.proofs.numbers.sites_from.Statement.{statement}
 use Rattle.record_numbers.proofs.numbers.sites_from.Tie as tie
@@ -32,7 +33,7 @@ returns c =
     let loop = at-loop .loop in
     let all =
     reading-end (start .args .numbers .now) (loop .records) (loop .i) (loop .inv) (search needs) in
-    λ j. record { records = all j; messages = getD (start .args .numbers .now) 128 0 }
+    λ j. record { records = all j; messages = getD (start .args .numbers .now) countPlace 0 }
 
 pub sites-from-spec : {M : Type 1} → statement M
 sites-from-spec =

@@ -25,7 +25,7 @@ loop-again c =
     let start = at-loop .before in
     let loop = at-loop .loop in
     recording-on (start .args .numbers .now) (start .args .t2 .records) (loop .numbers) (loop .i)
-    (start .pre) (loop .inv) (search needs) (four-stores (loop .numbers) (4 * loop .i) _ _ _ _)
+    (start .pre) (loop .inv) (search needs) (four-stores (loop .numbers) _ _ _ _ _)
 
 returns : tie.Need-returns Inv-loop μ-loop
 returns c =

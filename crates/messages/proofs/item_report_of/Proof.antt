@@ -1,0 +1,10 @@
+-- `messages::item_report_of` meets its contract: its four numbers are those of the table's row.
+use borrow.Author.Needs.{needs}
+use Rattle.messages.proofs.item_report_of.Statement.{statement}
+use Rattle.messages.proofs.item_report_of.Tie as tie
+
+returns : tie.Need-returns
+returns c = c .message-of .ensures
+
+pub item-report-of-spec : {M : Type 1} → statement M
+item-report-of-spec = tie.close (tie.spec (λ c κs. search needs) returns)

@@ -1,0 +1,10 @@
+-- `messages::poll_of` meets its contract: its four numbers are those of the table's row.
+use borrow.Author.Needs.{needs}
+use Rattle.messages.proofs.poll_of.Statement.{statement}
+use Rattle.messages.proofs.poll_of.Tie as tie
+
+returns : tie.Need-returns
+returns c = c .message-of .ensures
+
+pub poll-of-spec : {M : Type 1} → statement M
+poll-of-spec = tie.close (tie.spec (λ c κs. search needs) returns)

@@ -6,7 +6,7 @@ use reference::coordinator::{self, CoordinatorRecord};
 use reference::message::{Arrival, Message};
 use reference::network;
 use reference::settings::Settings;
-use reference::site::{self, Sites};
+use reference::site::{self, Sites, SITES_NUMBERS};
 
 /// The network of the separate implementation.
 #[derive(Clone)]
@@ -66,7 +66,7 @@ impl Reference {
 #[derive(Clone)]
 pub struct Proved {
     settings: [u32; 6],
-    pub sites: [u64; 129],
+    pub sites: [u64; SITES_NUMBERS],
     pub site_memory: Vec<u32>,
     pub coordinator: [u64; 10],
     pub coordinator_memory: Vec<u64>,
@@ -78,7 +78,7 @@ impl Proved {
     pub fn of(other: &Reference) -> Proved {
         let mut proved = Proved {
             settings: other.numbers,
-            sites: [0; 129],
+            sites: [0; SITES_NUMBERS],
             site_memory: other.site_memory.clone(),
             coordinator: other.coordinator.to_numbers(),
             coordinator_memory: other.coordinator_memory.clone(),
@@ -106,7 +106,7 @@ impl Proved {
 
     /// Makes this network the other one again, without another place in memory.
     pub fn restore(&mut self, other: &Reference) {
-        self.sites = numbers_of(&other.sites);
+        self.sites = other.sites.to_numbers();
         self.coordinator = other.coordinator.to_numbers();
         self.site_memory.copy_from_slice(&other.site_memory);
         self.coordinator_memory.copy_from_slice(&other.coordinator_memory);
@@ -114,22 +114,13 @@ impl Proved {
 
     /// Fails unless records, memory and the messages written last are the same.
     pub fn check(&self, other: &Reference, written: usize) {
-        assert_eq!(self.sites, numbers_of(&other.sites));
+        assert_eq!(self.sites, other.sites.to_numbers());
         assert_eq!(self.coordinator, other.coordinator.to_numbers());
         assert!(self.site_memory == other.site_memory);
         assert!(self.coordinator_memory == other.coordinator_memory);
         let messages = other.log[..written].iter().flat_map(|message| message.to_numbers());
         assert!(messages.eq(self.log[..4 * written].iter().copied()));
     }
-}
-
-fn numbers_of(sites: &Sites) -> [u64; 129] {
-    let mut numbers = [0; 129];
-    for (place, record) in numbers.chunks_exact_mut(4).zip(&sites.records) {
-        place.copy_from_slice(&record.to_numbers());
-    }
-    numbers[128] = sites.messages;
-    numbers
 }
 
 /// The same arrivals as the proved code takes them.

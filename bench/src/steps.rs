@@ -5,12 +5,15 @@ use std::hint::black_box;
 
 use reference::message::Arrival;
 use reference::settings::threshold_of;
+use reference::site::SITE_NUMBERS;
 
 use crate::networks::{lent, Proved, Reference};
 use crate::timing::{self, Table, Times};
 
 /// Arrivals so far, all of them known to the coordinator.
 const BASE: u64 = 900_000_000;
+/// The place of the counters in use among a site record's numbers.
+const USED: usize = 3;
 
 /// Which counter an arrival meets.
 #[derive(Clone, Copy, PartialEq)]
@@ -98,7 +101,8 @@ impl<Network, Batch> Turns<Network, Batch> {
 impl Turns<Proved, Vec<boundary::Arrival>> {
     fn run(&mut self) {
         let place = self.turn();
-        self.network.sites[..128].chunks_exact_mut(4).for_each(|record| record[3] = self.used);
+        let records = self.network.sites.chunks_exact_mut(SITE_NUMBERS);
+        records.for_each(|record| record[USED] = self.used);
         black_box(self.network.run(black_box(&self.batches[place])));
     }
 }

@@ -117,6 +117,7 @@ fn fresh_session(settings: Settings, at: usize) -> Session
         pending: 0,
         threshold: 1,
         used: 0,
+        dropped: 0,
     };
     let phase = Phase::Idle;
     Session {

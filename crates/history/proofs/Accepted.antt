@@ -7,7 +7,7 @@
 --   refused-by-rules          the number that each call then answers
 use mathlib.Core.Path.{_≡_, refl, sym, ap, _∙_, subst}
 use mathlib.Core.List.{List}
-use Prim.Native.Nat.{ℕ, _≤_}
+use Prim.Native.Nat.{ℕ, _≤_, _<_}
 use native.Mathlib.Omega.{arith}
 use lib.Dec.{leb, ltb}
 use lib.ListN.{length}
@@ -19,11 +19,11 @@ use Rattle.model.specs.Limits.{messageLimit}
 use Rattle.model.specs.Settings.{settingsRefusal}
 use Rattle.model.specs.Coordinator.{Coordinator, isAnnouncing, coordinatorRefusal, announcementRefusal}
 use Rattle.model.specs.CoordinatorMemory.{coordinatorWords, coordinatorIn, coordinatorMemoryRefusal}
-use Rattle.model.specs.Network.{Network}
+use Rattle.model.specs.Network.{Network, siteAt}
 use Rattle.model.specs.NetworkMemory.{sitesWords}
 use Rattle.model.specs.Reading.{heavyHitters}
 use Rattle.model.specs.Runs.{batchOf}
-use Rattle.model.specs.SoundNetwork.{Sound}
+use Rattle.model.specs.SoundNetwork.{DroppedWithin, Sound}
 use Rattle.model.proofs.Soundness.ConsistentCoordinator.{CoordinatorWithin}
 use Rattle.model.proofs.Soundness.ConsistentNetwork.{network-consistent-of}
 use Rattle.tracker.specs.Batch.{BatchHeld, BatchSays, logRoom}
@@ -34,6 +34,7 @@ use Rattle.history.proofs.Answers.{accepted-choice, or-accepted}
 use Rattle.history.proofs.SiteParts.{front-long}
 use Rattle.history.proofs.RunSound.{sound-run, messages-within}
 use Rattle.history.proofs.Underway.{SoundRest}
+use Rattle.history.proofs.Accounts.{few-dropped}
 use Rattle.history.proofs.SoundMemory as Parts
 use Rattle.history.proofs.NetworkFronts.{network-front}
 use Rattle.history.proofs.Invariant.{StateOk, Resting, SoundHeld, sound-of-standing, rest-of-standing}
@@ -94,12 +95,17 @@ module _ {settings : Settings} (passes : settingsRefusal settings ≡ noRefusal)
       let sound = subst (Sound settings) (sym same) (sound-rest-of at-rest .sound) in
       let within = subst (λ (network : Network). CoordinatorWithin (network .coordinator))
       (sym same) (held-sound .within) in
+      let few : (j : ℕ) → j < settings .sites
+      → DroppedWithin (siteAt (networkOf settings (memories siteMemory coordinatorMemory)) j) =
+      subst
+      (λ (network : Network). (j : ℕ) → j < settings .sites → DroppedWithin (siteAt network j))
+      (sym same) (few-dropped passes (ok .standing)) in
       rw (
         passes,
         le-ltb (length siteMemory) (sitesWords settings) sites-long,
         le-ltb (length coordinatorMemory) (coordinatorWords settings) coordinator-long,
         network-consistent-of settings (state .held .sites) (state .held .coordinator)
-            siteMemory coordinatorMemory sound within (few-counted (resting-of at-rest)),
+            siteMemory coordinatorMemory sound few within (few-counted (resting-of at-rest)),
       )
 
   -- All of both memories.
@@ -148,7 +154,8 @@ module _ {settings : Settings} (passes : settingsRefusal settings ≡ noRefusal)
   pub memory-accepted : MemoryAccepted settings state
   memory-accepted = record {
     of-site = λ which words known enough.
-        Parts.site-accepted passes (state .held) (ok .lengths) held-sound which words known enough;
+        Parts.site-accepted passes (state .held) (ok .lengths) held-sound which words known
+        (few-dropped passes (ok .standing) which known) enough;
     of-coordinator = λ words.
         coordinator-front words (λ (refusal : ℕ) (c : Coordinator). refusal);
     of-network = network-accepted-front;
@@ -192,10 +199,10 @@ module _ {settings : Settings} (passes : settingsRefusal settings ≡ noRefusal)
   refused-by-rules = record {
     arrival = λ which words arrival known enough.
         Parts.arrival-by-rules passes (state .held) (ok .lengths) held-sound which words known
-        enough arrival;
+        (few-dropped passes (ok .standing) which known) enough arrival;
     site-message = λ which words m known enough.
         Parts.site-message-by-rules passes (state .held) (ok .lengths) held-sound which words
-        known enough m;
+        known (few-dropped passes (ok .standing) which known) enough m;
     coordinator-message = λ words m.
         coordinator-front words
         (λ (refusal : ℕ) (c : Coordinator). refusal orElse coordinatorRefusal settings c m);

@@ -3,11 +3,11 @@
 --
 --   Lengths settings held        32 records, and memories that are long enough
 --   SitesSound settings held     each of the k sites that are held is sound
---   site-part                    a site's record with its part of the memory is that site
+--   site-is, site-part           a site's record with its part of the memory is that site
 --   site-memory-accepted         neither 4 nor 11 for it
 --   network-site-written         a site's record and part put back
 --   network-site-told            a site's record alone put back
-use mathlib.Core.Path.{_≡_, sym, ap, _∙_}
+use mathlib.Core.Path.{_≡_, sym, ap, _∙_, subst}
 use mathlib.Core.List.{List}
 use Prim.Native.Nat.{ℕ, _+_, _≤_, _<_}
 use native.Mathlib.Nat.{mul-le-mul-right}
@@ -24,7 +24,7 @@ use Rattle.model.specs.SiteMemory.{siteWords, siteIn, siteRecord, siteMemory, s
 use Rattle.model.specs.CoordinatorMemory.{coordinatorWords, coordinatorIn, coordinatorMemory}
 use Rattle.model.specs.Network.{siteAt, withSite}
 use Rattle.model.specs.NetworkMemory.{sitesWords, sitesIn}
-use Rattle.model.specs.SoundNetwork.{SoundSite}
+use Rattle.model.specs.SoundNetwork.{SoundSite, DroppedWithin}
 use Rattle.model.proofs.Thresholds.SettingsLaws.{settled}
 use Rattle.model.proofs.Soundness.ConsistentSites.{consistent-of-sound}
 use Rattle.site_memory.proofs.SiteMemoryLaws.{siteIn-siteMemory}
@@ -84,7 +84,8 @@ module _ {settings : Settings} (passes : settingsRefusal settings ≡ noRefusal)
   pub rest-long : words ≤ length rest
   rest-long = omega (arith, in-memory, length-drop (siteStart settings j) (held .siteMemory))
 
-  site-is : siteAt (networkOf settings held) j ≡ siteIn settings (recordAt held j) rest
+  -- The record with the memory from there on is the site.
+  pub site-is : siteAt (networkOf settings held) j ≡ siteIn settings (recordAt held j) rest
   site-is =
       getD-sitesIn noRecord (settings .sites) settings (held .sites .records)
       (held .siteMemory) j known (enough passes held lengths)
@@ -102,17 +103,19 @@ module _ {settings : Settings} (passes : settingsRefusal settings ≡ noRefusal)
   pub part-long : (n : ℕ) → words ≤ n → words ≤ length (sitePart settings held j n)
   part-long n enough = front-long words n rest enough rest-long
 
-  -- Neither 4 nor 11 for a site's own record and part.
-  pub site-memory-accepted : (n : ℕ) → words ≤ n
+  -- Neither 4 nor 11 for a site's own record and part, if it has forgotten no more than arrived.
+  pub site-memory-accepted : DroppedWithin (siteAt (networkOf settings held) j)
+      → (n : ℕ) → words ≤ n
       → siteMemoryRefusal settings (recordAt held j) (sitePart settings held j n) ≡ noRefusal
-  site-memory-accepted n enough =
+  site-memory-accepted few-dropped n enough =
       let part = sitePart settings held j n in
       let part-sound : SoundSite settings (siteIn settings (recordAt held j) part) =
       rw (site-part n enough) (sound j known) in
       rw (
         passes,
         le-ltb (length part) words (part-long n enough),
-        consistent-of-sound settings (recordAt held j) part part-sound,
+        consistent-of-sound settings (recordAt held j) part part-sound
+            (subst DroppedWithin (sym (site-part n enough)) few-dropped),
       )
 
   -- ---- Put back

@@ -9,7 +9,7 @@
 use mathlib.Core.Path.{_≡_, sym, ap, _∙_, subst}
 use mathlib.Core.Bool.{true, false}
 use mathlib.Core.List.{List, []}
-use Prim.Native.Nat.{ℕ, suc, _+_, _≤_}
+use Prim.Native.Nat.{ℕ, suc, _+_, _≤_, _<_}
 use native.Mathlib.Omega.{arith}
 use Rattle.model.specs.declared.Settings.{Settings}
 use Rattle.model.specs.declared.Arrival.{Arrival}
@@ -23,6 +23,7 @@ use Rattle.model.specs.SiteMemory.{siteWords}
 use Rattle.model.specs.Coordinator.{Coordinator, isAnnouncing, coordinatorRefusal, announcementRefusal}
 use Rattle.model.specs.CoordinatorMemory.{coordinatorWords}
 use Rattle.model.specs.Network.{Network, Delivered, siteAt, afterArrival}
+use Rattle.model.specs.SoundNetwork.{DroppedWithin}
 use Rattle.model.specs.DeliveryClaims.{messageRefusal}
 use Rattle.model.proofs.Thresholds.SettingsLaws.{site-known}
 use Rattle.model.proofs.Soundness.SoundTheorem.{sound-claims}
@@ -34,9 +35,10 @@ use Rattle.history.specs.Histories.{Delivers, Deliveries, no-step, deliv
 use Rattle.history.specs.First.{DeliveryGoesOn}
 use Rattle.history.proofs.RunSound.{sound-run}
 use Rattle.history.proofs.Decoded.{Lengths}
-use Rattle.history.proofs.Underway.{SoundParts, Underway, in-mid, parts-underway}
+use Rattle.history.proofs.Underway.{SoundParts, Underway, in-mid, parts-underway, dropped-underway}
 use Rattle.history.proofs.Invariant.{StateOk, rest-of-standing, head-of-standing, few-of-standing, firm-of-standing}
 use Rattle.history.proofs.SoundMemory.{coordinator-front, site-message-by-rules}
+use Rattle.history.proofs.Accounts.{few-dropped}
 use Rattle.history.proofs.Accepted.{held-sound}
 use Rattle.history.proofs.Refused.{refused-same}
 use Rattle.history.proofs.DeliveredState.{delivered-on, delivered-ok}
@@ -100,19 +102,21 @@ module _ {settings : Settings} (passes : settingsRefusal settings ≡ noRefusal)
       ∙ none
 
   pub site-accepts : (m : Message) (words : ℕ)
+      → (m .site < settings .sites → DroppedWithin (siteAt network (m .site)))
       → messageRefusal settings network m ≡ noRefusal
       → toCoordinator m ≡ false
       → siteWords settings ≤ words
       → SiteCalls.receiveRefusal settings (recordAt (state .held) (m .site)) (m .site) m
       (sitePart settings (state .held) (m .site) words)
       ≡ noRefusal
-  site-accepts m words head way enough =
+  site-accepts m words few-dropped head way enough =
       let by : messageRefusal settings network m
       ≡ siteMessageRefusal settings (siteAt network (m .site)) (m .site) m = rw way in
       let none : siteMessageRefusal settings (siteAt network (m .site)) (m .site) m ≡ noRefusal =
       sym by ∙ head in
       let known = site-known settings (m .site) _ none in
-      site-message-by-rules passes (state .held) lengths parts (m .site) words known enough m
+      site-message-by-rules passes (state .held) lengths parts (m .site) words known
+      (few-dropped known) enough m
       ∙ none
 
   pub announcement-accepted : (words : ℕ)
@@ -145,8 +149,10 @@ module _ {settings : Settings} (passes : settingsRefusal settings ≡ noRefusal)
     pub underway-goes-on : {n : ℕ} {state : State}
         → Underway settings origin arrival past n state
         → CoordinatorWithin (afterArrival settings origin arrival .network .coordinator)
+        → ((j : ℕ) → j < settings .sites
+        → DroppedWithin (siteAt (afterArrival settings origin arrival .network) j))
         → DeliveryGoesOn settings state
-    underway-goes-on {n} {state} mid within =
+    underway-goes-on {n} {state} mid within few-then =
         let here = in-mid passes mid in
         let parts = parts-underway passes mid within in
         record {
@@ -155,6 +161,7 @@ module _ {settings : Settings} (passes : settingsRefusal settings ≡ noRefusal)
               (here .head-accepted m later waits);
           site-accepts = λ m later words waits.
               site-accepts passes state (mid .lengths) parts m words
+              (λ known. dropped-underway passes mid (m .site) (few-then (m .site) known))
               (here .head-accepted m later waits);
           announcement-accepted = announcement-accepted passes state (mid .lengths) parts;
           rests-at-end = λ none silent.
@@ -200,7 +207,8 @@ module _ {settings : Settings} (passes : settingsRefusal settings ≡ noRefusal)
         coordinator-accepts = λ m later words waits.
             coordinator-accepts passes state (ok .lengths) parts m words (head m later waits);
         site-accepts = λ m later words waits.
-            site-accepts passes state (ok .lengths) parts m words (head m later waits);
+            site-accepts passes state (ok .lengths) parts m words
+            (few-dropped passes (ok .standing) (m .site)) (head m later waits);
         announcement-accepted = announcement-accepted passes state (ok .lengths) parts;
         rests-at-end = rests-at-end;
         few-steps = λ m after steps.

@@ -19,6 +19,7 @@ pub mod DeliveryLogs
 pub mod Underway
 pub mod SoundMemory
 pub mod Invariant
+pub mod Accounts
 pub mod EmptyBatch
 pub mod Refused
 pub mod Accepted
@@ -47,3 +48,4 @@ pub mod Theorem
 pub mod Example
 pub mod ExampleHistory
 pub mod FirmInstances
+pub mod DroppedHistory

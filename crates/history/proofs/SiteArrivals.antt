@@ -2,8 +2,8 @@
 -- arrivals accepted, in mid-delivery too, since no message changes that. So at any time an arrival
 -- is refused exactly where the rules refuse it.
 --
---   arrivals-same, refusal-same
-use mathlib.Core.Path.{_≡_, sym, ap, _∙_}
+--   refusal-same
+use mathlib.Core.Path.{_≡_, ap}
 use Prim.Native.Nat.{ℕ}
 use lib.Dec.{leb}
 use Rattle.model.specs.declared.Settings.{Settings}
@@ -12,32 +12,16 @@ use Rattle.model.specs.Refusals.{when, _orElse_, noRefusal, siteFull}
 use Rattle.model.specs.Limits.{siteLimit}
 use Rattle.model.specs.Settings.{settingsRefusal}
 use Rattle.model.specs.Site.{addressRefusal, arrivalRefusal}
-use Rattle.model.specs.Network.{Network, Delivered, siteAt, deliveryFuel}
-use Rattle.model.specs.Runs.{Run, runOf}
-use Rattle.model.specs.DeliveryClaims.{delivery}
-use Rattle.model.proofs.Soundness.NeverFewer.{arrivals-kept, steps-keep}
+use Rattle.model.specs.Network.{siteAt}
+use Rattle.model.specs.Runs.{runOf}
+use Rattle.model.proofs.Soundness.NeverFewer.{arrivals-kept}
 use Rattle.history.specs.State.{State, networkOf}
-use Rattle.history.proofs.Underway.{in-mid}
-use Rattle.history.proofs.Invariant.{Standing, resting, delivering, run-then}
+use Rattle.history.proofs.Invariant.{Standing}
+use Rattle.history.proofs.Accounts.{kept-same}
 
 module _ {settings : Settings} (passes : settingsRefusal settings ≡ noRefusal)
     {n : ℕ} {state : State}
   where
-    -- What the delivery comes to has the same, and that is the run.
-    pub arrivals-same : Standing settings n state
-        → (j : ℕ)
-        → siteAt (networkOf settings (state .held)) j .arrivals
-        ≡ siteAt (runOf settings (state .accepted) .network) j .arrivals
-    arrivals-same (resting _ rest) j =
-        ap (λ (network : Network). siteAt network j .arrivals) (rest .network-is)
-    arrivals-same (delivering mid) j =
-        let here = delivery (networkOf settings (state .held)) (state .waiting)
-        (mid .underway .log) in
-        sym (steps-keep arrivals-kept settings (deliveryFuel settings) here j)
-        ∙ ap (λ (d : Delivered). siteAt (d .network) j .arrivals)
-        (in-mid passes (mid .underway) .finishes)
-        ∙ ap (λ (run : Run). siteAt (run .network) j .arrivals) (sym (run-then passes mid))
-
     -- 5, 6 and 7 are of the settings alone, and 8 of that number.
     pub refusal-same : Standing settings n state
         → (j : ℕ) (arrival : Arrival)
@@ -48,4 +32,4 @@ module _ {settings : Settings} (passes : settingsRefusal settings ≡ noRefusal)
         addressRefusal settings arrival
         orElse when (leb siteLimit arrivals) siteFull
         orElse noRefusal)
-        (arrivals-same standing j)
+        (kept-same passes arrivals-kept standing j)

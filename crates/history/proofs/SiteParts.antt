@@ -81,4 +81,5 @@ siteIn-fresh settings rest =
       arrivals = 0;
       pending = 0;
       threshold = 1;
+      dropped = 0;
     }

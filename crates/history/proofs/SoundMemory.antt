@@ -1,5 +1,6 @@
--- Records and memory that hold sound parts are never refused, arisen or not: each call is refused
--- by what the rules say of its arrival or message alone. PROOF.md section 9, "Never 11".
+-- Records and memory that hold sound parts are never refused, arisen or not, but for a site that
+-- has forgotten more than arrived: each call is refused by what the rules say of its arrival or
+-- message alone. PROOF.md section 9, "Never 11".
 --
 --   coordinator-accepted, coordinator-front    the coordinator's own memory, and a front of it
 --   site-accepted                              a site's own record and part
@@ -18,6 +19,7 @@ use Rattle.model.specs.SiteMemory.{siteWords, siteIn, siteMemoryRefusal}
 use Rattle.model.specs.Coordinator.{Coordinator}
 use Rattle.model.specs.CoordinatorMemory.{coordinatorWords, coordinatorIn, coordinatorMemoryRefusal}
 use Rattle.model.specs.Network.{siteAt}
+use Rattle.model.specs.SoundNetwork.{DroppedWithin}
 use Rattle.model.proofs.Soundness.ConsistentCoordinator.{coordinator-consistent-of}
 use Rattle.site.specs.Calls as SiteCalls
 use Rattle.history.specs.State.{Held, networkOf, recordAt, sitePart, coordinatorPart}
@@ -60,13 +62,15 @@ module _ {settings : Settings} (passes : settingsRefusal settings ≡ noRefusal)
   -- ---- A site
 
   module _ (which words : ℕ) (known : which < settings .sites)
+      (few-dropped : DroppedWithin (siteAt (networkOf settings held) which))
       (enough : siteWords settings ≤ words) where
     -- A site's own record, with at least its own numbers.
     pub site-accepted : siteMemoryRefusal settings (recordAt held which)
         (sitePart settings held which words)
         ≡ noRefusal
     site-accepted =
-        site-memory-accepted passes held lengths (parts .sites-sound) which known words enough
+        site-memory-accepted passes held lengths (parts .sites-sound) which known few-dropped words
+        enough
 
     site-here : siteIn settings (recordAt held which) (sitePart settings held which words)
         ≡ siteAt (networkOf settings held) which

@@ -14,10 +14,13 @@ use Rattle.model.specs.declared.Arrival.{Arrival}
 use Rattle.model.specs.Refusals.{noRefusal}
 use Rattle.model.specs.Limits.{messagesPerArrival, allowanceFactor, firmMessages, firmMessagesPerDigit}
 use Rattle.model.specs.Settings.{settingsRefusal, digits, allowance}
-use Rattle.model.specs.Network.{Network}
+use Rattle.model.specs.Site.{Site}
+use Rattle.model.specs.Network.{Network, siteAt}
 use Rattle.model.specs.Runs.{Run, runOf}
 use Rattle.model.specs.Claims.{counted, FewMessages}
+use Rattle.model.specs.Departures.{departures, Accounted}
 use Rattle.model.proofs.Runs.Theorem.{demands-over-runs}
+use Rattle.model.proofs.Dropped.DroppedTheorem.{dropped-claims}
 use Rattle.history.specs.State.{State, networkWritten}
 use Rattle.history.specs.Histories.{Reachable, heldAtStart}
 use Rattle.history.specs.Reading.{FirmShare}
@@ -25,9 +28,12 @@ use Rattle.history.specs.First.{First}
 use Rattle.history.specs.Second.{Second}
 use Rattle.history.specs.Whole.{Whole}
 use Rattle.history.specs.Third.{Third}
+use Rattle.history.specs.Dropped.{Dropped}
 use Rattle.history.specs.Demands.{Demands}
 use Rattle.history.proofs.Invariant.{BeginsRun, run-of-standing}
-use Rattle.history.proofs.Accepted.{memory-accepted, refused-by-rules, resting-of, sound-rest-of}
+use Rattle.history.proofs.Decoded.{site-is}
+use Rattle.history.proofs.Accounts.{accounted-held}
+use Rattle.history.proofs.Accepted.{held-sound, memory-accepted, refused-by-rules, resting-of, sound-rest-of}
 use Rattle.history.proofs.FirmShares.{listed-firm}
 use Rattle.history.proofs.Readings.{reads-right}
 use Rattle.history.proofs.FewFollow.{few-follow}
@@ -164,6 +170,28 @@ module _ (settings : Settings) (state : State) (passes : settingsRefusal setting
         count-is-sum = there .ok .count-is-sum;
       }
 
+  -- Every draw is reported, unreported or forgotten.
+  dropped : Dropped settings state
+  dropped =
+      let held = accounted-held passes (there .ok .standing) in
+      let read-at = site-is passes (state .held) (there .ok .lengths)
+      (held-sound passes (there .ok) .sites-sound) in
+      record {
+        accounted = held;
+        record-says = λ j known.
+            sym (ap (λ (site : Site). site .dropped) (read-at j known)) ∙ held j known .dropped-are;
+        record-draws = λ j known.
+            sym (ap (λ (site : Site). site .arrivals) (read-at j known)) ∙ held j known .draws-are;
+        accounted-after-each = λ n j known.
+            subst
+            (λ (arrivals : List Arrival).
+            Accounted j arrivals (departures settings (take n (state .accepted)))
+            (runOf settings (take n (state .accepted)) .messages)
+            (siteAt (runOf settings (take n (state .accepted)) .network) j))
+            (fronts n)
+            (dropped-claims .run-accounted settings (take n (state .accepted)) passes j known);
+      }
+
 -- The three demands.
 pub demands : Demands
 demands = record {
@@ -171,6 +199,7 @@ demands = record {
   second = second;
   whole = whole;
   third = third;
+  dropped = dropped;
   given = λ settings state passes reachable. as-given passes state reachable;
   nothing-lost = λ settings before after step. nothing-lost step;
 }

@@ -8,6 +8,7 @@
 --                                before it
 --   in-mid                       what the model claims of it
 --   SoundParts, parts-underway   sites and coordinator are sound, numbers small
+--   kept-underway, dropped-underway   what no message changes of a site
 --   messages-underway            the messages so far are the first of those that it comes to
 use mathlib.Core.Path.{_≡_, sym, ap, _∙_}
 use mathlib.Core.List.{List, [], _++_}
@@ -18,11 +19,13 @@ use Rattle.model.specs.declared.Arrival.{Arrival}
 use Rattle.model.specs.declared.Message.{Message}
 use Rattle.model.specs.Refusals.{noRefusal}
 use Rattle.model.specs.Settings.{settingsRefusal}
+use Rattle.model.specs.Site.{Site}
 use Rattle.model.specs.Network.{Network, Delivered, siteAt, deliveryFuel, afterArrival}
 use Rattle.model.specs.Runs.{refusalIn}
-use Rattle.model.specs.SoundNetwork.{SoundSite, SoundCoordinator, Sound}
+use Rattle.model.specs.SoundNetwork.{SoundSite, DroppedWithin, SoundCoordinator, Sound}
 use Rattle.model.specs.DeliveryClaims.{Delivery, delivery, deliverySteps, deliveryOf}
 use Rattle.model.specs.SoundClaims.{Reached, InMidDelivery}
+use Rattle.model.proofs.Soundness.NeverFewer.{Kept, arrivals-kept, dropped-kept, steps-keep}
 use Rattle.model.proofs.Soundness.SoundTheorem.{sound-claims}
 use Rattle.model.proofs.Soundness.ConsistentCoordinator.{CoordinatorWithin}
 use Rattle.history.specs.State.{State, networkOf}
@@ -93,6 +96,22 @@ module _ {settings : Settings} (passes : settingsRefusal settings ≡ noRefusal)
         sum-within = in-mid .sum-within;
       };
     }
+
+    -- What no message changes of a site is what it comes to.
+    pub kept-underway : {A : Type 0} {of : Site → A}
+        → Kept of
+        → (j : ℕ)
+        → of (siteAt (networkOf settings (state .held)) j) ≡ of (siteAt (final .network) j)
+    kept-underway {of = of} kept j =
+        sym (steps-keep kept settings (deliveryFuel settings) here j)
+        ∙ ap (λ (d : Delivered). of (siteAt (d .network) j)) (in-mid .finishes)
+
+    -- So a site has forgotten no more than arrived, if that holds then.
+    pub dropped-underway : (j : ℕ)
+        → DroppedWithin (siteAt (final .network) j)
+        → DroppedWithin (siteAt (networkOf settings (state .held)) j)
+    dropped-underway j few =
+        omega (arith, few, kept-underway dropped-kept j, kept-underway arrivals-kept j)
 
     -- What it comes to adds to the log.
     pub grows : LogGrows here (deliverySteps (deliveryFuel settings) settings here)

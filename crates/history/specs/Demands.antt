@@ -8,6 +8,7 @@
 --             class are right after each arrival
 --   Whole     every number of records and lent memory, from what the start calls left
 --   Third     the bounds on messages
+--   Dropped   every draw of a deck is reported, unreported or forgotten (request N1)
 --   AsGiven   of all draws that were given, the rules accept exactly what the calls accepted;
 --             NothingLost: a call decides on what it is handed, or keeps it out
 -- In all of them n is `counted (state .accepted)`: the arrivals accepted so far.
@@ -21,6 +22,7 @@ pub use Rattle.history.specs.First.{DeliveryGoesOn, First}
 pub use Rattle.history.specs.Second.{Second}
 pub use Rattle.history.specs.Whole.{Whole}
 pub use Rattle.history.specs.Third.{Third}
+pub use Rattle.history.specs.Dropped.{Dropped}
 pub use Rattle.history.specs.Given.{givenIn, AsGiven, NothingLost}
 
 -- For all settings that pass their test and all states that a history reaches.
@@ -41,6 +43,10 @@ pub record Demands : Type 0 where
       → settingsRefusal settings ≡ noRefusal
       → Reachable settings state
       → Third settings state
+  pub dropped : (settings : Settings) (state : State)
+      → settingsRefusal settings ≡ noRefusal
+      → Reachable settings state
+      → Dropped settings state
   -- of the draws given in a history, refused ones too
   pub given : (settings : Settings) (state : State)
       → settingsRefusal settings ≡ noRefusal

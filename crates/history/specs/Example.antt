@@ -38,6 +38,7 @@ siteAfter draws = record {
   pending = 0;
   threshold = 1;
   used = countersUsed draws;
+  dropped = 0;
 }
 
 -- Its memory: the counter of item 7, five unused ones, 1024 value counts; and two numbers past the

@@ -73,7 +73,7 @@ afterSeven = record {
   held = record {
     sites = record {
       records =
-          record { arrivals = 7; pending = 1; threshold = 2; used = 2 }
+          record { arrivals = 7; pending = 1; threshold = 2; used = 2; dropped = 0 }
           ∷ replicate 31 (siteRecord freshSite);
       messages = 50;
     };

@@ -8,6 +8,8 @@ pub mod First
 pub mod Second
 pub mod Whole
 pub mod Third
+pub mod Dropped
 pub mod Demands
 pub mod Example
 pub mod FirmInstances
+pub mod DroppedHistory

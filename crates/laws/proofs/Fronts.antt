@@ -2,7 +2,7 @@
 --
 --   front-sets          stores from place 0 on are an overwritten front
 --   overwritten-sets    a piece stored right behind an overwritten front extends the front
---   four-stores         four stores in a row, as code counts their places
+--   storesFrom, row-stores   stores in a row, as code counts their places
 --   Growing, growing-begins, -on, -ends   a loop that extends the front turn by turn
 --   Filling, filling-on                   the same with one element at every place
 use Prim.Native.Nat.{ℕ, suc, _+_, _<_, _≤_}
@@ -40,14 +40,25 @@ module _ {A : Type 0} where
       ∙ written-append 0 front piece list (omega arith)
       ∙ front-written (front ++ piece) list
 
-  pub four-stores : (list : List A) (n : ℕ) (a b c d : A)
-      → set (set (set (set list n a) (n + 1) b) (n + 2) c) (n + 3) d
-      ≡ sets list n (a ∷ (b ∷ (c ∷ (d ∷ []))))
-  four-stores list n a b c d =
-      let one : n + 1 ≡ suc n = omega arith in
-      let two : n + 2 ≡ suc (suc n) = omega arith in
-      let three : n + 3 ≡ suc (suc (suc n)) = omega arith in
-      rw (one, two, three)
+  -- Stores at n + i, n + (i + 1) and so on.
+  abbrev pub storesFrom : List A → ℕ → ℕ → List A → List A
+  storesFrom list n i [] = list
+  storesFrom list n i (x ∷ xs) = storesFrom (set list (n + i) x) n (i + 1) xs
+
+  storesFrom-sets : (list : List A) (n i : ℕ) (xs : List A)
+      → storesFrom list n i xs ≡ sets list (n + i) xs
+  storesFrom-sets list n i [] = refl
+  storesFrom-sets list n i (x ∷ xs) =
+      let next : n + (i + 1) ≡ suc (n + i) = omega arith in
+      storesFrom-sets (set list (n + i) x) n (i + 1) xs
+      ∙ ap (λ (m : ℕ). sets (set list (n + i) x) m xs) next
+
+  -- A row of stores, the first at n itself.
+  pub row-stores : (list : List A) (n : ℕ) (x : A) (xs : List A)
+      → storesFrom (set list n x) n 1 xs ≡ sets list n (x ∷ xs)
+  row-stores list n x xs =
+      let next : n + 1 ≡ suc n = omega arith in
+      storesFrom-sets (set list n x) n 1 xs ∙ ap (λ (m : ℕ). sets (set list n x) m xs) next
 
 -- ---- A front that grows turn by turn
 

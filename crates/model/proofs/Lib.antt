@@ -8,6 +8,7 @@ pub mod Runs
 pub mod Soundness
 pub mod Stages
 pub mod Numbers
+pub mod Dropped
 pub mod Worklists
 pub mod Instances
 pub mod Edges

@@ -4,12 +4,16 @@
 --   leastPlace counters                  the place of the least count; 0 of no counter
 --   placementFor capacity counters item  which counter takes an arrival of the item
 --   countersAfter placement counters item  the counters then
---   lostBy placement counters            the unreported arrivals that go with a replaced counter
+--   leavingBy placement counters         which item leaves, and its unreported arrivals
+--   droppedBy placement counters         those alone: what goes with a replaced counter
+--   unreportedIn counters                the unreported arrivals of all counters
 use mathlib.Core.Bool.{Bool, true, false, _&&_, _||_}
 use mathlib.Core.List.{List, [], _∷_, _++_}
 use Prim.Native.Nat.{ℕ, suc, _+_, _-_}
 use lib.Dec.{eqb, ltb}
 use lib.ListN.{length, getD, set}
+use Rattle.model.specs.declared.Leaving.{Leaving}
+use Rattle.model.specs.declared.Leaving.the-variants.{Nobody, Left}
 use Rattle.model.specs.Choice.{if_then_else_}
 
 -- A counter: document 01's slot, "a code, a count, an overcount and a sent number".
@@ -28,6 +32,11 @@ counterAt counters place = getD counters place noCounter
 -- "Unsent is count - overcount - sent."
 abbrev pub unreported : Counter → ℕ
 unreported counter = counter .count - counter .overestimate - counter .reported
+
+-- "all unsent": of all counters of a site.
+abbrev pub unreportedIn : List Counter → ℕ
+unreportedIn [] = 0
+unreportedIn (counter ∷ counters) = unreported counter + unreportedIn counters
 
 -- "the lowest such slot, should memory hold it twice"
 abbrev pub find : ℕ → List Counter → ℕ
@@ -98,10 +107,22 @@ countersAfter unused counters item = counters ++ (firstOf item ∷ [])
 countersAfter (replaced place) counters item =
     set counters place (replacing (counterAt counters place) item)
 
-abbrev pub lostBy : Placement → List Counter → ℕ
-lostBy (own place) counters = 0
-lostBy unused counters = 0
-lostBy (replaced place) counters = unreported (counterAt counters place)
+-- Request N1: "which code left and how many unsent draws went", by what the counter held before the
+-- new item is written. An item with nothing unreported leaves too.
+abbrev pub leavingBy : Placement → List Counter → Leaving
+leavingBy (own place) counters = Nobody
+leavingBy unused counters = Nobody
+leavingBy (replaced place) counters =
+    let counter = counterAt counters place in
+    Left (counter .item) (unreported counter)
+
+-- "its unsent draws go with it": none, where nobody leaves.
+abbrev pub goneWith : Leaving → ℕ
+goneWith Nobody = 0
+goneWith (Left item gone) = gone
+
+abbrev pub droppedBy : Placement → List Counter → ℕ
+droppedBy placement counters = goneWith (leavingBy placement counters)
 
 -- A counter after its report: "sent grows by it".
 abbrev pub afterReport : ℕ → Counter → Counter

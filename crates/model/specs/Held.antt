@@ -26,7 +26,7 @@ use Rattle.model.specs.NetworkMemory.{siteRecords, sitesMemory, networkI
 -- ---- The records of the sites
 
 abbrev pub noRecord : SiteRecord
-noRecord = record { arrivals = 0; pending = 0; threshold = 0; used = 0 }
+noRecord = record { arrivals = 0; pending = 0; threshold = 0; used = 0; dropped = 0 }
 
 abbrev pub recordIn : Sites → ℕ → SiteRecord
 recordIn sites which = getD (sites .records) which noRecord

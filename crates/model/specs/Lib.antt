@@ -28,4 +28,6 @@ pub mod SoundNetwork
 pub mod DeliveryClaims
 pub mod SoundClaims
 pub mod NumberClaims
+pub mod Departures
 pub mod Edges
+pub mod DroppedInstances

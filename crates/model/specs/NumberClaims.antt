@@ -16,7 +16,7 @@ use Rattle.model.specs.declared.Arrival.{Arrival}
 use Rattle.model.specs.Refusals.{noRefusal}
 use Rattle.model.specs.Limits.{mostSites, mostCapacity, siteLimit, mostArrivals, coordinatorLimit}
 use Rattle.model.specs.Settings.{settingsRefusal}
-use Rattle.model.specs.Counters.{Counter, unreported}
+use Rattle.model.specs.Counters.{unreportedIn}
 use Rattle.model.specs.Site.{Site}
 use Rattle.model.specs.Network.{Network, afterArrival}
 use Rattle.model.specs.NetworkMemory.{allArrivals}
@@ -25,12 +25,7 @@ use Rattle.model.specs.SoundNetwork.{estimateOf, countOfValue, Sound}
 
 -- ---- The numbers
 
--- The unreported arrivals of the counters of one site.
-abbrev pub unreportedIn : List Counter → ℕ
-unreportedIn [] = 0
-unreportedIn (counter ∷ counters) = unreported counter + unreportedIn counters
-
--- And of all sites.
+-- The unreported arrivals of all sites.
 abbrev pub allUnreported : List Site → ℕ
 allUnreported [] = 0
 allUnreported (site ∷ sites) = unreportedIn (site .counters) + allUnreported sites

@@ -20,16 +20,19 @@ use Rattle.model.specs.Choice.{if_then_else_, isZero}
 use Rattle.model.specs.Refusals.{when, _orElse_, noRefusal, unknownSite, unknownItem, valueTooLarge, siteFull, messageNotDue, amountNotDue}
 use Rattle.model.specs.Limits.{topValue, valueCount, siteLimit}
 use Rattle.model.specs.Messages.{itemReport, countReport, pollAnswer, probeAnswer, isPoll, isProbe, isAnnouncement}
-use Rattle.model.specs.Counters.{Counter, counterAt, unreported, Placement, placementFor, placeOf, countersAfter, afterReport}
+use Rattle.model.specs.declared.Leaving.{Leaving}
+use Rattle.model.specs.Counters.{Counter, counterAt, unreported, Placement, placementFor, placeOf, countersAfter, leavingBy, goneWith, afterReport}
 
 -- A site: its counters in use from first to last, arrivals for each value (document 01's class
--- counts), and the single numbers draws, pending and threshold.
+-- counts), and the single numbers draws, pending and threshold; last, the arrivals that it has
+-- forgotten (request N1): "the deck keeps their sum, last in its record".
 pub record Site : Type 0 where
   pub counters : List Counter
   pub histogram : List ℕ
   pub arrivals : ℕ
   pub pending : ℕ
   pub threshold : ℕ
+  pub dropped : ℕ
 
 -- "Started fresh, every number is 0 (unused slots too), every threshold 1".
 abbrev pub freshSite : Site
@@ -39,6 +42,7 @@ freshSite = record {
   arrivals = 0;
   pending = 0;
   threshold = 1;
+  dropped = 0;
 }
 
 -- ---- An arrival
@@ -78,6 +82,10 @@ abbrev pub countersWith : Settings → Site → Arrival → List Counter
 countersWith settings site arrival =
     countersAfter (placementIn settings site arrival) (site .counters) (arrival .item)
 
+-- Who leaves for it, and with how many unreported arrivals (request N1).
+abbrev pub leavingFor : Settings → Site → Arrival → Leaving
+leavingFor settings site arrival = leavingBy (placementIn settings site arrival) (site .counters)
+
 -- "If unsent reaches the threshold, kind 1 goes out and sent grows by it."
 abbrev pub reportsItem : Settings → Site → Arrival → Bool
 reportsItem settings site arrival =
@@ -101,8 +109,8 @@ pub record SiteStep : Type 0 where
   pub site : Site
   pub messages : List Message
 
--- "A draw adds one to draws, pending and its class count", its item is counted, and then its
--- messages go out.
+-- "A draw adds one to draws, pending and its class count", its item is counted, what goes with an
+-- item that leaves is added up, and then its messages go out.
 abbrev pub observed : Settings → Site → Arrival → SiteStep
 observed settings site arrival =
     let place = placeFor settings site arrival in
@@ -117,6 +125,7 @@ observed settings site arrival =
         arrivals = site .arrivals + 1;
         pending = if countDue then 0 else site .pending + 1;
         threshold = threshold;
+        dropped = site .dropped + goneWith (leavingFor settings site arrival);
       };
       messages =
           (if itemDue then itemReport (arrival .site) (arrival .item) threshold ∷ [] else [])
@@ -165,6 +174,7 @@ withPending site pending = record {
   arrivals = site .arrivals;
   pending = pending;
   threshold = site .threshold;
+  dropped = site .dropped;
 }
 
 abbrev pub withThreshold : Site → ℕ → Site
@@ -174,6 +184,7 @@ withThreshold site threshold = record {
   arrivals = site .arrivals;
   pending = site .pending;
   threshold = threshold;
+  dropped = site .dropped;
 }
 
 -- Kind 3 is answered by the pending, "then set to 0"; kind 5 by the draws at or below the class;

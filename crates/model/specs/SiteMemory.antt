@@ -49,6 +49,7 @@ siteIn settings numbers memory = record {
   arrivals = numbers .arrivals;
   pending = numbers .pending;
   threshold = numbers .threshold;
+  dropped = numbers .dropped;
 }
 
 -- ---- Written to memory
@@ -59,6 +60,7 @@ siteRecord site = record {
   pending = site .pending;
   threshold = site .threshold;
   used = length (site .counters);
+  dropped = site .dropped;
 }
 
 abbrev pub counterNumbers : List Counter → List ℕ
@@ -98,7 +100,8 @@ countersConsistent settings site (counter ∷ counters) =
     counterConsistent settings site counter && countersConsistent settings site counters
 
 -- "slots in use above c; .. a deck above its limit; class counts not summing to draws; .. pending
--- not below the threshold; a deck's threshold 0 or above 1,000,000,000"
+-- not below the threshold; a deck's threshold 0 or above 1,000,000,000"; request N1's "A forgotten
+-- sum above the deck's draws is inconsistent memory."
 abbrev pub siteConsistent : Settings → SiteRecord → List ℕ → Bool
 siteConsistent settings numbers memory =
     let site = siteIn settings numbers memory in
@@ -108,6 +111,7 @@ siteConsistent settings numbers memory =
     && eqb (sum (site .histogram)) (site .arrivals)
     && ltb (site .pending) (site .threshold)
     && between 1 (site .threshold) siteLimit
+    && leb (site .dropped) (site .arrivals)
 
 -- What every call on a site tests first: 1, 2, 3; then 4, 11.
 abbrev pub siteMemoryRefusal : Settings → SiteRecord → List ℕ → ℕ

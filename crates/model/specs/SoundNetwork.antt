@@ -1,9 +1,11 @@
 -- A sound network: what document 01's list "Inconsistent" denies, as facts of the model's values.
--- It is the meaning of refusal 11 but for the limits on numbers and on messages, which only memory
--- that never arose can pass (a number may pass them within a call).
+-- It is the meaning of refusal 11 but for the limits on numbers and on messages, and for what a
+-- site has forgotten (`DroppedWithin`), which only memory that never arose can pass (a number may
+-- pass them within a call).
 --
 --   SoundCounter universe arrivals threshold counter   a counter in use
 --   SoundSite settings site                            a site by itself
+--   DroppedWithin site                                 it has forgotten no more than its arrivals
 --   SoundNumbers settings c                            the coordinator without its phase
 --   SoundPhase settings signals phase                  a phase with the signals that it goes with
 --   SoundCoordinator settings c                        the coordinator by itself
@@ -11,14 +13,14 @@
 --   estimateOf network item, countOfValue network value
 --   Sound settings network                             a network at rest: what the batch call asks
 use mathlib.Core.Path.{_≡_}
-use Prim.Native.Nat.{ℕ, _+_, _≤_, _<_}
+use Prim.Native.Nat.{ℕ, _+_, _*_, _≤_, _<_}
 use lib.ListN.{length, getD}
 use Rattle.model.specs.declared.Settings.{Settings}
 use Rattle.model.specs.declared.Phase.{Phase}
 use Rattle.model.specs.declared.Phase.the-variants.{Idle, Collecting, Probing, Announcing}
 use Rattle.model.specs.Limits.{topValue, valueCount, siteLimit}
 use Rattle.model.specs.Settings.{thresholdOf}
-use Rattle.model.specs.Counters.{Counter, counterAt, unreported}
+use Rattle.model.specs.Counters.{Counter, counterAt, unreported, unreportedIn}
 use Rattle.model.specs.Site.{Site}
 use Rattle.model.specs.SiteMemory.{sum}
 use Rattle.model.specs.Coordinator.{Coordinator}
@@ -48,6 +50,16 @@ pub record SoundSite (settings : Settings) (site : Site) : Type 0 where
   pub pending-below : site .pending < site .threshold
   pub threshold-positive : 1 ≤ site .threshold
   pub threshold-within : site .threshold ≤ siteLimit
+  -- what it has forgotten, with all that is unreported, is at most its arrivals and what its
+  -- counters can hold: a site that passes is within, and each arrival adds one to both sides
+  pub dropped-bounded : site .dropped + unreportedIn (site .counters)
+      ≤ site .arrivals + settings .capacity * siteLimit
+
+-- "A forgotten sum above the deck's draws is inconsistent memory." Memory that never arose may pass
+-- and be above it after one call: the counter that is replaced may hold more than arrived. So no
+-- step keeps it; of a history it follows from what is counted (crate history, Dropped.antt).
+abbrev pub DroppedWithin : Site → Type 0
+DroppedWithin site = site .dropped ≤ site .arrivals
 
 -- ---- The coordinator
 

@@ -151,12 +151,21 @@ pub struct Message {
     pub b: u64,
 }
 
-// A site's record: document 01's deck record of draws, pending, threshold and slots in use.
+// Who leaves when an arrival's item is counted, request N1's "which code left and how many unsent
+// draws went": nobody, or an item with its unreported arrivals, of which there may be none.
+pub enum Leaving {
+    Nobody,
+    Left(Word, Word),
+}
+
+// A site's record: document 01's deck record of draws, pending, threshold and slots in use; last,
+// request N1's sum of the unreported arrivals that went with items. Every number is 64 bits wide.
 pub struct SiteRecord {
     pub arrivals: u64,
     pub pending: u64,
     pub threshold: u64,
     pub used: u64,
+    pub dropped: u64,
 }
 
 // The records of up to 32 sites in one value, and the count of messages since the start.

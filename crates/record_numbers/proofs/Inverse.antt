@@ -63,7 +63,8 @@ site-at-same numbers n long =
     let one : n + 1 ≡ suc n = omega arith in
     let two : n + 2 ≡ suc (suc n) = omega arith in
     let three : n + 3 ≡ suc (suc (suc n)) = omega arith in
-    rw (one, two, three) (read-take 0 siteWidth n numbers long)
+    let four : n + 4 ≡ suc (suc (suc (suc n))) = omega arith in
+    rw (one, two, three, four) (read-take 0 siteWidth n numbers long)
 
 pub site-same : (numbers : List ℕ)
     → siteWidth ≤ length numbers
@@ -194,7 +195,13 @@ site-behind front back n width =
     ∙ getD-append-add front back j 0 in
     let first : getD (front ++ back) n 0 ≡ getD back 0 0 =
     ap (λ (m : ℕ). getD (front ++ back) m 0) (sym (add-zero n)) ∙ at 0 in
-    λ i. record { arrivals = first i; pending = at 1 i; threshold = at 2 i; used = at 3 i }
+    λ i. record {
+      arrivals = first i;
+      pending = at 1 i;
+      threshold = at 2 i;
+      used = at 3 i;
+      dropped = at 4 i;
+    }
 
 -- The numbers of one record, and others behind them.
 abbrev recordAnd : List SiteRecord → ℕ → List ℕ → List ℕ

@@ -3,7 +3,7 @@
 --
 --   settingsNumbers, settingsFrom        k, e, p, q, c, u
 --   messageNumbers, messageFrom          kind, deck, a, b
---   siteNumbers, siteFrom                draws, pending, threshold, slots in use
+--   siteNumbers, siteFrom                draws, pending, threshold, slots in use, forgotten draws
 --   sitesNumbers, sitesFrom              the records of 32 decks, then the count of messages
 --   phaseNumbers, phaseFrom              0 idle, 1 collecting, 2 probing or 3 announcing; then
 --                                        deck, low, high and sum, those not in use 0
@@ -59,7 +59,7 @@ messageFrom numbers =
 
 -- A record's numbers, the place of the count of messages behind all records, and all of them.
 abbrev pub siteWidth : ℕ
-siteWidth = 4
+siteWidth = 5
 
 abbrev pub countPlace : ℕ
 countPlace = siteWidth * mostSites
@@ -67,23 +67,25 @@ countPlace = siteWidth * mostSites
 abbrev pub sitesWidth : ℕ
 sitesWidth = countPlace + 1
 
--- Arrivals, pending, threshold, used: the record whose numbers begin at a place.
+-- Arrivals, pending, threshold, used, dropped: the record whose numbers begin at a place.
 abbrev pub siteAt : List ℕ → ℕ → SiteRecord
 siteAt numbers at = record {
   arrivals = getD numbers at 0;
   pending = getD numbers (at + 1) 0;
   threshold = getD numbers (at + 2) 0;
   used = getD numbers (at + 3) 0;
+  dropped = getD numbers (at + 4) 0;
 }
 
 abbrev pub siteFrom : List ℕ → SiteRecord
 siteFrom numbers = siteAt numbers 0
 
--- The same four, in the same order.
+-- The same five, in the same order.
 abbrev pub siteNumbers : SiteRecord → List ℕ
-siteNumbers site = site .arrivals ∷ (site .pending ∷ (site .threshold ∷ (site .used ∷ [])))
+siteNumbers site =
+    site .arrivals ∷ (site .pending ∷ (site .threshold ∷ (site .used ∷ (site .dropped ∷ []))))
 
--- The first n records of the numbers, four numbers each.
+-- The first n records of the numbers.
 abbrev pub recordsFrom : ℕ → List ℕ → List SiteRecord
 recordsFrom zero numbers = []
 recordsFrom (suc n) numbers = recordsFrom n numbers ++ (siteAt numbers (siteWidth * n) ∷ [])
@@ -95,7 +97,7 @@ sitesFrom numbers = record {
   messages = getD numbers countPlace 0;
 }
 
--- The first n records, four numbers each.
+-- The numbers of the first n records.
 abbrev pub recordsNumbers : ℕ → List SiteRecord → List ℕ
 recordsNumbers zero records = []
 recordsNumbers (suc n) records = recordsNumbers n records ++ siteNumbers (getD records n noRecord)

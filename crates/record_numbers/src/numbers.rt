@@ -14,7 +14,7 @@ use model::Sites;
 // How many numbers each record takes.
 pub const SETTINGS_NUMBERS: usize = 6;
 
-pub const SITE_NUMBERS: usize = 4;
+pub const SITE_NUMBERS: usize = 5;
 
 pub const SITES_NUMBERS: usize = COUNT_PLACE + 1;
 
@@ -36,7 +36,7 @@ pub fn settings_from(numbers: &[u32]) -> Settings
     }
 }
 
-// The site's record of four numbers. The caller tests the lengths.
+// The site's record of five numbers. The caller tests the lengths.
 pub fn site_from(numbers: &[u64]) -> SiteRecord
     requires { ⌜ siteWidth ≤ length (now numbers) ⌝ }
     ensures { λ r. ⌜ r ≡ siteFrom (before numbers) ⌝ }
@@ -46,10 +46,11 @@ pub fn site_from(numbers: &[u64]) -> SiteRecord
         pending: numbers[1],
         threshold: numbers[2],
         used: numbers[3],
+        dropped: numbers[4],
     }
 }
 
-// The four numbers of a site's record. The caller tests the lengths.
+// The five numbers of a site's record. The caller tests the lengths.
 pub fn write_site(numbers: &mut [u64], site: SiteRecord)
     requires { ⌜ siteWidth ≤ length (now numbers) ⌝ }
     ensures { λ r. ⌜ after numbers
@@ -59,6 +60,7 @@ pub fn write_site(numbers: &mut [u64], site: SiteRecord)
     numbers[1] = site.pending;
     numbers[2] = site.threshold;
     numbers[3] = site.used;
+    numbers[4] = site.dropped;
 }
 
 // All records and the count of messages. The caller tests the lengths.
@@ -71,6 +73,7 @@ pub fn sites_from(numbers: &[u64]) -> Sites
         pending: 0,
         threshold: 0,
         used: 0,
+        dropped: 0,
     };
     let mut records = [zero; SITE_RECORDS];
     let mut i = 0;
@@ -81,6 +84,7 @@ pub fn sites_from(numbers: &[u64]) -> Sites
             pending: numbers[at + 1],
             threshold: numbers[at + 2],
             used: numbers[at + 3],
+            dropped: numbers[at + 4],
         };
         i += 1;
     }
@@ -104,6 +108,7 @@ pub fn write_sites(numbers: &mut [u64], sites: Sites)
         numbers[at + 1] = site.pending;
         numbers[at + 2] = site.threshold;
         numbers[at + 3] = site.used;
+        numbers[at + 4] = site.dropped;
         i += 1;
     }
     numbers[COUNT_PLACE] = sites.messages;

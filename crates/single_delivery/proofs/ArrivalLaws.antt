@@ -121,7 +121,7 @@ module _ {settings : Settings} {arrival : Arrival} {sites : Sites}
           came (begin-says .left-is) (deliver-says .none-due))
 
       ends : Ended settings network arrival (state .messages) (came .after) (ended .refusal)
-      ends = outcome-of (ok .passes) (ok .within) end
+      ends = outcome-of (ok .passes) (ok .within) (ok .dropped-within) end
 
       -- All that is left is the network that it comes to, written over what was given.
       left-is : left

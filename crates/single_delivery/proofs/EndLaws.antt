@@ -2,13 +2,14 @@
 -- nothing waits and nothing is announced.
 --
 --   Quiet                   nothing waits, and nothing is announced
---   not-blocked             from sound parts no call that is due is refused
+--   HeadWithin              no message waits for a site that has forgotten more than arrived
+--   not-blocked             then, from sound parts, no call that is due is refused
 --   not-blocked-quiet       where nothing waits and nothing is announced none is due
 --   AtEnd, at-end, by-end   where the calls came to: not refused and quiet, or blocked
 use mathlib.Core.Path.{_≡_, refl, sym, ap, _∙_, subst}
 use mathlib.Core.Bool.{Bool, true, false, not, _&&_, false≢true}
-use mathlib.Core.List.{List, []}
-use Prim.Native.Nat.{ℕ, zero, suc, _≤_}
+use mathlib.Core.List.{List, [], _∷_}
+use Prim.Native.Nat.{ℕ, zero, suc, _≤_, _<_}
 use native.Mathlib.Omega.{arith}
 use lib.ListN.{length}
 use lib.Seq.{take-length}
@@ -21,8 +22,10 @@ use Rattle.model.specs.Choice.{isZero}
 use Rattle.model.specs.Refusals.{noRefusal}
 use Rattle.model.specs.Limits.{mostSteps}
 use Rattle.model.specs.Settings.{settingsRefusal}
+use Rattle.model.specs.Messages.{toCoordinator}
 use Rattle.model.specs.Coordinator.{isAnnouncing}
-use Rattle.model.specs.Network.{Network}
+use Rattle.model.specs.Network.{Network, siteAt}
+use Rattle.model.specs.SoundNetwork.{DroppedWithin}
 use Rattle.coordinator.specs.Calls as CoordinatorCalls
 use Rattle.history.specs.State.{Held, State, networkOf}
 use Rattle.history.specs.Histories.{Deliveries}
@@ -39,15 +42,25 @@ pub record Quiet (state : State) : Type 0 where
   pub nothing-waits : state .waiting ≡ []
   pub silent : isAnnouncing (state .held .coordinator .phase) ≡ false
 
+-- No message waits for a site that has forgotten more than arrived.
+abbrev pub HeadWithin : Settings → State → Type 0
+HeadWithin settings state =
+    (m : Message) (later : List Message)
+    → state .waiting ≡ m ∷ later
+    → toCoordinator m ≡ false
+    → m .site < settings .sites
+    → DroppedWithin (siteAt (networkOf settings (state .held)) (m .site))
+
 -- From sound parts what is due is accepted, with all of the coordinator's memory lent.
 pub not-blocked : {settings : Settings} (passes : settingsRefusal settings ≡ noRefusal)
     {origin : Network} {arrival : Arrival} {past : List Message} {n : ℕ} (state : State)
     (mid : Underway settings origin arrival past n state)
     → SoundParts settings (networkOf settings (state .held))
+    → HeadWithin settings state
     → (refusal : ℕ)
     → (refusal ≡ noRefusal → ⊥)
     → Blocked settings state refusal → ⊥
-not-blocked {settings} passes state mid parts refusal refused
+not-blocked {settings} passes state mid parts few refusal refused
     (coordinator-refuses m later waits way number) =
     let memory = state .held .coordinatorMemory in
     refused
@@ -56,12 +69,12 @@ not-blocked {settings} passes state mid parts refusal refused
     (sym (take-length memory))
     ∙ coordinator-accepts passes state (mid .lengths) parts m (length memory)
     (in-mid passes mid .head-accepted m later waits) way (mid .lengths .coordinator-long))
-not-blocked passes state mid parts refusal refused
-    (site-refuses m later words waits way enough not-accepted) =
+not-blocked passes state mid parts few refusal refused
+    (site-refuses m later words waits way enough not-accepted number) =
     not-accepted
-    (site-accepts passes state (mid .lengths) parts m words
+    (site-accepts passes state (mid .lengths) parts m words (few m later waits way)
     (in-mid passes mid .head-accepted m later waits) way enough)
-not-blocked {settings} passes state mid parts refusal refused
+not-blocked {settings} passes state mid parts few refusal refused
     (announcement-refused announces number) =
     let memory = state .held .coordinatorMemory in
     refused
@@ -78,7 +91,7 @@ pub not-blocked-quiet : {settings : Settings} {state : State} {refusal : ℕ}
 not-blocked-quiet quiet (coordinator-refuses m later waits way number) =
     let lengths : 0 ≡ suc (length later) = ap length (sym (quiet .nothing-waits) ∙ waits) in
     omega arith
-not-blocked-quiet quiet (site-refuses m later words waits way enough not-accepted) =
+not-blocked-quiet quiet (site-refuses m later words waits way enough not-accepted number) =
     let lengths : 0 ≡ suc (length later) = ap length (sym (quiet .nothing-waits) ∙ waits) in
     omega arith
 not-blocked-quiet quiet (announcement-refused announces number) =

@@ -17,6 +17,7 @@ use Rattle.model.specs.Network.{Network}
 use Rattle.model.proofs.Thresholds.RefusalLaws.{both-accepted}
 use Rattle.history.specs.State.{heldRefusal, State, AtRest}
 use Rattle.history.specs.Histories.{Reachable, started, stepped, delivers, refuses, Deliveries, no-step, delivered, refused-between}
+use Rattle.history.proofs.Accounts.{few-dropped}
 use Rattle.history.proofs.Accepted.{held-sound, network-accepted}
 use Rattle.history.proofs.Theorem.{arisen}
 use Rattle.single_delivery.proofs.EndLaws.{AtEnd, not-blocked, by-end}
@@ -66,4 +67,6 @@ never-stopped after {refusal} end reachable =
     (λ refused blocked.
     absurd
     (not-blocked passes after (end .mid) (held-sound passes (arisen passes after reachable .ok))
+    (λ m later waits way.
+    few-dropped passes (arisen passes after reachable .ok .standing) (m .site))
     refusal refused blocked))

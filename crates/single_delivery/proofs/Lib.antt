@@ -9,7 +9,11 @@ pub mod LimitLaws
 pub mod FirstSteps
 pub mod EndLaws
 pub mod RestLaws
+pub mod OwnMessages
+pub mod PollLaws
 pub mod OneStep
+pub mod ForgottenSites
+pub mod ForgottenLaws
 pub mod OutcomeLaws
 pub mod PassedLaws
 pub mod HeldLaws

@@ -5,16 +5,17 @@
 --   at-one                after one step it is there
 --   end-one               so it is at the end, where no step follows the first
 use mathlib.Core.Path.{_≡_, refl, sym, ap, _∙_, subst}
+use mathlib.Core.Bool.{false≢true}
 use mathlib.Core.List.{List, _∷_}
 use Prim.Native.Nat.{ℕ, zero, suc, _≤_}
 use native.Mathlib.Omega.{arith}
-use lib.ListN.{length}
+use lib.ListN.{length, getD}
 use Rattle.model.specs.declared.Settings.{Settings}
 use Rattle.model.specs.declared.Arrival.{Arrival}
 use Rattle.model.specs.declared.Message.{Message}
 use Rattle.model.specs.Refusals.{noRefusal}
 use Rattle.model.specs.Settings.{settingsRefusal}
-use Rattle.model.specs.Messages.{itemReport}
+use Rattle.model.specs.Messages.{noMessage, itemReport, toCoordinator}
 use Rattle.model.specs.Site.{observed}
 use Rattle.model.specs.Coordinator.{takesItemReport, isAnnouncing}
 use Rattle.model.specs.Network.{Network, siteAt, withSite, withCoordinator}
@@ -104,7 +105,13 @@ module _ {settings : Settings} (passes : settingsRefusal settings ≡ noRefusal)
       (λ not-refused quiet.
       let lengths : 0 ≡ suc (length later) = ap length (sym (quiet .nothing-waits) ∙ waits) in
       omega arith)
-      (not-blocked passes after mid parts refusal)
+      (not-blocked passes after mid parts
+      (λ m behind head way _.
+      absurd
+      (false≢true
+      (sym way
+      ∙ ap (λ (ms : List Message). toCoordinator (getD ms 0 noMessage)) (sym head ∙ waits))))
+      refusal)
 
   -- No step follows the first, so it is the only one.
   module _ (stuck : (now then : State) → Mid 1 now → Delivers settings now then → ⊥) where

@@ -1,14 +1,16 @@
--- What a delivery comes to, from every network that passes refusal 11: the rules' `afterArrival`,
+-- What a delivery comes to, from every network that passes refusal 11: the rules' `afterArrival`;
 -- or, where kind 1 brings the item's estimate above the limit and kind 2 waits behind it, the
--- network after kind 1.
+-- network after kind 1; or, where the arrival's site has forgotten more than arrived and is polled,
+-- the network before that poll.
 --
 --   alone          kind 1 goes out and kind 2 does not: one step, and all is quiet
 --   stops          kind 2 meets a coordinator above the limit: 11
+--   with-estimate  there is room for kind 1: it stops at a poll, or not at all
 --   outcome-of     in each case
 use mathlib.Core.Path.{_≡_, refl, sym, ap, _∙_}
 use mathlib.Core.Bool.{Bool, true, false, false≢true}
 use mathlib.Core.List.{List, [], _∷_, _++_}
-use Prim.Native.Nat.{ℕ, _+_, _<_}
+use Prim.Native.Nat.{ℕ, _+_, _≤_, _<_}
 use native.Mathlib.Omega.{arith}
 use lib.Dec.{ltb}
 use lib.ListN.{length, getD}
@@ -25,7 +27,7 @@ use Rattle.model.specs.Site.{Site, observed, reportsItem, reportsCount, reporte
 use Rattle.model.specs.Coordinator.{Coordinator, isAnnouncing}
 use Rattle.model.specs.CoordinatorMemory.{coordinatorWords, coordinatorConsistent, coordinatorMemoryRefusal}
 use Rattle.model.specs.Network.{Network, Delivered, siteAt}
-use Rattle.model.specs.SoundNetwork.{estimateOf}
+use Rattle.model.specs.SoundNetwork.{DroppedWithin, estimateOf}
 use Rattle.model.specs.DeliveryClaims.{Delivery, deliveryStep, deliveryOf, outcome}
 use Rattle.model.proofs.Thresholds.RefusalLaws.{both-accepted}
 use Rattle.model.proofs.Soundness.SoundSites.{taken-of-no-refusal}
@@ -36,15 +38,18 @@ use Rattle.history.proofs.CallFronts.{receives-whole, announces-whole}
 use Rattle.history.proofs.Underway.{Underway}
 use Rattle.history.proofs.DeliveredState.{none-when-quiet}
 use Rattle.single_delivery.specs.Steps.{Blocked, coordinator-refuses, site-refuses, announcement-refused}
-use Rattle.single_delivery.specs.Delivery.{meetsLimit, deliveryIn}
+use Rattle.single_delivery.specs.Delivery.{meetsLimit, meetsForgotten, deliveryIn}
 use Rattle.single_delivery.proofs.EndLaws.{Quiet, AtEnd, not-blocked-quiet, by-end}
 use Rattle.single_delivery.proofs.RestLaws.{Ended, finished, with-room}
+use Rattle.single_delivery.proofs.ForgottenSites.{head-within}
+use Rattle.single_delivery.proofs.ForgottenLaws.{stops-at-poll}
 use Rattle.single_delivery.proofs.OneStep.{report, reported, deliveryAt, one-step, at-one, end-one}
 
 module _ {settings : Settings} (passes : settingsRefusal settings ≡ noRefusal)
     {network : Network} {arrival : Arrival} {past : List Message} {first : State} {taken : ℕ}
     {after : State} {refusal : ℕ}
     (within : CoordinatorWithin (network .coordinator))
+    (dropped-within : (j : ℕ) → j < settings .sites → DroppedWithin (siteAt network j))
     (end : AtEnd settings network arrival past first taken after refusal) where
   abbrev site : Site
   site = siteAt network (arrival .site)
@@ -74,15 +79,16 @@ module _ {settings : Settings} (passes : settingsRefusal settings ≡ noRefusal)
   }
 
   alone : meetsLimit settings network arrival ≡ false
+      → meetsForgotten settings network arrival ≡ false
       → observed settings site arrival .messages ≡ report network arrival ∷ []
       → Ends
-  alone below out =
+  alone below few out =
       let quiet = quiet-one after (end .mid)
       (end-one passes within end [] out
       (λ now then mid.
       let there = quiet-one now mid (at-one passes within end [] out 1 now mid refl) in
       none-when-quiet now (there .nothing-waits) (there .silent) then)) in
-      by-end refusal end (finished passes end below)
+      by-end refusal end (finished passes end below few)
       (λ refused blocked. absurd (not-blocked-quiet quiet blocked))
 
   -- ---- Kind 2 behind it, and no room
@@ -170,7 +176,7 @@ module _ {settings : Settings} (passes : settingsRefusal settings ≡ noRefusal)
         (coordinator-refuses m later head to is) =
         sym is ∙ rw (refused-memory now mid network-is) refl
     number-there now mid second number way waits network-is
-        (site-refuses m later words head to enough not-accepted) =
+        (site-refuses m later words head to enough not-accepted number-is) =
         absurd
         (false≢true
         (sym to
@@ -220,6 +226,23 @@ module _ {settings : Settings} (passes : settingsRefusal settings ≡ noRefusal)
 
   -- ---- In each case
 
+  -- There is room for kind 1: it stops at the poll of the arrival's site, or not at all.
+  with-estimate : meetsLimit settings network arrival ≡ false
+      → (reportsItem settings (siteAt network (arrival .site)) arrival ≡ true
+      → estimateOf network (arrival .item) + siteAt network (arrival .site) .threshold
+      ≤ coordinatorLimit)
+      → Ends
+  with-estimate below room = by-test (meetsForgotten settings network arrival) refl
+    where
+      by-test : (stops : Bool) → meetsForgotten settings network arrival ≡ stops
+          → Ended settings network arrival past after refusal
+      by-test true stops =
+          stops-at-poll settings passes network arrival past dropped-within within end below room
+          stops
+      by-test false goes =
+          with-room passes end below goes within room
+          (head-within settings passes network arrival past dropped-within after (end .mid) goes)
+
   -- By whether kind 1 goes out, whether kind 2 does, and whether the estimate has room.
   pub outcome-of : Ends
   outcome-of =
@@ -236,10 +259,8 @@ module _ {settings : Settings} (passes : settingsRefusal settings ≡ noRefusal)
           (countReport (arrival .site) (site .threshold) (reportedValue site arrival)) refl
           (rw (item, count, over) refl) (rw (item, count) refl)
       by-tests true true false item count over =
-          with-room passes end (rw (item, count, over) refl) within
-          (λ _. ltb-false _ _ over)
+          with-estimate (rw (item, count, over) refl) (λ _. ltb-false _ _ over)
       by-tests true false over item count is =
-          alone (rw (item, count) refl) (rw (item, count) refl)
+          alone (rw (item, count) refl) (rw count refl) (rw (item, count) refl)
       by-tests false count over item is-count is =
-          with-room passes end (rw item refl) within
-          (λ due. absurd (false≢true (sym item ∙ due)))
+          with-estimate (rw item refl) (λ due. absurd (false≢true (sym item ∙ due)))

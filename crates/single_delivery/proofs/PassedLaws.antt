@@ -1,5 +1,6 @@
 -- What a start test that passes is worth: records and memory hold a sound network within the
--- coordinator's limit; and the number of an arrival at it.
+-- coordinator's limit, no site of which has forgotten more than arrived; and the number of an
+-- arrival at it.
 --
 --   Passed, passed-of            of records and memory that are not refused
 --   rest-of                      a state that holds them, with nothing waiting
@@ -18,7 +19,8 @@ use Rattle.model.specs.Limits.{mostSites}
 use Rattle.model.specs.Settings.{settingsRefusal}
 use Rattle.model.specs.SiteMemory.{siteWords}
 use Rattle.model.specs.Runs.{refusalIn}
-use Rattle.model.specs.SoundNetwork.{Sound}
+use Rattle.model.specs.Network.{siteAt}
+use Rattle.model.specs.SoundNetwork.{DroppedWithin, Sound}
 use Rattle.model.proofs.Thresholds.RefusalLaws.{begin, pass-part, refuse-part, end}
 use Rattle.model.proofs.Soundness.ConsistentCoordinator.{CoordinatorWithin}
 use Rattle.model.proofs.Soundness.ConsistentNetwork.{passes-of}
@@ -36,6 +38,8 @@ pub record Passed (settings : Settings) (held : Held) : Type 0 where
   pub fits : SitesFit settings (held .siteMemory)
   pub lengths : Lengths settings held
   pub sound : Sound settings (networkOf settings held)
+  pub dropped-within : (j : ℕ) → j < settings .sites
+      → DroppedWithin (siteAt (networkOf settings held) j)
   pub within : CoordinatorWithin (networkOf settings held .coordinator)
 
 -- Records that fill their array, and a start test that passes.
@@ -58,6 +62,7 @@ passed-of settings held all none =
         coordinator-long = holds .coordinator-long;
       };
       sound = holds .sound;
+      dropped-within = holds .dropped-within;
       within = holds .within;
     }
 
@@ -114,6 +119,6 @@ module _ (settings : Settings) (held : Held) (arrival : Arrival)
       let more : suc j * siteWords settings ≤ settings .sites * siteWords settings =
       mul-le-mul-right (siteWords settings) known in
       arrival-by-rules (ok .passes) held (ok .lengths) parts j
-      (length (held .siteMemory) - siteStart settings j) known
+      (length (held .siteMemory) - siteStart settings j) known (ok .dropped-within j known)
       (omega (arith, more, ok .lengths .sites-long)) arrival
       ∙ by-rules

@@ -1,5 +1,6 @@
 -- A delivery that came to rest, from any sound network: it is the model's. It does whenever what it
--- comes to is within the coordinator's limit.
+-- comes to is within the coordinator's limit and no message waits for a site that has forgotten
+-- more than arrived.
 --
 --   Ended        what the last call left, and the number of one that was refused
 --   finished     no call was refused
@@ -21,9 +22,9 @@ use Rattle.model.proofs.Soundness.SoundTheorem.{sound-claims}
 use Rattle.model.proofs.Soundness.ConsistentCoordinator.{CoordinatorWithin}
 use Rattle.history.specs.State.{State, AtRest, networkOf}
 use Rattle.history.proofs.Underway.{in-mid, parts-underway}
-use Rattle.single_delivery.specs.Delivery.{meetsLimit, stopOf, deliveryIn}
+use Rattle.single_delivery.specs.Delivery.{meetsLimit, meetsForgotten, stopOf, deliveryIn}
 use Rattle.single_delivery.proofs.LimitLaws.{final-within}
-use Rattle.single_delivery.proofs.EndLaws.{Quiet, AtEnd, not-blocked, by-end}
+use Rattle.single_delivery.proofs.EndLaws.{Quiet, AtEnd, HeadWithin, not-blocked, by-end}
 
 -- What a delivery comes to.
 pub record Ended
@@ -42,7 +43,8 @@ module _ {settings : Settings} (passes : settingsRefusal settings ≡ noRefusal)
     {network : Network} {arrival : Arrival} {past : List Message} {first : State} {taken : ℕ}
     {after : State} {refusal : ℕ}
     (end : AtEnd settings network arrival past first taken after refusal)
-    (below : meetsLimit settings network arrival ≡ false) where
+    (below : meetsLimit settings network arrival ≡ false)
+    (few-then : meetsForgotten settings network arrival ≡ false) where
   -- Not refused and quiet: it has come where the model's delivery comes.
   pub finished : refusal ≡ noRefusal
       → Quiet after
@@ -51,12 +53,12 @@ module _ {settings : Settings} (passes : settingsRefusal settings ≡ noRefusal)
       let mid = end .mid in
       let there = in-mid passes mid .ends (quiet .nothing-waits) (quiet .silent) in
       let all : deliveryIn settings network arrival ≡ afterArrival settings network arrival =
-      rw below refl in
+      rw (below, few-then) refl in
       record {
         network-is = ap (λ (d : Delivered). d .network) (there ∙ sym all);
         messages-are =
             mid .messages-are ∙ ap (λ (d : Delivered). past ++ d .messages) (there ∙ sym all);
-        stopped-is = rw below not-refused;
+        stopped-is = rw (below, few-then) not-refused;
         rests = λ _. record {
           nothing-waits = quiet .nothing-waits;
           idle =
@@ -71,8 +73,9 @@ module _ {settings : Settings} (passes : settingsRefusal settings ≡ noRefusal)
       → (reportsItem settings (siteAt network (arrival .site)) arrival ≡ true
       → estimateOf network (arrival .item) + siteAt network (arrival .site) .threshold
       ≤ coordinatorLimit)
+      → HeadWithin settings after
       → Ended settings network arrival past after refusal
-  with-room within room =
+  with-room within room few =
       let mid = end .mid in
       by-end refusal end finished
       (λ refused blocked.
@@ -80,4 +83,4 @@ module _ {settings : Settings} (passes : settingsRefusal settings ≡ noRefusal)
       (not-blocked passes after mid
       (parts-underway passes mid
       (final-within settings network arrival passes (mid .origin-sound) within (mid .taken) room))
-      refusal refused blocked))
+      few refusal refused blocked))

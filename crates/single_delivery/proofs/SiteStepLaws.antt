@@ -61,7 +61,8 @@ module _ {settings : Settings} {siteMemory : List ℕ} {progress : Progress}
       let part = sitePart settings (state .held) j (siteWords settings) in
       let known = site-known settings j _
       (both-accepted (siteMemoryRefusal settings numbers part) _ none .later-accepted) in
-      omega (arith, known, none-such)))
+      omega (arith, known, none-such))
+      (λ known. absurd (omega (arith, known, none-such))))
 
   -- The site's record and its part of the memory, as the code names them.
   module _ (known : j < settings .sites) (numbers : SiteRecord) (words : ℕ)
@@ -113,7 +114,8 @@ module _ {settings : Settings} {siteMemory : List ℕ} {progress : Progress}
         stopped progress (answer .refusal) memory (asks .few) refused refl
         (λ past state stands.
         site-refuses message behind rest (stands .waiting-are ∙ message-waits) (asks .way-is) long
-        (λ none. refused (says-of state stands .refusal ∙ none)))
+        (λ none. refused (says-of state stands .refusal ∙ none))
+        (λ _. sym (says-of state stands .refusal)))
 
     pub site-goes : answer .refusal ≡ noRefusal
         → (memory : List ℕ) (sites : Sites) (queue : Queue) (then : Progress)

@@ -4,8 +4,8 @@
 -- rest, the history goes on by this arrival and comes to rest.
 --
 --   deliveryRefusal ..             why the arrival is refused
---   meetsLimit, stopOf             whether a call is refused in mid-delivery, and by what number: 0
---                                  for records and memory that arose
+--   meetsLimit, meetsForgotten     whether a call is refused in mid-delivery: none for records and
+--   stepsBeforePoll, stopOf        memory that arose; after how many steps, and by what number
 --   deliveryIn ..                  the network that it comes to, and the messages that went out
 --   heldAfter, carriedBy, stoppedBy   what is left, and what is answered, refused or not
 --   refusedBy refusal ..           the answer that refuses the arrival
@@ -13,9 +13,9 @@
 --   ArrivalDelivered               the arrival and its delivery, as steps of a history
 --   DeliverySays                   the promise
 use mathlib.Core.Path.{_≡_}
-use mathlib.Core.Bool.{Bool, _&&_}
+use mathlib.Core.Bool.{Bool, _&&_, _||_}
 use mathlib.Core.List.{List, [], _∷_, _++_}
-use Prim.Native.Nat.{ℕ, _+_}
+use Prim.Native.Nat.{ℕ, _+_, _*_}
 use lib.Dec.{ltb}
 use lib.ListN.{length}
 use Rattle.model.specs.declared.Settings.{Settings}
@@ -25,11 +25,13 @@ use Rattle.model.specs.declared.CoordinatorRecord.{CoordinatorRecord}
 use Rattle.model.specs.Choice.{if_then_else_, isZero}
 use Rattle.model.specs.Refusals.{when, _orElse_, noRefusal, memoryInconsistent}
 use Rattle.model.specs.Limits.{coordinatorLimit}
-use Rattle.model.specs.Site.{reportsItem, reportsCount}
+use Rattle.model.specs.Site.{reportsItem, reportsCount, observed}
+use Rattle.model.specs.Coordinator.{closesRound}
 use Rattle.model.specs.Network.{Network, Delivered, siteAt, afterArrival}
 use Rattle.model.specs.Runs.{refusalIn, runOf}
 use Rattle.model.specs.SoundNetwork.{estimateOf}
-use Rattle.model.specs.DeliveryClaims.{deliveryOf, deliveryStep, outcome}
+use Rattle.model.specs.Claims.{oneIf}
+use Rattle.model.specs.DeliveryClaims.{deliveryOf, deliverySteps, outcome}
 use Rattle.site_steps.specs.declared.Observed.{Observed}
 use Rattle.site.specs.Calls.{ObserveSays}
 use Rattle.history.specs.State.{Held, State, AtRest, heldRefusal, networkOf, networkWritten, recordAt, sitePart}
@@ -57,16 +59,42 @@ meetsLimit settings network arrival =
     && reportsCount site
     && ltb coordinatorLimit (estimateOf network (arrival .item) + site .threshold)
 
--- The number of the call that stops it: 11, of kind 2; 0 where none does.
-abbrev pub stopOf : Settings → Network → Arrival → ℕ
-stopOf settings network arrival = when (meetsLimit settings network arrival) memoryInconsistent
+-- The arrival closes the round, and its site has then forgotten more than arrived: its poll meets a
+-- site whose memory is inconsistent. No site that arose has (crate history, Dropped.antt).
+abbrev pub meetsForgotten : Settings → Network → Arrival → Bool
+meetsForgotten settings network arrival =
+    let site = siteAt network (arrival .site) in
+    let after = observed settings site arrival .site in
+    reportsCount site
+    && closesRound settings (network .coordinator)
+    && ltb (after .arrivals) (after .dropped)
 
--- The rules' full delivery; where it stops, the arrival with its kind 1 handed over and its kind 2
--- not.
+-- The steps before the poll of the arrival's site: its own messages handed over, and a poll with
+-- its answer for each site before.
+abbrev pub stepsBeforePoll : Settings → Network → Arrival → ℕ
+stepsBeforePoll settings network arrival =
+    oneIf (reportsItem settings (siteAt network (arrival .site)) arrival) + 1
+    + 2 * arrival .site
+
+-- The number of the call that stops it: 11, of kind 2 or of a poll; 0 where none does.
+abbrev pub stopOf : Settings → Network → Arrival → ℕ
+stopOf settings network arrival =
+    when (meetsLimit settings network arrival || meetsForgotten settings network arrival)
+    memoryInconsistent
+
+-- So many steps of the rules' delivery.
+abbrev pub stoppedAfter : ℕ → Settings → Network → Arrival → Delivered
+stoppedAfter steps settings network arrival =
+    outcome (deliverySteps steps settings (deliveryOf settings network arrival))
+
+-- The rules' full delivery; where it stops, the steps before the call that is refused: kind 1
+-- handed over and kind 2 not, or all before the poll of the arrival's site.
 abbrev pub deliveryIn : Settings → Network → Arrival → Delivered
 deliveryIn settings network arrival =
     if meetsLimit settings network arrival
-    then outcome (deliveryStep settings (deliveryOf settings network arrival))
+    then stoppedAfter 1 settings network arrival
+    else if meetsForgotten settings network arrival
+    then stoppedAfter (stepsBeforePoll settings network arrival) settings network arrival
     else afterArrival settings network arrival
 
 -- Refused, all is "left as it was". Otherwise it is the network that the delivery comes to, written

@@ -44,6 +44,10 @@ pub data Blocked (settings : Settings) (state : State) (refusal : ℕ) : Type 0 
       → (SiteCalls.receiveRefusal settings (recordAt (state .held) (m .site)) (m .site) m
       (sitePart settings (state .held) (m .site) words)
       ≡ noRefusal → ⊥)
+      → (m .site < settings .sites
+      → SiteCalls.receiveRefusal settings (recordAt (state .held) (m .site)) (m .site) m
+      (sitePart settings (state .held) (m .site) words)
+      ≡ refusal)
       → Blocked settings state refusal
   announcement-refused :
       isAnnouncing (state .held .coordinator .phase) ≡ true

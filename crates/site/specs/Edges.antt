@@ -19,21 +19,22 @@ pub record SiteCallEdges : Type 0 where
   pub start-clears : cleared settingsA (replicate 1050 7) ≡ replicate 1048 0 ++ (7 ∷ 7 ∷ [])
   -- a draw: "then 4, 11; for a draw 5, 6, 7, 8". Threshold 0 is inconsistent, A has one site.
   pub draw-accepted :
-      observeRefusal settingsA (siteNumbers 0 0 1 0) (arrivalWith 0 9 1023) (replicate 1048 0) ≡ 0
+      observeRefusal settingsA (siteNumbers 0 0 1 0 0) (arrivalWith 0 9 1023) (replicate 1048 0) ≡ 0
   pub draw-unknown-site :
-      observeRefusal settingsA (siteNumbers 0 0 1 0) (arrivalWith 1 9 1023) (replicate 1048 0) ≡ 5
+      observeRefusal settingsA (siteNumbers 0 0 1 0 0) (arrivalWith 1 9 1023) (replicate 1048 0) ≡ 5
   pub draw-four-before-eleven :
-      observeRefusal settingsA (siteNumbers 0 0 0 0) (arrivalWith 1 9 1023) (replicate 1047 0) ≡ 4
+      observeRefusal settingsA (siteNumbers 0 0 0 0 0) (arrivalWith 1 9 1023) (replicate 1047 0) ≡ 4
   pub draw-eleven-before-five :
-      observeRefusal settingsA (siteNumbers 0 0 0 0) (arrivalWith 1 9 1023) (replicate 1048 0) ≡ 11
+      observeRefusal settingsA (siteNumbers 0 0 0 0 0) (arrivalWith 1 9 1023) (replicate 1048 0)
+      ≡ 11
   -- a message: "then 4, 11; .. for a message 5, 9", the site's own number among 5
   pub message-accepted :
-      receiveRefusal settingsA (siteNumbers 0 0 1 0) 0 (poll 0) (replicate 1048 0) ≡ 0
+      receiveRefusal settingsA (siteNumbers 0 0 1 0 0) 0 (poll 0) (replicate 1048 0) ≡ 0
   pub message-own-number :
-      receiveRefusal settingsA (siteNumbers 0 0 1 0) 1 (poll 0) (replicate 1048 0) ≡ 5
+      receiveRefusal settingsA (siteNumbers 0 0 1 0 0) 1 (poll 0) (replicate 1048 0) ≡ 5
   pub message-four-before-eleven :
-      receiveRefusal settingsA (siteNumbers 0 0 0 0) 1 (poll 1) (replicate 1047 0) ≡ 4
+      receiveRefusal settingsA (siteNumbers 0 0 0 0 0) 1 (poll 1) (replicate 1047 0) ≡ 4
   pub message-eleven-before-five :
-      receiveRefusal settingsA (siteNumbers 0 0 0 0) 1 (poll 1) (replicate 1048 0) ≡ 11
+      receiveRefusal settingsA (siteNumbers 0 0 0 0 0) 1 (poll 1) (replicate 1048 0) ≡ 11
   pub message-five-before-nine :
-      receiveRefusal settingsA (siteNumbers 0 0 1 0) 1 (itemReport 0 9 1) (replicate 1048 0) ≡ 5
+      receiveRefusal settingsA (siteNumbers 0 0 1 0 0) 1 (itemReport 0 9 1) (replicate 1048 0) ≡ 5

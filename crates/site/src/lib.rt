@@ -115,6 +115,7 @@ fn fresh_sites() -> Sites
         pending: 0,
         threshold: 1,
         used: 0,
+        dropped: 0,
     };
     Sites {
         records: [fresh; SITE_RECORDS],

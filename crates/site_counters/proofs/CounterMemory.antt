@@ -15,7 +15,7 @@ use native.Mathlib.Omega.{arith}
 use lib.ListN.{length, set, drop, length-set}
 use lib.Seq.{getD-drop}
 use Rattle.laws.proofs.FlatMemory.{four, four-suc}
-use Rattle.laws.proofs.Fronts.{overwritten-sets, four-stores}
+use Rattle.laws.proofs.Fronts.{overwritten-sets, row-stores}
 use Rattle.model.specs.Counters.{Counter, counterAt}
 use Rattle.model.specs.SiteMemory.{countersIn, counterNumbers, overwrite}
 use Rattle.model.proofs.Soundness.ConsistentSites.{length-countersIn}
@@ -147,6 +147,6 @@ overwrite-append n memory x fits =
     ap (λ (l : List ℕ). overwrite l memory) (sym (counterNumbers-snoc counters x))
     ∙ sym (overwritten-sets (counterNumbers counters) (counterNumbers (x ∷ [])) memory (4 * n)
     width fits)
-    ∙ sym (four-stores (overwrite (counterNumbers counters) memory) (4 * n)
-    (x .item) (x .count) (x .overestimate) (x .reported))
+    ∙ sym (row-stores (overwrite (counterNumbers counters) memory) (4 * n)
+    (x .item) (x .count ∷ (x .overestimate ∷ (x .reported ∷ []))))
     ∙ ap (λ (l : List ℕ). setCounter l n x) (counters-kept n memory (omega arith))

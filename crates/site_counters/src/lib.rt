@@ -6,11 +6,12 @@
 ghost use mathlib.Core.Path.{_≡_};
 ghost use Prim.Native.Nat.{_+_, _*_, _≤_};
 ghost use lib.ListN.{length};
-ghost use Rattle.model.specs.Counters.{find, leastPlace};
+ghost use Rattle.model.specs.Counters.{find, leastPlace, unreported, goneWith};
 ghost use Rattle.model.specs.Lent.{before, after};
 ghost use Rattle.model.specs.SiteMemory.{countersIn};
-ghost use Rattle.site_counters.specs.Count.{CountItemAsks, CountItemSays};
+ghost use Rattle.site_counters.specs.Count.{PartsWithin, CountItemAsks, CountItemSays};
 ghost use Rattle.site_counters.specs.Stored.{storedAt, setCounter, counterOf, ordered};
+use model::Leaving;
 use model::Word;
 
 // A counter as memory holds it: document 01's slot, a code, a count, an overcount and a sent
@@ -99,16 +100,37 @@ pub fn put_counter(memory: &mut [Word], place: usize, counter: StoredCounter)
     memory[start + 3] = counter.reported;
 }
 
-// What counting an item did: the place of its counter, the counters in use then, and the counter.
+// The unreported arrivals of a counter. Internal: `site_memory_refusal` decides that overcount and
+// sent number are within the count.
+pub fn unreported_of(counter: StoredCounter) -> Word
+    requires { ⌜ PartsWithin (counterOf counter) ⌝ }
+    ensures { λ r. ⌜ r ≡ unreported (counterOf counter) ⌝ }
+{
+    counter.count - counter.overestimate - counter.reported
+}
+
+// How many unreported arrivals went with the item that left.
+pub fn gone_with(leaving: Leaving) -> Word
+    ensures { λ r. ⌜ r ≡ goneWith leaving ⌝ }
+{
+    match leaving {
+        Leaving::Nobody => 0,
+        Leaving::Left(_, gone) => gone,
+    }
+}
+
+// What counting an item did: the place of its counter, the counters in use then, the counter, and
+// who left for it (request N1).
 pub struct Counted {
     pub place: usize,
     pub used: usize,
     pub counter: StoredCounter,
+    pub leaving: Leaving,
 }
 
 // An item counted: in its own counter, in the next unused one, or in place of the least. Internal:
-// `site_memory_refusal` decides that there is a counter, that all lie within the memory, and that
-// no count is above the site's limit.
+// `site_memory_refusal` decides that there is a counter, that all lie within the memory, that no
+// count is above the site's limit, and that overcount and sent number are within the count.
 pub fn count_item(memory: &mut [Word], capacity: usize, used: usize, item: Word) -> Counted
     requires { ⌜ CountItemAsks (now memory) capacity used ⌝ }
     ensures { λ r. ⌜ CountItemSays (before memory) (after memory) capacity used item r ⌝ }
@@ -127,6 +149,7 @@ pub fn count_item(memory: &mut [Word], capacity: usize, used: usize, item: Word)
             place: found,
             used: used,
             counter: more,
+            leaving: Leaving::Nobody,
         };
     }
     if used < capacity {
@@ -141,10 +164,12 @@ pub fn count_item(memory: &mut [Word], capacity: usize, used: usize, item: Word)
             place: used,
             used: used + 1,
             counter: first,
+            leaving: Leaving::Nobody,
         };
     }
     let least = least_counter(memory, used);
     let replaced = counter_at(memory, least);
+    let gone = unreported_of(replaced);
     let replacing = StoredCounter {
         item: item,
         count: replaced.count + 1,
@@ -156,5 +181,6 @@ pub fn count_item(memory: &mut [Word], capacity: usize, used: usize, item: Word)
         place: least,
         used: used,
         counter: replacing,
+        leaving: Leaving::Left(replaced.item, gone),
     }
 }

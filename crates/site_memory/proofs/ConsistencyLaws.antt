@@ -3,8 +3,8 @@
 --
 --   item-unknown, parts-above, count-above, counter-passes     one counter
 --   Passing, passing-start, passing-on, passing-fails, passing-end   the counters, place by place
---   used-above, arrivals-above, pending-above, threshold-above, counters-pass, counters-fail
---                                                              a whole site
+--   used-above, arrivals-above, pending-above, threshold-above, dropped-above, counters-pass,
+--   counters-fail                                              a whole site
 use Prim.Native.Nat.{ℕ, _+_, _<_, _≤_}
 use mathlib.Core.Path.{_≡_, ap, sym, _∙_}
 use mathlib.Core.List.{List}
@@ -109,22 +109,28 @@ module _ (settings : Settings) (numbers : SiteRecord) (memory : List ℕ) where
       → false ≡ siteConsistent settings numbers memory
   threshold-above above = simp (lt-leb (numbers .threshold) siteLimit above, and-false)
 
+  pub dropped-above : numbers .arrivals < numbers .dropped
+      → false ≡ siteConsistent settings numbers memory
+  dropped-above above = simp (lt-leb (numbers .dropped) (numbers .arrivals) above, and-false)
+
   -- The single numbers pass, so counters and histogram decide.
   pub numbers-pass : numbers .used ≤ settings .capacity
       → numbers .arrivals ≤ siteLimit
       → numbers .pending < numbers .threshold
       → numbers .threshold ≤ siteLimit
+      → numbers .dropped ≤ numbers .arrivals
       → (countersConsistent settings (siteIn settings numbers memory)
       (countersIn (numbers .used) memory)
       && eqb (sum (take valueCount (drop (counterWords settings) memory))) (numbers .arrivals))
       ≡ siteConsistent settings numbers memory
-  numbers-pass used arrivals pending threshold =
+  numbers-pass used arrivals pending threshold dropped =
       simp (
         le-leb (numbers .used) (settings .capacity) used,
         le-leb (numbers .arrivals) siteLimit arrivals,
         lt-ltb (numbers .pending) (numbers .threshold) pending,
         le-leb 1 (numbers .threshold) (omega arith),
         le-leb (numbers .threshold) siteLimit threshold,
+        le-leb (numbers .dropped) (numbers .arrivals) dropped,
         and-true,
       )
 
@@ -133,16 +139,17 @@ module _ (settings : Settings) (numbers : SiteRecord) (memory : List ℕ) where
       → numbers .arrivals ≤ siteLimit
       → numbers .pending < numbers .threshold
       → numbers .threshold ≤ siteLimit
+      → numbers .dropped ≤ numbers .arrivals
       → countersConsistent settings (siteIn settings numbers memory)
       (countersIn (numbers .used) memory)
       ≡ true
       → eqb (sum (take valueCount (drop (counterWords settings) memory))) (numbers .arrivals)
       ≡ siteConsistent settings numbers memory
-  counters-pass used arrivals pending threshold passes =
+  counters-pass used arrivals pending threshold dropped passes =
       let sums =
       eqb (sum (take valueCount (drop (counterWords settings) memory))) (numbers .arrivals) in
       sym (ap (λ (test : Bool). test && sums) passes)
-      ∙ numbers-pass used arrivals pending threshold
+      ∙ numbers-pass used arrivals pending threshold dropped
 
   pub counters-fail :
       countersConsistent settings (siteIn settings numbers memory)

@@ -88,6 +88,7 @@ siteIn-front settings numbers part rest few long =
       arrivals = numbers .arrivals;
       pending = numbers .pending;
       threshold = numbers .threshold;
+      dropped = numbers .dropped;
     }
 
 -- ---- Writing

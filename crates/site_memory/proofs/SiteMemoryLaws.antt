@@ -81,6 +81,7 @@ module _
     arrivals = site .arrivals;
     pending = site .pending;
     threshold = site .threshold;
+    dropped = site .dropped;
   }
 
 -- Reading a site and writing it again changes nothing.
@@ -112,4 +113,5 @@ siteRecord-siteIn settings numbers memory = λ i. record {
   pending = numbers .pending;
   threshold = numbers .threshold;
   used = length-countersIn (numbers .used) memory i;
+  dropped = numbers .dropped;
 }

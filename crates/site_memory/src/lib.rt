@@ -111,6 +111,9 @@ pub fn site_consistent(settings: Settings, site: SiteRecord, memory: &[Word]) ->
     if SITE_LIMIT < site.threshold {
         return false;
     }
+    if site.arrivals < site.dropped {
+        return false;
+    }
     let used = site.used as usize;
     if counters_consistent(settings, site, memory, used) {
         let from = 4 * (settings.capacity as usize);

@@ -13,4 +13,5 @@ bareSite numbers = record {
   arrivals = numbers .arrivals;
   pending = numbers .pending;
   threshold = numbers .threshold;
+  dropped = numbers .dropped;
 }

@@ -59,6 +59,7 @@ withNumbers numbers pending threshold used = record {
   pending = pending;
   threshold = threshold;
   used = used;
+  dropped = numbers .dropped;
 }
 
 -- As many counters are read as are in use.

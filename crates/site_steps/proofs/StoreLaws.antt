@@ -1,13 +1,15 @@
 -- An arrival stored in a site's memory, call by call: what each part requires holds of a sound
 -- site, and the parts together are the model's step.
 --
+--   dropped-small                                       what is forgotten fits its number
 --   count-asks, report-asks, value-place, value-small   what each call requires
 --   stored-arrival     the promise of `store_arrival`
 --   observed-step      the promise of `observe_step`
-use Prim.Native.Nat.{ℕ, _+_, _<_, _≤_}
+use Prim.Native.Nat.{ℕ, _+_, _*_, _<_, _≤_}
 use mathlib.Core.Path.{_≡_, ap, sym, _∙_, subst₂}
 use mathlib.Core.List.{List}
 use mathlib.Core.Bool.{Bool}
+use native.Mathlib.Nat.{mul-le-mul-right}
 use native.Mathlib.Omega.{arith}
 use lib.Dec.{leb, eqb}
 use lib.ListN.{length, getD}
@@ -17,15 +19,15 @@ use Rattle.model.specs.declared.Arrival.{Arrival}
 use Rattle.model.specs.declared.Message.{Message}
 use Rattle.model.specs.Choice.{if_then_else_}
 use Rattle.model.specs.Messages.{itemReport, countReport}
-use Rattle.model.specs.Limits.{valueCount, siteLimit}
-use Rattle.model.specs.Counters.{Counter, counterAt}
-use Rattle.model.specs.Site.{Site, observed, oneMoreAt, placeFor, countersWith}
+use Rattle.model.specs.Limits.{mostCapacity, valueCount, siteLimit}
+use Rattle.model.specs.Counters.{Counter, counterAt, goneWith}
+use Rattle.model.specs.Site.{Site, observed, oneMoreAt, placeFor, countersWith, leavingFor}
 use Rattle.model.specs.SiteMemory.{counterWords, siteIn, siteRecord, counterNumbers, overwrite}
 use Rattle.model.specs.SoundNetwork.{SoundSite}
 use Rattle.model.proofs.Thresholds.SettingsLaws.{Settled, settled}
 use Rattle.model.proofs.BetweenArrivals.ReportLaws.{value-counted}
 use Rattle.model.proofs.Soundness.ConsistentSites.{length-countersIn}
-use Rattle.model.proofs.Soundness.SoundSites.{ArrivalTaken, taken-of-no-refusal, CountedAt, sound-counted}
+use Rattle.model.proofs.Soundness.SoundSites.{ArrivalTaken, taken-of-no-refusal, CountedAt, sound-counted, sound-observed}
 use Rattle.site_counters.specs.declared.Counted.{Counted}
 use Rattle.site_counters.specs.Stored.{counterOf}
 use Rattle.site_counters.specs.Count.{greatestWord, CountItemAsks, CountItemSays}
@@ -67,6 +69,19 @@ module _
   pub room : numbers .arrivals < siteLimit
   room = taken .room
 
+  -- What is forgotten then is far from the end of its range: at most the arrivals, and a limit for
+  -- each counter.
+  pub dropped-small : numbers .dropped
+      + goneWith (leavingFor settings (siteIn settings numbers before) arrival)
+      ≤ siteLimit + mostCapacity * siteLimit
+  dropped-small =
+      omega (
+        arith,
+        sound-observed (capacity-known .capacity .at-least) taken sound .dropped-bounded,
+        taken .room,
+        mul-le-mul-right siteLimit (capacity-known .capacity .at-most),
+      )
+
   -- ---- What each call requires
 
   pub count-asks : CountItemAsks before (settings .capacity) (numbers .used)
@@ -78,6 +93,9 @@ module _
         let counter =
         sound .counters-sound place (rw (length-countersIn (numbers .used) before) inside) in
         omega (arith, counter .count-within, taken .room);
+    parts-within = λ place inside.
+        sound .counters-sound place (rw (length-countersIn (numbers .used) before) inside)
+        .within-count;
   }
 
   module _
@@ -138,11 +156,14 @@ module _
 
       pub stored-arrival : (after : List ℕ)
           → after ≡ oneMoreAt reported (counterWords settings + arrival .value)
+          → (gone : ℕ)
+          → gone ≡ goneWith (counted .leaving)
           → StoreSays settings numbers arrival before after
-          (record { used = counted .used; due = due })
-      stored-arrival after after-is = record {
+          (record { used = counted .used; due = due; gone = gone })
+      stored-arrival after after-is gone gone-is = record {
         used-then = says .used-then ∙ sym (length-countersReported settings site arrival);
         due-is = model-report .due-is;
+        gone-is = gone-is ∙ ap goneWith (says .leaving);
         memory = after-is
             ∙ memory-observed settings numbers arrival before reported (asks .ready .long-enough)
             value-within (counted-at .few) reported-is;
@@ -167,6 +188,7 @@ module _
         pending = pending;
         threshold = numbers .threshold;
         used = stored .used;
+        dropped = numbers .dropped + stored .gone;
       })
       (siteRecord (observed settings (siteIn settings numbers before) arrival .site))
   record-observed = λ i. record {
@@ -174,6 +196,7 @@ module _
     pending = pending-is i;
     threshold = numbers .threshold;
     used = says .used-then i;
+    dropped = numbers .dropped + says .gone-is i;
   }
 
   messages-observed : (itemMessage countMessage : Message)
@@ -196,6 +219,7 @@ module _
         pending = pending;
         threshold = numbers .threshold;
         used = stored .used;
+        dropped = numbers .dropped + stored .gone;
       })
       (messagesDue (stored .due) itemMessage
       (leb (numbers .threshold) (numbers .pending + 1)) countMessage)

@@ -18,11 +18,12 @@ use Rattle.model.specs.Choice.{if_then_else_}
 use Rattle.model.specs.Refusals.{noRefusal}
 use Rattle.model.specs.Limits.{topValue}
 use Rattle.model.specs.Messages.{noMessage, isProbe}
-use Rattle.model.specs.Counters.{Counter, unreported}
-use Rattle.model.specs.Site.{SiteStep, arrivalRefusal, reportsItem, observed, siteReceives}
+use Rattle.model.specs.Counters.{Counter, unreported, goneWith}
+use Rattle.model.specs.Site.{SiteStep, arrivalRefusal, leavingFor, reportsItem, observed, siteReceives}
 use Rattle.model.specs.SiteMemory.{siteIn, siteRecord, siteMemory}
 use Rattle.site_counters.specs.declared.StoredCounter.{StoredCounter}
 use Rattle.site_counters.specs.Stored.{counterOf}
+use Rattle.site_counters.specs.Count.{PartsWithin}
 use Rattle.site_memory.specs.Ready.{StepReady}
 use Rattle.site_steps.specs.declared.Observed.{Observed}
 use Rattle.site_steps.specs.declared.Replied.{Replied}
@@ -33,7 +34,7 @@ use Rattle.site_steps.specs.declared.StoredArrival.{StoredArrival}
 -- The counter lies within the memory, and its parts within its count.
 pub record ReportAsks (memory : List ℕ) (place : ℕ) (counter : Counter) : Type 0 where
   pub fits : 4 * place + 4 ≤ length memory
-  pub parts-within : counter .overestimate + counter .reported ≤ counter .count
+  pub parts-within : PartsWithin counter
 
 -- Whether the unreported arrivals reach the threshold; then "sent grows by it".
 pub record ReportSays
@@ -90,7 +91,8 @@ abbrev pub observedIn : Settings → SiteRecord → Arrival → List ℕ → Sit
 observedIn settings numbers arrival memory =
     observed settings (siteIn settings numbers memory) arrival
 
--- What stands in memory after an arrival; the counters in use and whether its item is reported.
+-- What stands in memory after an arrival; the counters in use, whether its item is reported, and
+-- how many unreported arrivals went with an item that left.
 pub record StoreSays
     (settings : Settings)
     (numbers : SiteRecord)
@@ -100,6 +102,8 @@ pub record StoreSays
   pub used-then : answer .used
       ≡ length (observedIn settings numbers arrival before .site .counters)
   pub due-is : answer .due ≡ reportsItem settings (siteIn settings numbers before) arrival
+  pub gone-is : answer .gone
+      ≡ goneWith (leavingFor settings (siteIn settings numbers before) arrival)
   pub memory : after
       ≡ siteMemory settings (observedIn settings numbers arrival before .site) before
 

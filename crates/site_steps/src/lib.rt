@@ -25,6 +25,8 @@ use model::Settings;
 use model::SiteRecord;
 use model::Word;
 use site_counters::StoredCounter;
+use site_counters::gone_with;
+use site_counters::unreported_of;
 
 // What an arrival leads to: the site's record then, and the messages that go out, of which there
 // are `count`; an absent one is all zeros.
@@ -49,7 +51,7 @@ fn report_counter(memory: &mut [Word], place: usize, counter: StoredCounter, thr
     requires { ⌜ ReportAsks (now memory) place (counterOf counter) ⌝ }
     ensures { λ r. ⌜ StoredReportSays (before memory) (after memory) place counter threshold r ⌝ }
 {
-    let unreported = counter.count - counter.overestimate - counter.reported;
+    let unreported = unreported_of(counter);
     if threshold <= unreported as u64 {
         let amount = threshold as Word;
         let last = 4 * place + 3;
@@ -134,10 +136,12 @@ fn gather(
     }
 }
 
-// What an arrival stored: the counters in use then, and whether its item is to be reported.
+// What an arrival stored: the counters in use then, whether its item is to be reported, and how
+// many unreported arrivals went with an item that left.
 pub struct StoredArrival {
     pub used: usize,
     pub due: bool,
+    pub gone: Word,
 }
 
 // An arrival in a site's memory: its item counted, and reported if that is due; its value counted.
@@ -158,9 +162,12 @@ fn store_arrival(
     let item_due = report_counter(memory, place, counted.counter, site.threshold);
     let value_place = 4 * capacity + (arrival.value as usize);
     count_value(memory, value_place);
+    let leaving = counted.leaving;
+    let gone = gone_with(leaving);
     StoredArrival {
         used: counted.used,
         due: item_due,
+        gone: gone,
     }
 }
 
@@ -185,6 +192,7 @@ pub fn observe_step(
         pending: pending_after(site.threshold, pending),
         threshold: site.threshold,
         used: stored.used as u64,
+        dropped: site.dropped + (stored.gone as u64),
     };
     let item_report = item_report_of(arrival.site, arrival.item, site.threshold);
     let count_report = count_report_of(arrival.site, site.threshold, value);
@@ -210,6 +218,7 @@ pub fn receive_step(
             pending: 0,
             threshold: site.threshold,
             used: site.used,
+            dropped: site.dropped,
         };
         return Replied {
             refusal: NO_REFUSAL,
@@ -234,6 +243,7 @@ pub fn receive_step(
         pending: site.pending,
         threshold: message.a,
         used: site.used,
+        dropped: site.dropped,
     };
     Replied {
         refusal: NO_REFUSAL,

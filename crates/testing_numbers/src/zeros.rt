@@ -32,6 +32,7 @@ pub fn zero_site() -> SiteRecord
         pending: 0,
         threshold: 0,
         used: 0,
+        dropped: 0,
     }
 }
 
@@ -44,6 +45,7 @@ pub fn zero_sites() -> Sites
         pending: 0,
         threshold: 0,
         used: 0,
+        dropped: 0,
     };
     Sites {
         records: [zero; SITE_RECORDS],

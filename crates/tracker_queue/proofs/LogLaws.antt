@@ -8,7 +8,7 @@ use mathlib.Core.List.{List, [], _∷_, _++_}
 use Prim.Native.Nat.{ℕ, _+_, _*_, _≤_}
 use native.Mathlib.Omega.{arith}
 use lib.ListN.{length}
-use Rattle.laws.proofs.Fronts.{overwritten-sets, four-stores}
+use Rattle.laws.proofs.Fronts.{overwritten-sets, row-stores}
 use Rattle.model.specs.declared.Message.{Message}
 use Rattle.model.specs.Messages.{messageWidth}
 use Rattle.model.specs.SiteMemory.{overwrite}
@@ -35,8 +35,8 @@ pub putRecord-append : (messages : List Message) (m : Message) (log : List ℕ)
     → putRecord (overwrite (messageNumbers messages) log) (length messages) m
     ≡ overwrite (messageNumbers (messages ++ (m ∷ []))) log
 putRecord-append messages m log room =
-    four-stores (overwrite (messageNumbers messages) log) (messageWidth * length messages)
-    (m .kind) (m .site) (m .a) (m .b)
+    row-stores (overwrite (messageNumbers messages) log) (messageWidth * length messages)
+    (m .kind) (m .site ∷ (m .a ∷ (m .b ∷ [])))
     ∙ overwritten-sets (messageNumbers messages) (messageNumbers (m ∷ [])) log
     (messageWidth * length messages) (length-messageNumbers messages) room
     ∙ ap (λ (l : List ℕ). overwrite l log) (messageNumbers-snoc messages m)

@@ -1,13 +1,15 @@
 //! Safe functions over the calls that `libtesting.a` and `libtesting_batches.a` export. Records are
-//! plain numbers: settings six, a site's record four, all sites 129, the coordinator's record ten,
-//! a message four. Lent numbers may be more; the rest is not looked at. A call answers document
-//! 01's refusal, or [`UNFIT`] where what it is lent does not fit the boundary.
+//! plain numbers: settings six, a site's record [`SITE_NUMBERS`], all sites [`SITES_NUMBERS`], the
+//! coordinator's record ten, a message four. Lent numbers may be more; the rest is not looked at.
+//! A call answers document 01's refusal, or [`UNFIT`] where what it is lent does not fit the
+//! boundary.
 
 mod batch;
 mod delivery;
 
 pub use batch::{run_batch, Arrival, Batch};
 pub use delivery::{deliver_arrival, Delivery};
+pub use reference::site::{SITES_NUMBERS, SITE_NUMBERS};
 
 /// The answer where lent numbers are too few, or don't fit the record's types.
 pub const UNFIT: u32 = 255;

@@ -1,5 +1,6 @@
 //! Whole runs from a fresh start by single calls, every one of them made on the proved code and on
-//! the separate implementation. In mid-delivery junk calls and damaged memory are tried on copies.
+//! the separate implementation, with request N1's equation after each. In mid-delivery junk calls
+//! and damaged memory are tried on copies.
 
 mod both;
 mod forge;
@@ -13,6 +14,7 @@ use forge::{any, damage_coordinator, damage_site, Coordinator, Site};
 use reference::coordinator::Phase;
 use reference::message::{Arrival, Message, COUNT_REPORT, ITEM_REPORT, POLL_ANSWER, PROBE_ANSWER};
 use reference::refusal::ACCEPTED;
+use support::account::Account;
 use support::streams::{Source, ALL};
 use support::{arrival, message, Random, TestNetwork};
 
@@ -20,6 +22,7 @@ use support::{arrival, message, Random, TestNetwork};
 struct Run {
     numbers: [u32; 6],
     network: TestNetwork,
+    account: Account,
     both: Both,
     random: Random,
 }
@@ -32,7 +35,8 @@ impl Run {
         network.coordinator_memory.fill(77);
         assert_eq!(both.start_sites(numbers, &mut network.site_memory), ACCEPTED);
         assert_eq!(both.start_coordinator(numbers, &mut network.coordinator_memory), ACCEPTED);
-        Run { numbers, network, both, random: Random::new(seed) }
+        let account = Account::start(&network.settings);
+        Run { numbers, network, account, both, random: Random::new(seed) }
     }
 
     /// A site's memory, which reaches to the end of all sites' memory.
@@ -116,21 +120,30 @@ impl Run {
         self.both.receive_at_coordinator(settings, sent, &mut record, &mut memory);
     }
 
+    /// Request N1 after a call, and the messages that went out in it.
+    fn adding_up(&mut self, sent: Vec<Message>) -> Vec<Message> {
+        self.account.add(&sent);
+        self.account.check(&self.network);
+        sent
+    }
+
     /// An arrival with full delivery; junk is tried now and then.
     fn take(&mut self, next: Arrival) {
-        let mut waiting = VecDeque::from(self.observe(next));
+        let sent = self.observe(next);
+        let mut waiting = VecDeque::from(self.adding_up(sent));
         loop {
             if self.random.one_in(10) {
                 self.try_junk();
             }
             let announcing = matches!(self.network.coordinator.phase, Phase::Announcing { .. });
-            if announcing && (waiting.is_empty() || self.random.one_in(2)) {
-                waiting.extend(self.next_announcement());
+            let sent = if announcing && (waiting.is_empty() || self.random.one_in(2)) {
+                self.next_announcement()
             } else if let Some(sent) = waiting.pop_front() {
-                waiting.extend(self.hand_over(sent));
+                self.hand_over(sent)
             } else {
                 return;
-            }
+            };
+            waiting.extend(self.adding_up(sent));
         }
     }
 }

@@ -1,7 +1,8 @@
 //! Histories of batches cut anyhow, single arrivals and junk calls, from a fresh start, on the
 //! proved code and on the separate implementation: after every call answers, records, memory and
 //! logs are the same, and at rest the readings too. Demands 2 and 3 are held against exact counts,
-//! and request N10 after each arrival, with the most of the leeway that a listed item used.
+//! request N1 after each call, and N10 after each arrival, with the most of the leeway that a
+//! listed item used.
 
 mod both;
 mod forge;

@@ -1,5 +1,5 @@
-//! Document 01's instances P2 to P5 by the batch call on the proved code, and what of a batch does
-//! not fit the boundary.
+//! Document 01's instances P2 to P5 by the batch call on the proved code, request N1's of a code
+//! that leaves unsent, and what of a batch does not fit the boundary.
 
 use boundary::*;
 
@@ -7,6 +7,8 @@ const A: [u32; 6] = [1, 1000, 1000, 500, 6, 10];
 const SITE_WORDS: usize = 4 * 6 + 1024;
 const COORDINATOR_WORDS: usize = 10 + 1024;
 const P2: Arrival = Arrival { site: 0, item: 7, value: 3 };
+/// The place of the message count in the numbers of all sites.
+const MESSAGES: usize = SITES_NUMBERS - 1;
 
 /// A network under settings A with a log for eight arrivals.
 #[derive(Clone, Debug, PartialEq)]
@@ -22,7 +24,7 @@ struct Network {
 impl Network {
     fn start() -> Network {
         let mut network = Network {
-            sites: vec![77; 129],
+            sites: vec![77; SITES_NUMBERS],
             coordinator: vec![77; 10],
             site_memory: vec![77; SITE_WORDS],
             coordinator_memory: vec![77; COORDINATOR_WORDS],
@@ -60,6 +62,11 @@ impl Network {
     fn threshold(&self) -> u64 {
         self.coordinator[2]
     }
+
+    /// Draws, pending, threshold, slots in use and forgotten draws of the only deck.
+    fn record(&self) -> &[u64] {
+        &self.sites[..SITE_NUMBERS]
+    }
 }
 
 #[test]
@@ -70,7 +77,7 @@ fn one_draw_of_p2() {
     let messages = [[1, 0, 7, 1], [2, 0, 1, 3], [3, 0, 0, 0], [4, 0, 0, 0], [7, 0, 1, 1]];
     assert_eq!(network.log[..20], messages.concat());
     assert!(network.log[20..].iter().all(|&number| number == 77));
-    assert_eq!(network.sites[128], 5);
+    assert_eq!(network.sites[MESSAGES], 5);
     let (mut list, mut out) = ([77; 3], [77; 2]);
     let Network { coordinator, coordinator_memory, .. } = &network;
     assert_eq!(list_heavy_hitters(&A, coordinator, coordinator_memory, &mut list, &mut out), 0);
@@ -83,7 +90,7 @@ fn one_draw_of_p2() {
 fn six_and_eight_draws_of_p3_and_p4() {
     let mut network = Network::start();
     assert_eq!(network.messages(&[P2; 6]), [5, 5, 5, 5, 5, 25]);
-    assert_eq!((network.sites[128], network.threshold()), (50, 2));
+    assert_eq!((network.sites[MESSAGES], network.threshold()), (50, 2));
     assert_eq!(network.messages(&[P2; 2]), [0, 25]);
     assert_eq!(network.threshold(), 2);
     // The same in one batch.
@@ -106,6 +113,27 @@ fn a_code_leaves_in_p5() {
     assert!(network.site_memory[4..24].iter().copied().eq(others));
     // It says nothing: the 50 messages are those of the first six, which closed at threshold 2.
     assert_eq!((network.out[0], network.out[1], network.threshold()), (7, 50, 2));
+    // Code 0 had been sent, so nothing went with it: 6 sent, 1 unsent and 0 forgotten are 7.
+    assert_eq!(network.record(), [7, 1, 2, 6, 0]);
+}
+
+/// Request N1: after six draws `0;7;3` the threshold is 2; codes 0 to 4 fill the slots, and code 5
+/// replaces code 0, which leaves with its one draw unsent.
+#[test]
+fn a_code_leaves_unsent() {
+    let mut network = Network::start();
+    let others = (0..6).map(|item| Arrival { site: 0, item, value: 3 });
+    let arrivals: Vec<Arrival> = [P2; 6].into_iter().chain(others).collect();
+    assert_eq!(network.messages(&arrivals[..11]), [5, 5, 5, 5, 5, 25, 0, 24, 0, 24, 0]);
+    assert_eq!(network.site_memory[4..8], [0, 1, 0, 0]);
+    assert_eq!(network.record(), [11, 1, 3, 6, 0]);
+    assert_eq!(network.messages(&arrivals[11..]), [0]);
+    assert_eq!(network.site_memory[4..8], [5, 2, 1, 0]);
+    assert_eq!(network.record(), [12, 2, 3, 6, 1]);
+    // 6 sent of code 7, one unsent each of codes 1 to 5, and 1 forgotten are the 12 draws.
+    let slots = network.site_memory[..24].chunks_exact(4);
+    let unsent: Vec<u32> = slots.map(|slot| slot[1] - slot[2] - slot[3]).collect();
+    assert_eq!((network.coordinator_memory[7], unsent), (6, vec![0, 1, 1, 1, 1, 1]));
 }
 
 /// Lent numbers that are too few for the boundary itself: 255, and nothing is changed.
@@ -113,12 +141,12 @@ fn a_code_leaves_in_p5() {
 fn short_arrays_of_a_batch() {
     let fresh = Network::start();
     for (sites, coordinator, out, settings) in [
-        (128, 10, 2, 6),
+        (SITES_NUMBERS - 1, 10, 2, 6),
         (0, 10, 2, 6),
-        (129, 9, 2, 6),
-        (129, 10, 1, 6),
-        (129, 10, 0, 6),
-        (129, 10, 2, 5),
+        (SITES_NUMBERS, 9, 2, 6),
+        (SITES_NUMBERS, 10, 1, 6),
+        (SITES_NUMBERS, 10, 0, 6),
+        (SITES_NUMBERS, 10, 2, 5),
     ] {
         let mut network = fresh.clone();
         network.sites.truncate(sites);

@@ -4,7 +4,7 @@
 use boundary::*;
 
 const A: [u32; 6] = [1, 1000, 1000, 500, 6, 10];
-const FRESH_SITE: [u64; 4] = [0, 0, 1, 0];
+const FRESH_SITE: [u64; SITE_NUMBERS] = [0, 0, 1, 0, 0];
 const FRESH_COORDINATOR: [u64; 10] = [0, 0, 1, 0, 0, 0, 0, 0, 0, 0];
 const SITE_WORDS: usize = 4 * 6 + 1024;
 const COORDINATOR_WORDS: usize = 10 + 1024;
@@ -26,14 +26,14 @@ fn for_short(least: &[usize], accepted: u32, call: impl Fn(&[usize]) -> u32) {
 
 #[test]
 fn short_arrays_at_sites() {
-    for_short(&[6, 129], 0, |lengths| {
+    for_short(&[6, SITES_NUMBERS], 0, |lengths| {
         let (mut memory, mut sites) = (vec![77; SITE_WORDS], vec![77; lengths[1]]);
         let answer = start_sites(&A[..lengths[0]], &mut memory, &mut sites);
         let changed = memory != [77; SITE_WORDS] || sites.iter().any(|&number| number != 77);
         assert_eq!(changed, answer != UNFIT);
         answer
     });
-    for_short(&[6, 4, 9], 0, |lengths| {
+    for_short(&[6, SITE_NUMBERS, 9], 0, |lengths| {
         let mut site = FRESH_SITE[..lengths[1]].to_vec();
         let (mut memory, mut out) = (vec![0; SITE_WORDS], vec![77; lengths[2]]);
         let settings = &A[..lengths[0]];
@@ -44,7 +44,7 @@ fn short_arrays_at_sites() {
         assert_eq!(same, answer == UNFIT);
         answer
     });
-    for_short(&[6, 4, 5], 0, |lengths| {
+    for_short(&[6, SITE_NUMBERS, 5], 0, |lengths| {
         let mut site = FRESH_SITE[..lengths[1]].to_vec();
         let (memory, mut out) = (vec![0; SITE_WORDS], vec![77; lengths[2]]);
         let settings = &A[..lengths[0]];
@@ -96,7 +96,7 @@ fn short_arrays_at_the_coordinator() {
 #[test]
 fn short_arrays_of_a_delivery() {
     let fresh_sites = [&[FRESH_SITE; 32].concat()[..], &[0]].concat();
-    for_short(&[6, 129, 10, 2], 0, |lengths| {
+    for_short(&[6, SITES_NUMBERS, 10, 2], 0, |lengths| {
         let mut sites = fresh_sites.clone();
         sites.truncate(lengths[1]);
         let mut coordinator = FRESH_COORDINATOR[..lengths[2]].to_vec();

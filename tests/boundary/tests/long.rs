@@ -1,6 +1,6 @@
 //! Long runs of batches on the proved code and on the separate implementation, from a fresh start:
-//! the same after every batch, and demands 2 and 3 held against exact counts now and then. They
-//! are not in the gate; `tests/long.sh` runs them.
+//! the same after every batch, and demands 2 and 3 held against exact counts now and then, and
+//! request N1. They are not in the gate; `tests/long.sh` runs them.
 
 mod both;
 #[path = "../../../bench/src/streams.rs"]
@@ -13,6 +13,7 @@ use std::time::Instant;
 use both::Both;
 use reference::refusal::{ACCEPTED, SHORT_LOG};
 use streams::{Source, ALL};
+use support::account::Account;
 use support::truth::Truth;
 use support::{Random, TestNetwork};
 
@@ -41,6 +42,7 @@ fn run(both: &mut Both, settings: [u32; 6], source: &mut Source, arrivals: u64, 
     let mut random = Random::new(seed);
     let mut network = TestNetwork::start(settings);
     let mut truth = Truth::new(&network.settings);
+    let mut account = Account::start(&network.settings);
     let needed = network.settings.messages_per_arrival();
     let mut waiting = Vec::new();
     while truth.arrivals < arrivals {
@@ -48,17 +50,20 @@ fn run(both: &mut Both, settings: [u32; 6], source: &mut Source, arrivals: u64, 
             waiting = source.take(random.between(1, 2000) as usize);
         }
         let places = needed + random.below(8 * waiting.len() as u64) as usize;
-        let (answer, _) = both.run_batch(&mut network, &waiting, 4 * places);
+        let (answer, written) = both.run_batch(&mut network, &waiting, 4 * places);
         assert!([ACCEPTED, SHORT_LOG].contains(&answer.refusal));
         for next in waiting.drain(..answer.accepted) {
             truth.count(&network.settings, &next, 0);
         }
         truth.messages += answer.written as u64;
+        account.add(&written);
         if random.one_in(CHECKED) {
             truth.check(&network);
+            account.check(&network);
         }
     }
     truth.check(&network);
+    account.check(&network);
     assert_eq!(network.sites.messages, truth.messages);
     truth.messages
 }

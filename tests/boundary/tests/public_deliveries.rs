@@ -2,7 +2,8 @@
 //! implementation: after every arrival answers, records and memory are the same. In histories from
 //! a fresh start every delivery comes to rest, and the batch call leaves the same network and
 //! writes the same messages. Networks that never arose are tried as well, damaged ones, and such as
-//! are near the coordinator's limit, where alone a delivery stops on its way.
+//! are near the coordinator's limit. There a delivery may stop on its way, and at a site that
+//! forgets more than it took (`forged_forgotten.rs`), but nowhere else.
 
 mod both;
 mod forge;
@@ -14,6 +15,7 @@ use forge::networks::{damage_network, some_network};
 use reference::coordinator::MAX_NUMBER;
 use reference::message::{Arrival, Message};
 use reference::refusal::*;
+use support::account::Account;
 use support::streams::{Source, Stream, ALL};
 use support::{arrival, Random, TestNetwork};
 
@@ -24,6 +26,7 @@ struct Trial {
     /// Arrivals that the batches are still to take, with their messages.
     waiting: Vec<Arrival>,
     sent: Vec<Message>,
+    account: Account,
     /// How many arrivals were accepted, and how many messages followed.
     accepted: usize,
     messages: usize,
@@ -38,8 +41,15 @@ impl Trial {
         singles.coordinator_memory.extend([8, 9]);
         assert_eq!(both.start_sites(numbers, &mut singles.site_memory), ACCEPTED);
         assert_eq!(both.start_coordinator(numbers, &mut singles.coordinator_memory), ACCEPTED);
-        let batches = singles.clone();
-        Trial { singles, batches, waiting: Vec::new(), sent: Vec::new(), accepted: 0, messages: 0 }
+        Trial {
+            batches: singles.clone(),
+            account: Account::start(&singles.settings),
+            singles,
+            waiting: Vec::new(),
+            sent: Vec::new(),
+            accepted: 0,
+            messages: 0,
+        }
     }
 
     /// Answers what the arrival was refused with.
@@ -51,7 +61,9 @@ impl Trial {
             assert_eq!(self.singles.refusal(), ACCEPTED, "{next:?}");
             self.accepted += 1;
             self.messages += delivered.messages.len();
+            self.account.add(&delivered.messages);
             self.sent.extend(delivered.messages);
+            self.account.check(&self.singles);
         }
         delivered.refusal
     }

@@ -4,7 +4,7 @@
 
 mod trial;
 
-use boundary::{Arrival, Batch};
+use boundary::{Arrival, Batch, SITES_NUMBERS, SITE_NUMBERS};
 use pipes::{to_bytes, MessageBytes};
 use trial::{Random, Trial};
 
@@ -22,7 +22,7 @@ fn batched(settings: [u32; 6], worklist: &[[u32; 3]]) -> Batched {
     let [k, _, _, _, c, u] = settings.map(|number| number as usize);
     let site_words = 4 * c + 1024;
     let (mut site_memory, mut coordinator_memory) = (vec![0; k * site_words], vec![0; u + 1024]);
-    let (mut sites, mut coordinator) = (vec![0; 129], vec![0; 10]);
+    let (mut sites, mut coordinator) = (vec![0; SITES_NUMBERS], vec![0; 10]);
     let (mut log, mut out) = (vec![0; 4 * (23 * k + 2) * worklist.len()], [0; 2]);
     assert_eq!(boundary::start_sites(&settings, &mut site_memory, &mut sites), 0);
     let refusal = boundary::start_coordinator(&settings, &mut coordinator_memory, &mut coordinator);
@@ -38,7 +38,7 @@ fn batched(settings: [u32; 6], worklist: &[[u32; 3]]) -> Batched {
         out: &mut out,
     };
     assert_eq!(boundary::run_batch(&settings, &arrivals, batch), 0);
-    assert_eq!(out, [worklist.len() as u64, sites[128]]);
+    assert_eq!(out, [worklist.len() as u64, sites[SITES_NUMBERS - 1]]);
     let (mut list, mut quantile, mut count) = (vec![0; u], [0; 2], [0]);
     let memory = &coordinator_memory;
     assert_eq!(boundary::read_quantile(&settings, &coordinator, memory, &mut quantile), 0);
@@ -48,7 +48,7 @@ fn batched(settings: [u32; 6], worklist: &[[u32; 3]]) -> Batched {
     let listed = list[..count[0] as usize].iter().map(|&item| u64::from(item));
     let site = |number: usize| {
         let memory = &site_memory[site_words * number..][..site_words];
-        let record = sites[4 * number..][..4].iter().copied();
+        let record = sites[SITE_NUMBERS * number..][..SITE_NUMBERS].iter().copied();
         record.chain(memory.iter().map(|&number| u64::from(number))).collect()
     };
     Batched {

@@ -136,7 +136,7 @@ impl Network<'_> {
     fn take_arrival(&mut self, arrival: Arrival) {
         let settings = self.settings;
         let (record, memory) = self.site(arrival.site);
-        let outgoing = site::step_arrival(settings, arrival, record, memory);
+        let outgoing = site::step_arrival(settings, arrival, record, memory, &mut None);
         for &report in outgoing.sent() {
             self.deliver(report);
         }

@@ -18,6 +18,9 @@ const OVERESTIMATE: usize = 2;
 /// Document 01's sent number of a slot.
 const REPORTED: usize = 3;
 
+/// Numbers of a site's record.
+pub const SITE_NUMBERS: usize = 5;
+
 /// A site: document 01's deck. This is its record of single numbers.
 #[derive(Clone, Copy, Debug, PartialEq, Eq)]
 pub struct SiteRecord {
@@ -29,21 +32,25 @@ pub struct SiteRecord {
     pub threshold: u64,
     /// Document 01's slots in use.
     pub used: u64,
+    /// Request N1's forgotten draws: the unsent draws of all codes that lost
+    /// their slot.
+    pub dropped: u64,
 }
 
 impl SiteRecord {
     /// The record of a site started fresh.
-    pub const FRESH: SiteRecord = SiteRecord { arrivals: 0, pending: 0, threshold: 1, used: 0 };
+    pub const FRESH: SiteRecord =
+        SiteRecord { arrivals: 0, pending: 0, threshold: 1, used: 0, dropped: 0 };
 
-    /// Draws, pending, threshold, slots in use as plain numbers.
-    pub fn to_numbers(self) -> [u64; 4] {
-        [self.arrivals, self.pending, self.threshold, self.used]
+    /// Draws, pending, threshold, slots in use, forgotten draws as plain numbers.
+    pub fn to_numbers(self) -> [u64; SITE_NUMBERS] {
+        [self.arrivals, self.pending, self.threshold, self.used, self.dropped]
     }
 
     /// The record of these plain numbers.
-    pub fn from_numbers(numbers: [u64; 4]) -> SiteRecord {
-        let [arrivals, pending, threshold, used] = numbers;
-        SiteRecord { arrivals, pending, threshold, used }
+    pub fn from_numbers(numbers: [u64; SITE_NUMBERS]) -> SiteRecord {
+        let [arrivals, pending, threshold, used, dropped] = numbers;
+        SiteRecord { arrivals, pending, threshold, used, dropped }
     }
 }
 
@@ -55,10 +62,40 @@ pub struct Sites {
     pub messages: u64,
 }
 
+/// Numbers of all sites: their records, then the count of messages.
+pub const SITES_NUMBERS: usize = SITE_NUMBERS * MAX_SITES as usize + 1;
+
 impl Sites {
     /// All records fresh and no message counted.
     pub const FRESH: Sites =
         Sites { records: [SiteRecord::FRESH; MAX_SITES as usize], messages: 0 };
+
+    /// All records one after another, then the count of messages.
+    pub fn to_numbers(&self) -> [u64; SITES_NUMBERS] {
+        let mut numbers = [self.messages; SITES_NUMBERS];
+        for (place, record) in numbers.chunks_exact_mut(SITE_NUMBERS).zip(&self.records) {
+            place.copy_from_slice(&record.to_numbers());
+        }
+        numbers
+    }
+
+    /// The records and the count of these plain numbers.
+    pub fn from_numbers(numbers: &[u64; SITES_NUMBERS]) -> Sites {
+        let mut sites = Sites { messages: numbers[SITES_NUMBERS - 1], ..Sites::FRESH };
+        for (record, place) in sites.records.iter_mut().zip(numbers.chunks_exact(SITE_NUMBERS)) {
+            *record = SiteRecord::from_numbers(place.try_into().expect("a record's numbers"));
+        }
+        sites
+    }
+}
+
+/// An item that lost its counter, and the unreported arrivals that went with it,
+/// of which there may be none: request N1's "which code left and how many unsent
+/// draws went".
+#[derive(Clone, Copy, Debug, PartialEq, Eq)]
+pub struct Departure {
+    pub item: u32,
+    pub unreported: u64,
 }
 
 /// Starts all sites: their memory becomes 0 and all 32 records fresh. A refusal
@@ -79,12 +116,24 @@ pub fn observe(
     record: &mut SiteRecord,
     memory: &mut [u32],
 ) -> Outgoing<2> {
+    observe_with_departure(settings, arrival, record, memory, &mut None)
+}
+
+/// The same; `left` gets the item that lost its counter to the arrival, or none.
+pub fn observe_with_departure(
+    settings: &Settings,
+    arrival: Arrival,
+    record: &mut SiteRecord,
+    memory: &mut [u32],
+    left: &mut Option<Departure>,
+) -> Outgoing<2> {
     let refusal = refusal::first_of(call_refusal(settings, record, memory), || {
         arrival_refusal(settings, &arrival, record)
     });
     if refusal == refusal::ACCEPTED {
-        step_arrival(settings, arrival, record, memory)
+        step_arrival(settings, arrival, record, memory, left)
     } else {
+        *left = None;
         Outgoing::none(refusal)
     }
 }
@@ -132,6 +181,7 @@ pub(crate) fn inconsistent(settings: &Settings, record: &SiteRecord, memory: &[u
         || record.arrivals > MAX_ARRIVALS
         || !(1..=MAX_ARRIVALS).contains(&record.threshold)
         || record.pending >= record.threshold
+        || record.dropped > record.arrivals
         || histogram_sum(settings, memory, MAX_VALUE) != record.arrivals
         || counters(memory, record)
             .any(|counter| counter_inconsistent(settings.universe, record, counter))
@@ -172,22 +222,27 @@ pub(crate) fn arrival_refusal(settings: &Settings, arrival: &Arrival, record: &S
     }
 }
 
-/// Takes an arrival that nothing speaks against.
+/// Takes an arrival that nothing speaks against. `left` gets the item that lost
+/// its counter to it, or none.
 pub(crate) fn step_arrival(
     settings: &Settings,
     arrival: Arrival,
     record: &mut SiteRecord,
     memory: &mut [u32],
+    left: &mut Option<Departure>,
 ) -> Outgoing<2> {
     record.arrivals += 1;
     record.pending += 1;
     memory[settings.counters_len() + arrival.value as usize] += 1;
+    let (place, departure) = count_item(settings, arrival.item, record, memory);
+    *left = departure;
+    // In memory that never arose the sum may pass the arrivals here: then the
+    // next call that looks at the site is refused.
+    record.dropped += departure.map_or(0, |departure| departure.unreported);
     let mut outgoing = Outgoing::none(refusal::ACCEPTED);
-    let start = COUNTER_NUMBERS * count_item(settings, arrival.item, record, memory);
+    let start = COUNTER_NUMBERS * place;
     let counter = &mut memory[start..start + COUNTER_NUMBERS];
-    // Unreported: document 01's unsent. The overestimate is other items'
-    // arrivals, so it is never reported.
-    let unreported = u64::from(counter[COUNT] - counter[OVERESTIMATE] - counter[REPORTED]);
+    let unreported = unreported(counter);
     if unreported >= record.threshold {
         // It was below the threshold before, so it is the threshold now.
         counter[REPORTED] += unreported as u32;
@@ -202,32 +257,44 @@ pub(crate) fn step_arrival(
     outgoing
 }
 
-/// Counts an item and answers the place of its counter.
+/// Unreported: document 01's unsent. The overestimate is other items' arrivals,
+/// so it is never reported, and is nothing that this item could lose.
+fn unreported(counter: &[u32]) -> u64 {
+    u64::from(counter[COUNT] - counter[OVERESTIMATE] - counter[REPORTED])
+}
+
+/// The slot step: counts an item. Answers the place of its counter, and what
+/// left that counter if the item replaced another.
 fn count_item(
     settings: &Settings,
     item: u32,
     record: &mut SiteRecord,
     memory: &mut [u32],
-) -> usize {
+) -> (usize, Option<Departure>) {
     let found = counters(memory, record).position(|counter| counter[ITEM] == item);
     if let Some(place) = found {
         memory[COUNTER_NUMBERS * place + COUNT] += 1;
-        return place;
+        return (place, None);
     }
-    let (place, count) = if record.used < u64::from(settings.capacity) {
+    if record.used < u64::from(settings.capacity) {
+        let place = record.used as usize;
         record.used += 1;
-        (record.used as usize - 1, 0)
-    } else {
-        least_counter(memory, record)
-    };
+        let start = COUNTER_NUMBERS * place;
+        memory[start..start + COUNTER_NUMBERS].copy_from_slice(&[item, 1, 0, 0]);
+        return (place, None);
+    }
+    let place = least_counter(memory, record);
     let start = COUNTER_NUMBERS * place;
-    memory[start..start + COUNTER_NUMBERS].copy_from_slice(&[item, count + 1, count, 0]);
-    place
+    let counter = &mut memory[start..start + COUNTER_NUMBERS];
+    let departure = Departure { item: counter[ITEM], unreported: unreported(counter) };
+    let count = counter[COUNT];
+    counter.copy_from_slice(&[item, count + 1, count, 0]);
+    (place, Some(departure))
 }
 
-/// The place and the count of the counter to replace: the least count, of
-/// equals the least item, of equals the lowest place. There is at least one.
-fn least_counter(memory: &[u32], record: &SiteRecord) -> (usize, u32) {
+/// The place of the counter to replace: the least count, of equals the least
+/// item, of equals the lowest place. There is at least one.
+fn least_counter(memory: &[u32], record: &SiteRecord) -> usize {
     let mut least = (memory[COUNT], memory[ITEM]);
     let mut least_place = 0;
     for (place, counter) in counters(memory, record).enumerate() {
@@ -237,7 +304,7 @@ fn least_counter(memory: &[u32], record: &SiteRecord) -> (usize, u32) {
             least_place = place;
         }
     }
-    (least_place, least.0)
+    least_place
 }
 
 /// Refusals 5, 9, 7 and 10 of a message for the site with number `site`, or 0.
@@ -298,6 +365,14 @@ pub struct Counter {
     pub count: u32,
     pub overestimate: u32,
     pub reported: u32,
+}
+
+impl Counter {
+    /// Document 01's unsent; 0 where overcount and sent are above the count.
+    pub fn unreported(&self) -> u64 {
+        let accounted = u64::from(self.overestimate) + u64::from(self.reported);
+        u64::from(self.count).saturating_sub(accounted)
+    }
 }
 
 /// The counter at a place of a site's memory, if the memory reaches that far.

@@ -8,7 +8,7 @@ use reference::message::Message;
 use reference::network::Sites;
 use reference::refusal::*;
 use reference::settings::{allowance, settings_refusal, threshold_of, Settings};
-use reference::site::{self, SiteRecord};
+use reference::site::{self, SiteRecord, SITES_NUMBERS, SITE_NUMBERS};
 use support::{arrival, message, Random, TestNetwork};
 
 /// Numbers at which something changes.
@@ -51,7 +51,7 @@ fn spoil(network: &mut TestNetwork, random: &mut Random) {
         let site = random.below(4) as usize;
         let record = &mut network.sites.records[site];
         let coordinator = &mut network.coordinator;
-        match random.below(13) {
+        match random.below(14) {
             0 => record.arrivals = number,
             1 => record.pending = number,
             2 => record.threshold = number,
@@ -63,7 +63,8 @@ fn spoil(network: &mut TestNetwork, random: &mut Random) {
             8 => coordinator.quantile = number,
             9 => coordinator.phase = any_phase(random),
             10 => network.sites.messages = number,
-            11 => {
+            11 => record.dropped = random.pick(&[number, record.arrivals.saturating_add(1)]),
+            12 => {
                 let place = random.below(network.site_memory.len() as u64) as usize;
                 network.site_memory[place] = number as u32;
             }
@@ -177,6 +178,9 @@ fn any_network(random: &mut Random) -> TestNetwork {
         let some = random.below(limit + 1);
         record.arrivals = random.pick(&[limit, some]);
         record.used = random.below(11);
+        // Most often so few that what the counters drop makes it no more than the arrivals.
+        let some = random.below(record.arrivals + 1);
+        record.dropped = random.pick(&[0, 0, 0, record.arrivals / 2, some, record.arrivals]);
     }
     let all: u64 = records.iter().map(|record| record.arrivals).sum();
     let some = random.below(all + 1);
@@ -219,13 +223,14 @@ fn networks_that_never_arose() {
             let answer = network.run_batch(&[next], &mut log);
             refusals[usize::from(answer.refusal)] += 1;
             if answer.refusal != ACCEPTED {
-                // An estimate passed its limit in the call before, or a site is full.
+                // An estimate or what a site forgot passed its limit in the call before, or a
+                // site is full.
                 assert!([SITE_FULL, INCONSISTENT].contains(&answer.refusal));
                 assert_eq!(network, single);
                 continue;
             }
             if network.refusal() == ACCEPTED {
-                let sent = single.observe_and_deliver(next, &mut random, |_| {});
+                let sent = single.observe_and_deliver(next, &mut random, |_, _| {});
                 assert_eq!(sent, log[..answer.written]);
                 single.sites.messages = network.sites.messages;
                 assert_eq!(single, network);
@@ -242,8 +247,10 @@ fn networks_that_never_arose() {
 fn records_as_plain_numbers() {
     let mut random = Random::new(804);
     for _ in 0..1000 {
-        let numbers = [0; 4].map(|_| any(&mut random));
+        let numbers = [0; SITE_NUMBERS].map(|_| any(&mut random));
         assert_eq!(SiteRecord::from_numbers(numbers).to_numbers(), numbers);
+        let numbers = [0; SITES_NUMBERS].map(|_| any(&mut random));
+        assert_eq!(Sites::from_numbers(&numbers).to_numbers(), numbers);
         let record = CoordinatorRecord {
             total: any(&mut random),
             base: any(&mut random),
@@ -256,6 +263,6 @@ fn records_as_plain_numbers() {
     }
     assert_eq!(Phase::from_numbers([4, 0, 0, 0, 0]), None);
     assert_eq!(Phase::Collecting { site: 3 }.to_numbers(), [1, 3, 0, 0, 0]);
-    assert_eq!(Sites::FRESH.records[31].to_numbers(), [0, 0, 1, 0]);
+    assert_eq!(Sites::FRESH.records[31].to_numbers(), [0, 0, 1, 0, 0]);
     assert_eq!(CoordinatorRecord::FRESH.to_numbers(), [0, 0, 1, 0, 0, 0, 0, 0, 0, 0]);
 }

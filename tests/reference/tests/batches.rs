@@ -5,6 +5,7 @@ mod support;
 
 use reference::message::{Arrival, Message};
 use reference::refusal::*;
+use support::account::Account;
 use support::streams::{Source, ALL};
 use support::truth::Truth;
 use support::{arrival, message, Random, TestNetwork};
@@ -66,6 +67,7 @@ fn cut_anyhow() {
             let mut alone = TestNetwork::start([sites, 500, 600, 300, 12, 20]);
             let mut batched = alone.clone();
             let mut truth = Truth::new(&alone.settings);
+            let mut account = Account::start(&alone.settings);
             let mut source = Source::new(stream, 300 + round);
             for _ in 0..40 {
                 let arrivals = random_run(&mut source, &batched, &mut random);
@@ -78,6 +80,8 @@ fn cut_anyhow() {
                 assert!(log[answer.written..].iter().all(|place| *place == UNUSED));
                 assert_eq!(batched, alone);
                 truth.check(&batched);
+                account.add(&messages);
+                account.check(&batched);
                 stopped[usize::from(refusal)] += 1;
             }
             assert_eq!(batched.sites.messages, truth.messages);

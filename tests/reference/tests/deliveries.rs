@@ -6,6 +6,7 @@ mod support;
 use reference::coordinator::Phase;
 use reference::message::Message;
 use reference::refusal::*;
+use support::account::Account;
 use support::streams::{Source, ALL};
 use support::truth::Truth;
 use support::{arrival, message, Random, TestNetwork};
@@ -26,6 +27,7 @@ fn random_settings(random: &mut Random) -> [u32; 6] {
     [sites, epsilon, random.between(epsilon, 1000), rank, capacity, random.pick(&[3, 25])]
 }
 
+/// After every call request N1's equation holds, in mid-delivery too.
 #[test]
 fn single_arrivals_do_what_batches_do() {
     let mut random = Random::new(401);
@@ -36,10 +38,14 @@ fn single_arrivals_do_what_batches_do() {
             let mut single = TestNetwork::start(numbers);
             let mut batched = single.clone();
             let mut truth = Truth::new(&single.settings);
+            let mut account = Account::start(&single.settings);
             let mut source = Source::new(stream, 500 + round);
             for _ in 0..400 {
                 let next = source.next(&single);
-                let sent = single.observe_and_deliver(next, &mut random, |_| {});
+                let sent = single.observe_and_deliver(next, &mut random, |network, sent| {
+                    account.with(sent).check(network);
+                });
+                account.add(&sent);
                 assert_eq!(sent, batched.take(&[next]));
                 assert_eq!(single, without_count(&batched));
                 truth.count(&single.settings, &next, sent.len());
@@ -63,7 +69,7 @@ fn batches_and_single_arrivals_mixed() {
         for _ in 0..400 {
             let next = source.next(&network);
             let sent = if random.one_in(2) {
-                network.observe_and_deliver(next, &mut random, |_| {})
+                network.observe_and_deliver(next, &mut random, |_, _| {})
             } else {
                 let sent = network.take(&[next]);
                 of_batches += sent.len() as u64;
@@ -184,7 +190,7 @@ fn refused_calls_in_mid_delivery() {
         let mut source = Source::new(stream, 700);
         for _ in 0..120 {
             let next = source.next(&network);
-            let sent = network.observe_and_deliver(next, &mut random, |network| {
+            let sent = network.observe_and_deliver(next, &mut random, |network, _| {
                 phases[network.coordinator.phase.to_numbers()[0] as usize] += 1;
                 refused_calls(network);
             });
@@ -235,7 +241,7 @@ fn quantile_during_the_first_halving() {
     }
     let mut seen = Vec::new();
     let mut random = Random::new(404);
-    network.observe_and_deliver(arrival(0, 1, 5), &mut random, |network| {
+    network.observe_and_deliver(arrival(0, 1, 5), &mut random, |network, _| {
         if let Phase::Probing { .. } = network.coordinator.phase {
             seen.push(network.quantile());
         }

@@ -1,10 +1,11 @@
-//! Random and adversarial runs: demands 2 and 3, and request N10, after every arrival.
+//! Random and adversarial runs: demands 2 and 3, and requests N1 and N10, after every arrival.
 
 mod support;
 
 use reference::message::Message;
 use reference::refusal;
 use reference::settings::Settings;
+use support::account::Account;
 use support::firm::LeewayUsed;
 use support::streams::{unreported, Source, Stream, ALL};
 use support::truth::Truth;
@@ -26,6 +27,7 @@ fn run_measured(
     println!("settings {numbers:?}");
     let mut network = TestNetwork::start(numbers);
     let mut truth = Truth::new(&network.settings);
+    let mut account = Account::start(&network.settings);
     let mut source = Source::new(stream, seed);
     let mut log = vec![Message::default(); network.settings.messages_per_arrival()];
     truth.check(&network);
@@ -35,6 +37,8 @@ fn run_measured(
         assert_eq!((answer.accepted, answer.refusal), (1, refusal::ACCEPTED));
         truth.count(&network.settings, &next, answer.written);
         truth.check(&network);
+        account.add(&log[..answer.written]);
+        account.check(&network);
     }
     assert_eq!(network.sites.messages, truth.messages);
     (network, truth.leeway_used)
@@ -45,6 +49,7 @@ fn run_measured(
 fn run_batches(numbers: [u32; 6], seed: u64, batches: u64) -> TestNetwork {
     let mut network = TestNetwork::start(numbers);
     let mut truth = Truth::new(&network.settings);
+    let mut account = Account::start(&network.settings);
     let mut source = Source::new(Stream::Uniform, seed);
     let mut log = vec![Message::default(); network.settings.messages_per_arrival() * 1000];
     for _ in 0..batches {
@@ -56,6 +61,8 @@ fn run_batches(numbers: [u32; 6], seed: u64, batches: u64) -> TestNetwork {
         }
         truth.messages += answer.written as u64;
         truth.check(&network);
+        account.add(&log[..answer.written]);
+        account.check(&network);
     }
     network
 }
@@ -143,12 +150,13 @@ fn largest_universe() {
     assert!(network.coordinator.threshold >= 2);
 }
 
-/// Evictions happen: the floods above would be harmless otherwise.
+/// Evictions happen, and take arrivals with them: the floods above would be harmless otherwise.
 #[test]
 fn floods_evict() {
     let network = run([1, 500, 600, 500, 12, 100], Stream::Flood, 7000, 3000);
     let record = network.sites.records[0];
     assert_eq!(record.used, 12);
+    assert!(record.dropped > 100);
     let memory = network.memory_of(0);
     let counters = (0..12).filter_map(|place| reference::site::counter_at(memory, place));
     assert!(counters.filter(|counter| counter.overestimate > 0).count() >= 11);

@@ -35,7 +35,7 @@ fn above_threshold_1() -> TestNetwork {
 }
 
 /// Each of these changes, made to site 1 by itself, is inconsistent.
-const SITE_CAUSES: [fn(&mut SiteRecord, &mut [u32]); 16] = [
+const SITE_CAUSES: [fn(&mut SiteRecord, &mut [u32]); 18] = [
     |record, _| record.used = 11,
     |record, _| record.used = u64::MAX,
     |_, memory| memory[0] = 20,
@@ -63,6 +63,8 @@ const SITE_CAUSES: [fn(&mut SiteRecord, &mut [u32]); 16] = [
     |record, _| record.pending = record.threshold,
     |record, _| record.threshold = 0,
     |record, _| record.threshold = 1_000_000_001,
+    |record, _| record.dropped = record.arrivals + 1,
+    |record, _| record.dropped = u64::MAX,
 ];
 
 #[test]
@@ -106,7 +108,8 @@ fn what_a_site_does_not_look_at() {
     network.site_memory.push(u32::MAX);
     network.coordinator_memory.push(u64::MAX);
     for record in &mut network.sites.records[2..] {
-        *record = SiteRecord { arrivals: 9, pending: 9, threshold: 0, used: u64::MAX };
+        let (used, dropped) = (u64::MAX, u64::MAX);
+        *record = SiteRecord { arrivals: 9, pending: 9, threshold: 0, used, dropped };
     }
     let before = network.clone();
     assert_eq!(network.refusal(), ACCEPTED);
@@ -121,8 +124,13 @@ fn what_a_site_does_not_look_at() {
 fn limits_of_a_site() {
     let settings = Settings::from_numbers(SETTINGS);
     let billion = 1_000_000_000;
-    let mut record =
-        SiteRecord { arrivals: billion, pending: billion - 1, threshold: billion, used: 10 };
+    let mut record = SiteRecord {
+        arrivals: billion,
+        pending: billion - 1,
+        threshold: billion,
+        used: 10,
+        dropped: billion,
+    };
     let mut memory = vec![0; SITE];
     memory[SITE - 1] = billion as u32;
     for place in 0..10 {

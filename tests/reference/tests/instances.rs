@@ -1,4 +1,5 @@
-//! Document 01's instances P1 to P10 and its two lines that are malformed.
+//! Document 01's instances P1 to P10, its two lines that are malformed, and what request N1 makes
+//! of P5 and of a code that leaves unsent.
 
 mod support;
 
@@ -74,7 +75,29 @@ fn p5_item_0_leaves() {
     assert_eq!(before[0], Some(Counter { item: 0, count: 1, overestimate: 0, reported: 1 }));
     assert_eq!(after[0], Some(replaced));
     assert_eq!(after[1..], before[1..]);
-    assert_eq!(replaced.count - replaced.overestimate - replaced.reported, 1);
+    assert_eq!(replaced.unreported(), 1);
+    // Item 0 had been reported, so nothing went with it: 6 reported, 1 unreported, 0 forgotten.
+    let record = network.sites.records[0];
+    assert_eq!((record.arrivals, record.dropped), (7, 0));
+}
+
+/// Six arrivals `0;7;3`, after which the threshold is 2, then items 0 to 4, which fill the
+/// counters, and item 5: item 0 leaves with its one arrival unreported.
+#[test]
+fn n1_item_0_leaves_unreported() {
+    let mut network = TestNetwork::start(A);
+    network.take(&[SEVEN; 6]);
+    for item in 0..5 {
+        network.take(&[arrival(0, item, 3)]);
+    }
+    let left = Counter { item: 0, count: 1, overestimate: 0, reported: 0 };
+    assert_eq!(counter_at(&network.site_memory, 1), Some(left));
+    assert_eq!(network.sites.records[0].dropped, 0);
+    network.take(&[arrival(0, 5, 3)]);
+    let replaced = Counter { item: 5, count: 2, overestimate: 1, reported: 0 };
+    assert_eq!(counter_at(&network.site_memory, 1), Some(replaced));
+    let record = network.sites.records[0];
+    assert_eq!((record.arrivals, record.dropped), (12, 1));
 }
 
 #[test]

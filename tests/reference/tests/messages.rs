@@ -174,7 +174,9 @@ fn what_comes_first_at_the_coordinator() {
 #[test]
 fn messages_at_a_site() {
     let network = at_threshold_above_1();
-    let record = network.sites.records[2];
+    let mut record = network.sites.records[2];
+    // As many are forgotten as may be, and no message changes that.
+    record.dropped = record.arrivals;
     let (threshold, pending) = (record.threshold, record.pending);
     let below = u64::from(network.memory_of(2)[40]);
     let answer = |kind, a, b| Some(message(kind, 2, a, b));

@@ -21,7 +21,7 @@ use Rattle.model.specs.declared.Phase.the-variants.{Idle}
 use Rattle.model.specs.Choice.{if_then_else_}
 use Rattle.model.specs.Refusals.{when}
 use Rattle.model.specs.Limits.{valueCount, probingMessages}
-use Rattle.model.specs.Counters.{lostBy}
+use Rattle.model.specs.Counters.{droppedBy}
 use Rattle.model.specs.Site.{Site, placementIn, reportsItem, reportsCount, observed}
 use Rattle.model.specs.Network.{Network, siteAt}
 use Rattle.model.specs.Claims.{counted}
@@ -83,7 +83,7 @@ module _ {settings : Settings} {network : Network}
 
   observed-here : ObservedOk settings threshold
       (ok .arrived (arrival .site)) (ok .reported (arrival .site)) arrival
-      itemDue (reportsCount site) (lostBy (placementIn settings site arrival) (site .counters))
+      itemDue (reportsCount site) (droppedBy (placementIn settings site arrival) (site .counters))
       site (observed settings site arrival .site)
   observed-here =
       observed-ok settings threshold (ok .arrived (arrival .site)) (ok .reported (arrival .site))

@@ -4,36 +4,23 @@
 --   unreported-bounded, arrivals-few   all unreported, and all arrivals
 --   bounded-start, bounded-grown       numbers that passed, and what they grow to
 --   estimates-few, values-few          are within their limits
-use mathlib.Core.List.{List, [], _∷_}
-use Prim.Native.Nat.{ℕ, suc, _*_, _≤_, _<_}
+use Prim.Native.Nat.{ℕ, _*_, _≤_, _<_}
 use native.Mathlib.Nat.{mul-le-mul-right}
 use native.Mathlib.Omega.{arith}
-use lib.ListN.{length}
 use Rattle.laws.proofs.Sums.{sumBelow-le, sumBelow-const}
 use Rattle.model.specs.declared.Settings.{Settings}
 use Rattle.model.specs.Limits.{mostSites, mostCapacity, siteLimit, mostArrivals}
-use Rattle.model.specs.Counters.{Counter, counterAt, unreported}
 use Rattle.model.specs.Network.{Network, siteAt}
 use Rattle.model.specs.NetworkMemory.{allArrivals}
 use Rattle.model.specs.SoundNetwork.{SoundSite, estimateOf, countOfValue, Sound}
-use Rattle.model.specs.NumberClaims.{unreportedIn, allUnreported, Grown, WithinLimit, Bounded, estimateLimit, valueCountLimit}
+use Rattle.model.specs.NumberClaims.{allUnreported, Grown, WithinLimit, Bounded, estimateLimit, valueCountLimit}
 use Rattle.model.proofs.Thresholds.SettingsLaws.{Settled}
 use Rattle.model.proofs.BetweenArrivals.SitesInvariant.{unreportedAt}
 use Rattle.model.proofs.Deliveries.ClosedSites.{sumBelow-allArrivals}
 use Rattle.model.proofs.Soundness.Together.{arrivals-bounded}
 use Rattle.model.proofs.Stages.SoundStages.{together-of-sound}
-use Rattle.model.proofs.Numbers.NumberGrowth.{unreportedIn-sum, sumBelow-allUnreported}
-
-unreportedIn-le : (counters : List Counter) (limit : ℕ)
-    → ((j : ℕ) → j < length counters → unreported (counterAt counters j) ≤ limit)
-    → unreportedIn counters ≤ length counters * limit
-unreportedIn-le [] limit each = omega arith
-unreportedIn-le (counter ∷ counters) limit each =
-    omega (
-      arith,
-      each 0 (omega arith),
-      unreportedIn-le counters limit (λ j j<. each (suc j) (omega arith)),
-    )
+use Rattle.model.proofs.Soundness.SoundCounters.{unreportedIn-sum, unreportedIn-le}
+use Rattle.model.proofs.Numbers.NumberGrowth.{sumBelow-allUnreported}
 
 module _ {settings : Settings} {network : Network}
     (fit : Settled settings) (sound : Sound settings network) where

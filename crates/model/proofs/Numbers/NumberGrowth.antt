@@ -11,23 +11,24 @@ use Prim.Native.Nat.{ℕ, zero, suc, _+_, _≤_, _<_}
 use native.Mathlib.Omega.{arith}
 use lib.Dec.{eqb}
 use lib.ListN.{length, getD, set}
-use Rattle.laws.proofs.Sums.{sumBelow, sumBelow-same, sumBelow-set, sumOf, sumOf-nil, sumOf-cons}
+use Rattle.laws.proofs.Sums.{sumBelow, sumBelow-same, sumBelow-set, sumOf}
 use Rattle.laws.proofs.Updates.{sumBelow-length}
 use Rattle.model.specs.declared.Settings.{Settings}
 use Rattle.model.specs.declared.Arrival.{Arrival}
 use Rattle.model.specs.declared.Phase.the-variants.{Idle}
 use Rattle.model.specs.Choice.{if_then_else_}
-use Rattle.model.specs.Counters.{Counter, unreported}
+use Rattle.model.specs.Counters.{unreported}
 use Rattle.model.specs.Site.{Site, freshSite, oneMoreAt, observed, reportsItem, reportedValue}
 use Rattle.model.specs.Network.{Network, siteAt}
 use Rattle.model.specs.NetworkMemory.{allArrivals}
 use Rattle.model.specs.SoundNetwork.{estimateOf, countOfValue, Sound}
-use Rattle.model.specs.NumberClaims.{unreportedIn, allUnreported, Grown}
+use Rattle.model.specs.NumberClaims.{allUnreported, Grown}
 use Rattle.model.proofs.Thresholds.SettingsLaws.{Settled}
 use Rattle.model.proofs.Deliveries.DeliveryLoops.{polled, told}
 use Rattle.model.proofs.Deliveries.ArrivalParts.{observedSites, afterItemReport, afterCountReport, ArrivalCase, noCountReport, countReported, closesOne, closesMore, networkThen}
 use Rattle.model.proofs.BetweenArrivals.SitesInvariant.{arrivalsAt, unreportedAt}
 use Rattle.model.proofs.Deliveries.ClosedSites.{sitesClosed-keeps, sumBelow-allArrivals}
+use Rattle.model.proofs.Soundness.SoundCounters.{unreportedIn-sum}
 use Rattle.model.proofs.Soundness.SoundSites.{ArrivalTaken, unreported-moves}
 
 -- ---- Lists of numbers
@@ -40,12 +41,6 @@ getD-gained (y ∷ ys) zero amount zero = omega arith
 getD-gained (y ∷ ys) zero amount (suc x) = omega arith
 getD-gained (y ∷ ys) (suc place) amount zero = omega arith
 getD-gained (y ∷ ys) (suc place) amount (suc x) = getD-gained ys place amount x
-
--- The unreported arrivals of a list of counters, as a sum and as the claim has it.
-pub unreportedIn-sum : (counters : List Counter) → sumOf unreported counters ≡ unreportedIn counters
-unreportedIn-sum [] = sumOf-nil unreported
-unreportedIn-sum (counter ∷ counters) =
-    omega (arith, sumOf-cons unreported counter counters, unreportedIn-sum counters)
 
 -- The sum by place over all sites is the claim's sum.
 pub sumBelow-allUnreported : (settings : Settings) (sites : List Site)

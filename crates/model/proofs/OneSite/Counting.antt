@@ -14,7 +14,7 @@ use lib.Seq.{getD-set-same, getD-set-other}
 use borrow.Author.Tests.{ltb-true, ltb-false}
 use Rattle.laws.proofs.Lists.{length-snoc, getD-snoc-old, getD-snoc-new}
 use Rattle.laws.proofs.Sums.{sumOf, sumOf-set, sumOf-snoc}
-use Rattle.model.specs.Counters.{Counter, noCounter, counterAt, unreported, find, leastPlace, Placement, own, unused, replaced, placementFor, placeOf, oneMoreOf, firstOf, replacing, countersAfter, lostBy}
+use Rattle.model.specs.Counters.{Counter, noCounter, counterAt, unreported, find, leastPlace, Placement, own, unused, replaced, placementFor, placeOf, oneMoreOf, firstOf, replacing, countersAfter, droppedBy}
 use Rattle.model.proofs.OneSite.CounterLaws.{Found, find-is, LeastAt, leastPlace-is}
 use Rattle.model.proofs.OneSite.DistinctItems.{Absent}
 use Rattle.model.proofs.OneSite.SpaceSaving.{Saved, GrowsAt, saved-own, saved-unused}
@@ -110,7 +110,7 @@ module _ {arrived reported : ℕ → ℕ} {capacity n item : ℕ} {counters : Li
   -- S7: own, 1 more unreported; unused, 1; replaced, 1 in the place of what was lost.
   pub counted-placed : {placement : Placement}
       → Placed capacity counters item placement
-      → Counted threshold item (placeOf placement counters) (lostBy placement counters)
+      → Counted threshold item (placeOf placement counters) (droppedBy placement counters)
       counters (countersAfter placement counters item)
   counted-placed (in-own place inside holds) =
       counted-set place 0 (oneMoreOf (counterAt counters place)) inside holds

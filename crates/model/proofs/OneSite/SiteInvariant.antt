@@ -19,7 +19,7 @@ use Rattle.model.specs.declared.Settings.{Settings}
 use Rattle.model.specs.declared.Arrival.{Arrival}
 use Rattle.model.specs.Choice.{if_then_else_}
 use Rattle.model.specs.Limits.{valueCount}
-use Rattle.model.specs.Counters.{Counter, counterAt, unreported, lostBy}
+use Rattle.model.specs.Counters.{Counter, counterAt, unreported, droppedBy}
 use Rattle.model.specs.Site.{Site, freshSite, placementIn, placeFor, countersWith, reportsItem, reportAt, reportsCount, observed, upTo, oneMoreAt}
 use Rattle.model.specs.Claims.{oneIf}
 use Rattle.model.proofs.OneSite.SpaceSaving.{Saved, GrowsAt, saved-fresh}
@@ -81,6 +81,7 @@ pub site-closed : {settings : Settings} {threshold : ℕ} {arrived reported : �
       arrivals = site .arrivals;
       pending = 0;
       threshold = threshold′;
+      dropped = site .dropped;
     })
 site-closed threshold′ rises ok = record {
   saved = ok .saved;
@@ -124,7 +125,7 @@ module _ (settings : Settings) (arrived reported : ℕ → ℕ) (site : Site) (a
   place = placeFor settings site arrival
 
   abbrev lost : ℕ
-  lost = lostBy (placementIn settings site arrival) (site .counters)
+  lost = droppedBy (placementIn settings site arrival) (site .counters)
 
   placed : Placed (settings .capacity) (site .counters) item (placementIn settings site arrival)
   placed = placementFor-is (settings .capacity) (site .counters) item some-counter
@@ -215,7 +216,7 @@ pub observed-ok : (settings : Settings) (threshold : ℕ) (arrived reported : �
     → SiteOk settings threshold arrived reported site
     → ObservedOk settings threshold arrived reported arrival
     (reportsItem settings site arrival) (reportsCount site)
-    (lostBy (placementIn settings site arrival) (site .counters)) site
+    (droppedBy (placementIn settings site arrival) (site .counters)) site
     (observed settings site arrival .site)
 observed-ok settings threshold arrived reported site arrival some-counter positive value-known ok =
     subst
@@ -223,7 +224,7 @@ observed-ok settings threshold arrived reported site arrival some-counter positi
     → SiteOk settings t arrived reported site
     → ObservedOk settings t arrived reported arrival
     (reportsItem settings site arrival) (reportsCount site)
-    (lostBy (placementIn settings site arrival) (site .counters)) site
+    (droppedBy (placementIn settings site arrival) (site .counters)) site
     (observed settings site arrival .site))
     (ok .threshold-same)
     (λ own-positive own-ok.

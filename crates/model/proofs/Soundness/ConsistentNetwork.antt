@@ -29,12 +29,12 @@ use Rattle.model.specs.Site.{Site, freshSite}
 use Rattle.model.specs.SiteMemory.{siteWords, siteIn, siteConsistent}
 use Rattle.model.specs.Coordinator.{isIdle}
 use Rattle.model.specs.CoordinatorMemory.{coordinatorWords, coordinatorConsistent}
-use Rattle.model.specs.Network.{Network}
+use Rattle.model.specs.Network.{Network, siteAt}
 use Rattle.model.specs.NetworkMemory.{sitesWords, sitesIn, networkIn, sitesConsistent, allPending, allArrivals, sameThreshold, atRestTogether, networkConsistent, networkTooShort, networkRefusal}
-use Rattle.model.specs.SoundNetwork.{SoundSite, Sound}
+use Rattle.model.specs.SoundNetwork.{SoundSite, DroppedWithin, Sound}
 use Rattle.model.proofs.Thresholds.RefusalLaws.{both-accepted, passed}
 use Rattle.model.proofs.Thresholds.TestedMemory.{consistent-of}
-use Rattle.model.proofs.Soundness.ConsistentSites.{sound-of-consistent, consistent-of-sound}
+use Rattle.model.proofs.Soundness.ConsistentSites.{sound-of-consistent, dropped-of-consistent, consistent-of-sound}
 use Rattle.model.proofs.Soundness.ConsistentCoordinator.{CoordinatorWithin, coordinator-sound-of, coordinator-within-of, coordinator-consistent-of}
 
 -- ---- The sites one after another
@@ -43,13 +43,19 @@ use Rattle.model.proofs.Soundness.ConsistentCoordinator.{CoordinatorWit
 pub record SitesRead (settings : Settings) (k : ℕ) (sites : List Site) : Type 0 where
   pub all-read : length sites ≡ k
   pub each-sound : (j : ℕ) → j < k → SoundSite settings (getD sites j freshSite)
+  -- and has forgotten no more than its arrivals
+  pub each-within : (j : ℕ) → j < k → DroppedWithin (getD sites j freshSite)
 
 pub sites-sound-of : (k : ℕ) (settings : Settings) (numbers : List SiteRecord) (memory : List ℕ)
     → k * siteWords settings ≤ length memory
     → sitesConsistent k settings numbers memory ≡ true
     → SitesRead settings k (sitesIn k settings numbers memory)
 sites-sound-of zero settings numbers memory long passes =
-    record { all-read = refl; each-sound = λ j j<. absurd (omega arith) }
+    record {
+      all-read = refl;
+      each-sound = λ j j<. absurd (omega arith);
+      each-within = λ j j<. absurd (omega arith);
+    }
 sites-sound-of (suc k) settings [] memory long passes = absurd (false≢true passes)
 sites-sound-of (suc k) settings (first ∷ others) memory long passes =
     let rows = both-true (siteConsistent settings first memory) _ passes in
@@ -65,6 +71,12 @@ sites-sound-of (suc k) settings (first ∷ others) memory long passes =
           (sitesIn k settings others (drop words memory)) first-sound
           (λ i i<. rest .each-sound i (omega (arith, rest .all-read))) j
           (omega (arith, rest .all-read));
+      each-within = λ j j<.
+          all-cons DroppedWithin freshSite (siteIn settings first memory)
+          (sitesIn k settings others (drop words memory))
+          (dropped-of-consistent settings first memory (omega arith) (rows .first-true))
+          (λ i i<. rest .each-within i (omega (arith, rest .all-read))) j
+          (omega (arith, rest .all-read));
     }
 
 sites-consistent-of : (k : ℕ) (settings : Settings) (numbers : List SiteRecord) (memory : List ℕ)
@@ -74,11 +86,13 @@ sites-consistent-of zero settings numbers memory read = refl
 sites-consistent-of (suc k) settings [] memory read = absurd (omega (arith, read .all-read))
 sites-consistent-of (suc k) settings (first ∷ others) memory read =
     rw (
-      consistent-of-sound settings first memory (read .each-sound 0 (omega arith)),
+      consistent-of-sound settings first memory (read .each-sound 0 (omega arith))
+          (read .each-within 0 (omega arith)),
       sites-consistent-of k settings others (drop (siteWords settings) memory)
           (record {
             all-read = omega (arith, read .all-read);
             each-sound = λ j j<. read .each-sound (suc j) (omega arith);
+            each-within = λ j j<. read .each-within (suc j) (omega arith);
           }),
     )
 
@@ -183,6 +197,7 @@ module _ (settings : Settings) (sites : Sites) (coordinator : CoordinatorRecord)
     pub sites-long : sitesWords settings ≤ length siteNumbers
     pub coordinator-long : coordinatorWords settings ≤ length coordinatorNumbers
     pub sound : Sound settings network
+    pub dropped-within : (j : ℕ) → j < settings .sites → DroppedWithin (siteAt network j)
     pub within : CoordinatorWithin (network .coordinator)
     pub count-within : sites .messages ≤ messageLimit
 
@@ -206,19 +221,27 @@ module _ (settings : Settings) (sites : Sites) (coordinator : CoordinatorRecord)
         sites-long = sites-long;
         coordinator-long = coordinator-long;
         sound = network-sound-of sites-long coordinator-long holds;
+        dropped-within =
+            sites-sound-of (settings .sites) settings (sites .records) siteNumbers sites-long
+            (rows .sites-row) .each-within;
         within = coordinator-within-of settings (network .coordinator) (rows .coordinator-row);
         count-within = leb-true (sites .messages) messageLimit (rows .count-row);
       }
 
   -- A sound network within the limits passes.
   pub network-consistent-of : Sound settings network
+      → ((j : ℕ) → j < settings .sites → DroppedWithin (siteAt network j))
       → CoordinatorWithin (network .coordinator)
       → sites .messages ≤ messageLimit
       → networkConsistent settings sites coordinator siteNumbers coordinatorNumbers ≡ true
-  network-consistent-of sound within few =
+  network-consistent-of sound few-dropped within few =
       rw (
         sites-consistent-of (settings .sites) settings (sites .records) siteNumbers
-            (record { all-read = sound .all-sites; each-sound = sound .sites-sound }),
+            (record {
+              all-read = sound .all-sites;
+              each-sound = sound .sites-sound;
+              each-within = few-dropped;
+            }),
         coordinator-consistent-of settings (network .coordinator) (sound .coordinator-sound)
             within,
         ap isIdle (sound .idle),

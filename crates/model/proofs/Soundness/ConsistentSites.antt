@@ -1,13 +1,16 @@
--- Refusal 11 of a site means `SoundSite`: a site's memory passes the test exactly if the site that
--- it holds is sound. Document 01, "Inconsistent".
+-- Refusal 11 of a site means `SoundSite` and `DroppedWithin`: a site's memory passes the test
+-- exactly if the site that it holds is sound and has forgotten no more than its arrivals. Document
+-- 01, "Inconsistent"; request N1.
 --
---   length-countersIn     as many counters are read as are in use
---   sound-of-consistent   memory that is long enough and passes holds a sound site
---   consistent-of-sound   memory that holds a sound site passes
+--   length-countersIn       as many counters are read as are in use
+--   sound-of-consistent     memory that is long enough and passes holds a sound site
+--   dropped-of-consistent   which has forgotten no more than its arrivals
+--   consistent-of-sound     memory that holds such a site passes
 use mathlib.Core.Path.{_≡_, refl}
 use mathlib.Core.Bool.{true}
 use mathlib.Core.List.{List, [], _∷_}
 use Prim.Native.Nat.{ℕ, zero, suc, _+_, _≤_, _<_}
+use native.Mathlib.Nat.{mul-le-mul-right}
 use native.Mathlib.Omega.{arith}
 use lib.ListN.{length, take, drop, length-drop}
 use lib.Seq.{length-take-le}
@@ -20,7 +23,8 @@ use Rattle.model.specs.Limits.{valueCount, siteLimit}
 use Rattle.model.specs.Counters.{Counter, noCounter, counterAt, unreported}
 use Rattle.model.specs.Site.{Site}
 use Rattle.model.specs.SiteMemory.{counterWords, siteWords, countersIn, siteIn, sum, counterConsistent, countersConsistent, siteConsistent}
-use Rattle.model.specs.SoundNetwork.{SoundCounter, SoundSite}
+use Rattle.model.specs.SoundNetwork.{SoundCounter, SoundSite, DroppedWithin}
+use Rattle.model.proofs.Soundness.SoundCounters.{unreportedIn-le}
 
 -- ---- Counters
 
@@ -90,33 +94,67 @@ module _ (settings : Settings) (numbers : SiteRecord) (memory : List ℕ) where
       length-take-le valueCount (drop (counterWords settings) memory)
       (omega (arith, length-drop (counterWords settings) memory))
 
-  -- Memory that is long enough and passes holds a sound site.
-  pub sound-of-consistent : siteWords settings ≤ length memory
+  -- What the rows of the test are worth.
+  record Tested : Type 0 where
+    sound : SoundSite settings site
+    dropped-within : DroppedWithin site
+
+  tested : siteWords settings ≤ length memory
       → siteConsistent settings numbers memory ≡ true
-      → SoundSite settings site
-  sound-of-consistent long passes =
-      let row-6 = both-true _ _ passes in
+      → Tested
+  tested long passes =
+      let row-7 = both-true _ _ passes in
+      let row-6 = both-true _ _ (row-7 .first-true) in
       let row-5 = both-true _ _ (row-6 .first-true) in
       let row-4 = both-true _ _ (row-5 .first-true) in
       let row-3 = both-true _ _ (row-4 .first-true) in
       let row-2 = both-true _ _ (row-3 .first-true) in
       let ends = both-true _ _ (row-6 .second-true) in
+      let few : length (site .counters) ≤ settings .capacity =
+      rw (length-countersIn (numbers .used) memory)
+      (leb-true (numbers .used) (settings .capacity) (row-2 .first-true)) in
+      let each = counters-sound settings site (site .counters) (row-2 .second-true) in
+      let small : site .threshold ≤ siteLimit = leb-true _ _ (ends .second-true) in
+      let few-dropped : DroppedWithin site = leb-true _ _ (row-7 .second-true) in
       record {
-        few-counters = rw (length-countersIn (numbers .used) memory)
-            (leb-true (numbers .used) (settings .capacity) (row-2 .first-true));
-        counters-sound = counters-sound settings site (site .counters) (row-2 .second-true);
-        histogram-length = histogram-long long;
-        histogram-sum = eqb-true _ _ (row-4 .second-true);
-        arrivals-within = leb-true _ _ (row-3 .second-true);
-        pending-below = ltb-true _ _ (row-5 .second-true);
-        threshold-positive = leb-true _ _ (ends .first-true);
-        threshold-within = leb-true _ _ (ends .second-true);
+        sound = record {
+          few-counters = few;
+          counters-sound = each;
+          histogram-length = histogram-long long;
+          histogram-sum = eqb-true _ _ (row-4 .second-true);
+          arrivals-within = leb-true _ _ (row-3 .second-true);
+          pending-below = ltb-true _ _ (row-5 .second-true);
+          threshold-positive = leb-true _ _ (ends .first-true);
+          threshold-within = small;
+          dropped-bounded =
+              omega (
+                arith,
+                few-dropped,
+                unreportedIn-le (site .counters) siteLimit
+                    (λ place place<. omega (arith, small, each place place< .unreported-below)),
+                mul-le-mul-right siteLimit few,
+              );
+        };
+        dropped-within = few-dropped;
       }
 
-  -- Memory that holds a sound site passes.
-  pub consistent-of-sound : SoundSite settings site
+  -- Memory that is long enough and passes holds a sound site.
+  pub sound-of-consistent : siteWords settings ≤ length memory
       → siteConsistent settings numbers memory ≡ true
-  consistent-of-sound sound =
+      → SoundSite settings site
+  sound-of-consistent long passes = tested long passes .sound
+
+  -- And has forgotten no more than its arrivals.
+  pub dropped-of-consistent : siteWords settings ≤ length memory
+      → siteConsistent settings numbers memory ≡ true
+      → DroppedWithin site
+  dropped-of-consistent long passes = tested long passes .dropped-within
+
+  -- Memory that holds such a site passes.
+  pub consistent-of-sound : SoundSite settings site
+      → DroppedWithin site
+      → siteConsistent settings numbers memory ≡ true
+  consistent-of-sound sound few-dropped =
       let few : numbers .used ≤ settings .capacity =
       omega (arith, length-countersIn (numbers .used) memory, sound .few-counters) in
       rw (
@@ -127,4 +165,5 @@ module _ (settings : Settings) (numbers : SiteRecord) (memory : List ℕ) where
         lt-ltb (site .pending) (site .threshold) (sound .pending-below),
         le-leb 1 (site .threshold) (sound .threshold-positive),
         le-leb (site .threshold) siteLimit (sound .threshold-within),
+        le-leb (site .dropped) (site .arrivals) few-dropped,
       )

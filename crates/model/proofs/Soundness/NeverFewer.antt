@@ -1,9 +1,9 @@
 -- What a delivery leaves of the sites: a message changes pending and threshold alone, so counters,
--- value counts and arrivals of every site stay, and an arrival makes no counter fewer. For networks
--- of any content, and whatever waits.
+-- value counts, arrivals and what was forgotten stay at every site, and an arrival makes no counter
+-- fewer. For networks of any content, and whatever waits.
 --
 --   Kept of                  no message changes this of a site
---   counters-kept, values-kept, arrivals-kept   three that are so
+--   counters-kept, values-kept, arrivals-kept, dropped-kept   four that are so
 --   steps-keep, arrival-keeps   any steps of a delivery; a whole one, after its arrival
 --   observed-grows           an arrival makes no counter fewer at its site
 --   NoFewer before after     each site has as many counters or more
@@ -40,6 +40,7 @@ withNumbers site pending threshold = record {
   arrivals = site .arrivals;
   pending = pending;
   threshold = threshold;
+  dropped = site .dropped;
 }
 
 -- A poll, a probe and an announcement change no more.
@@ -62,6 +63,9 @@ values-kept = kept-of (λ (site : Site). site .histogram) (λ site pending thres
 
 pub arrivals-kept : Kept (λ (site : Site). site .arrivals)
 arrivals-kept = kept-of (λ (site : Site). site .arrivals) (λ site pending threshold. refl)
+
+pub dropped-kept : Kept (λ (site : Site). site .dropped)
+dropped-kept = kept-of (λ (site : Site). site .dropped) (λ site pending threshold. refl)
 
 module _ {A : Type 0} {of : Site → A} (kept : Kept of) (settings : Settings) where
   -- One site exchanged for another that has the same of it.

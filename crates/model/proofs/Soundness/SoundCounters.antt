@@ -2,6 +2,7 @@
 -- they arose or not. PROOF.md S2 (its bounds) and S7, for counters of any items, equal ones
 -- included.
 --
+--   unreportedIn-sum, unreportedIn-le   all unreported as a sum, and within a limit
 --   CountersSound            few counters, each within the bounds
 --   counted-sound            an arrival counted: one counter may have reached the threshold
 --   reported-sound           its report, if it has: all are below the threshold again
@@ -10,7 +11,7 @@
 use mathlib.Core.Path.{_≡_}
 use mathlib.Core.Bool.{Bool, true, false}
 use mathlib.Core.List.{List, [], _∷_, _++_}
-use Prim.Native.Nat.{ℕ, _+_, _≤_, _<_}
+use Prim.Native.Nat.{ℕ, suc, _+_, _*_, _≤_, _<_}
 use native.Mathlib.Omega.{arith}
 use native.Mathlib.Decide.{ℕ-discrete}
 use lib.Dec.{leb}
@@ -18,12 +19,32 @@ use lib.ListN.{length, set, length-set}
 use lib.Seq.{getD-set-same, getD-set-other}
 use borrow.Author.Tests.{leb-true, leb-false}
 use Rattle.laws.proofs.Lists.{length-snoc, getD-snoc-old, getD-snoc-new, all-set}
-use Rattle.laws.proofs.Sums.{sumOf, sumOf-set, sumOf-snoc}
+use Rattle.laws.proofs.Sums.{sumOf, sumOf-nil, sumOf-cons, sumOf-set, sumOf-snoc}
 use Rattle.model.specs.Choice.{if_then_else_}
-use Rattle.model.specs.Counters.{Counter, noCounter, counterAt, unreported, Placement, placeOf, oneMoreOf, firstOf, replacing, countersAfter, lostBy, afterReport}
+use Rattle.model.specs.Counters.{Counter, noCounter, counterAt, unreported, unreportedIn, Placement, placeOf, oneMoreOf, firstOf, replacing, countersAfter, droppedBy, afterReport}
 use Rattle.model.specs.Site.{reportAt}
 use Rattle.model.specs.SoundNetwork.{SoundCounter}
 use Rattle.model.proofs.OneSite.Counting.{Placed, in-own, in-unused, in-replaced}
+
+-- ---- All unreported of a list of counters
+
+-- As a sum, and as the claims have it.
+pub unreportedIn-sum : (counters : List Counter) → sumOf unreported counters ≡ unreportedIn counters
+unreportedIn-sum [] = sumOf-nil unreported
+unreportedIn-sum (counter ∷ counters) =
+    omega (arith, sumOf-cons unreported counter counters, unreportedIn-sum counters)
+
+-- Where no counter has more than a limit.
+pub unreportedIn-le : (counters : List Counter) (limit : ℕ)
+    → ((j : ℕ) → j < length counters → unreported (counterAt counters j) ≤ limit)
+    → unreportedIn counters ≤ length counters * limit
+unreportedIn-le [] limit each = omega arith
+unreportedIn-le (counter ∷ counters) limit each =
+    omega (
+      arith,
+      each 0 (omega arith),
+      unreportedIn-le counters limit (λ j j<. each (suc j) (omega arith)),
+    )
 
 -- ---- Counters within bounds
 
@@ -97,7 +118,7 @@ module _ {u c n t item : ℕ} {counters : List Counter}
   -- Own: one more unreported. Unused: one. Replaced: one, in the place of what was lost.
   pub counted-sound : {placement : Placement}
       → Placed c counters item placement
-      → CountedSound u c n t (placeOf placement counters) (lostBy placement counters)
+      → CountedSound u c n t (placeOf placement counters) (droppedBy placement counters)
       counters (countersAfter placement counters item)
   counted-sound (in-own place inside holds) =
       let old : SoundCounter u n t (counterAt counters place) = sound .each place inside in

@@ -4,7 +4,7 @@
 --   ArrivalTaken           what an accepted arrival is known to be, at a site with room
 --   sound-fresh            a fresh site
 --   CountedAt, sound-counted   an arrival counted, before its report goes out
---   sound-observed         an arrival; what moves then: pending-moves, unreported-moves
+--   sound-observed         an arrival; what moves then: unreported-moves, pending-moves
 --   sound-polled           kind 3; sound-told kind 7 (kind 5 changes nothing)
 --   upTo-within            kind 6 never counts more than the site's arrivals
 use mathlib.Core.Path.{_≡_, refl, ap, _∙_}
@@ -21,7 +21,7 @@ use Rattle.model.specs.declared.Arrival.{Arrival}
 use Rattle.model.specs.Choice.{if_then_else_}
 use Rattle.model.specs.Refusals.{noRefusal, siteFull}
 use Rattle.model.specs.Limits.{valueCount, siteLimit}
-use Rattle.model.specs.Counters.{unreported, lostBy}
+use Rattle.model.specs.Counters.{unreported, droppedBy}
 use Rattle.model.specs.Site.{Site, freshSite, addressRefusal, roomRefusal, arrivalRefusal, oneMoreAt, placementIn, placeFor, countersWith, reportsItem, reportsCount, observed, upTo}
 use Rattle.model.specs.SiteMemory.{sum}
 use Rattle.model.specs.SoundNetwork.{SoundSite}
@@ -30,7 +30,7 @@ use Rattle.model.proofs.OneSite.Counting.{placementFor-is}
 use Rattle.model.proofs.BetweenArrivals.NetworkInvariant.{ArrivalKnown, known-of-no-refusal}
 use Rattle.model.proofs.Deliveries.DeliveryLoops.{polled, told}
 use Rattle.model.proofs.BetweenArrivals.ReportLaws.{value-counted}
-use Rattle.model.proofs.Soundness.SoundCounters.{counter-wider, CountedSound, counted-sound, reported-sound, unreported-observed}
+use Rattle.model.proofs.Soundness.SoundCounters.{unreportedIn-sum, counter-wider, CountedSound, counted-sound, reported-sound, unreported-observed}
 
 -- ---- Lists of numbers
 
@@ -86,6 +86,7 @@ sound-fresh settings = record {
   pending-below = omega arith;
   threshold-positive = omega arith;
   threshold-within = omega arith;
+  dropped-bounded = omega arith;
 }
 
 module _ {settings : Settings} {site : Site} (sound : SoundSite settings site) where
@@ -100,6 +101,7 @@ module _ {settings : Settings} {site : Site} (sound : SoundSite settings site) w
     pending-below = sound .threshold-positive;
     threshold-positive = sound .threshold-positive;
     threshold-within = sound .threshold-within;
+    dropped-bounded = sound .dropped-bounded;
   }
 
   -- Kind 7: a threshold that is no smaller, and within the limit.
@@ -117,6 +119,7 @@ module _ {settings : Settings} {site : Site} (sound : SoundSite settings site) w
     pending-below = omega (arith, sound .pending-below);
     threshold-positive = omega (arith, sound .threshold-positive);
     threshold-within = within;
+    dropped-bounded = sound .dropped-bounded;
   }
 
   -- Kind 6 counts at most the site's arrivals.
@@ -131,7 +134,7 @@ abbrev pub CountedAt : Settings → Site → Arrival → Type 0
 CountedAt settings site arrival =
     CountedSound (settings .universe) (settings .capacity) (site .arrivals) (site .threshold)
     (placeFor settings site arrival)
-    (lostBy (placementIn settings site arrival) (site .counters))
+    (droppedBy (placementIn settings site arrival) (site .counters))
     (site .counters) (countersWith settings site arrival)
 
 module _ {settings : Settings} {site : Site} {arrival : Arrival}
@@ -155,6 +158,15 @@ module _ {settings : Settings} {site : Site} {arrival : Arrival}
       value-counted (arrival .value) (taken .known .value-known) in
       omega (arith, sound .histogram-length)
 
+  -- S7 at this site: an arrival adds one, reported, unreported or forgotten.
+  pub unreported-moves : sumOf unreported (observed settings site arrival .site .counters)
+      + (if reportsItem settings site arrival then site .threshold else 0)
+      + droppedBy (placementIn settings site arrival) (site .counters)
+      ≡ sumOf unreported (site .counters) + 1
+  unreported-moves =
+      unreported-observed (sound .threshold-positive) sound-counted
+      (reportsItem settings site arrival) refl
+
   -- An accepted arrival leaves the site sound.
   pub sound-observed : SoundSite settings (observed settings site arrival .site)
   sound-observed =
@@ -172,6 +184,14 @@ module _ {settings : Settings} {site : Site} {arrival : Arrival}
         pending-below = pending-then (reportsCount site) refl;
         threshold-positive = sound .threshold-positive;
         threshold-within = sound .threshold-within;
+        dropped-bounded =
+            omega (
+              arith,
+              sound .dropped-bounded,
+              unreported-moves,
+              unreportedIn-sum (site .counters),
+              unreportedIn-sum (observed settings site arrival .site .counters),
+            );
       }
 
   -- A count report's amount is the threshold: pending reaches it exactly.
@@ -181,12 +201,3 @@ module _ {settings : Settings} {site : Site} {arrival : Arrival}
   pending-moves true due =
       omega (arith, leb-true (site .threshold) (site .pending + 1) due, sound .pending-below)
   pending-moves false not-due = omega arith
-
-  -- S7 at this site.
-  pub unreported-moves : sumOf unreported (observed settings site arrival .site .counters)
-      + (if reportsItem settings site arrival then site .threshold else 0)
-      + lostBy (placementIn settings site arrival) (site .counters)
-      ≡ sumOf unreported (site .counters) + 1
-  unreported-moves =
-      unreported-observed (sound .threshold-positive) sound-counted
-      (reportsItem settings site arrival) refl

@@ -97,7 +97,7 @@ pub record ConstantEdges : Type 0 where
       ∷ announcement 0 1 2 ∷ announcement 1 1 2 ∷ []
   -- the records after P4's seventh draw, and with a signal at two sites
   pub site-seventh : siteRecord (siteAt (runOf settingsA (draws 7) .network) 0)
-      ≡ siteNumbers 7 1 2 1
+      ≡ siteNumbers 7 1 2 1 0
   pub coordinator-seventh : coordinatorRecord (coordinatorAfter settingsA (draws 7))
       ≡ coordinatorNumbers 6 6 2 0 3 Idle
   pub coordinator-signalled : coordinatorRecord

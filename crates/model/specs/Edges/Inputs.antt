@@ -45,13 +45,14 @@ ofItem item n = replicate n (arrivalWith 0 item 3)
 
 -- ---- Records
 
--- "draws, pending, threshold, slots in use"
-abbrev pub siteNumbers : ℕ → ℕ → ℕ → ℕ → SiteRecord
-siteNumbers arrivals pending threshold used = record {
+-- "draws, pending, threshold, slots in use", and the forgotten sum
+abbrev pub siteNumbers : ℕ → ℕ → ℕ → ℕ → ℕ → SiteRecord
+siteNumbers arrivals pending threshold used dropped = record {
   arrivals = arrivals;
   pending = pending;
   threshold = threshold;
   used = used;
+  dropped = dropped;
 }
 
 -- "total, base, threshold, signals, class, and a phase"
@@ -76,6 +77,7 @@ siteAtThreshold threshold = record {
   arrivals = 0;
   pending = 0;
   threshold = threshold;
+  dropped = 0;
 }
 
 abbrev pub coordinatorAt : ℕ → Phase → Coordinator
@@ -118,7 +120,7 @@ abbrev pub networkRefusalOf : SiteRecord → List ℕ → SiteRecord → List �
 networkRefusalOf first firstCounts second secondCounts messages coordinator =
     networkRefusal settingsP6
     (record {
-      records = first ∷ (second ∷ replicate 30 (siteNumbers 9 9 9 9));
+      records = first ∷ (second ∷ replicate 30 (siteNumbers 9 9 9 9 9));
       messages = messages;
     })
     coordinator

@@ -21,6 +21,7 @@ siteWith arrivals = record {
   arrivals = arrivals;
   pending = 10;
   threshold = 11;
+  dropped = 14;
 }
 
 -- Its numbers: "for each slot a code, a count, an overcount and a sent number; then 1024 class
@@ -46,9 +47,9 @@ coordinatorWith = record {
 }
 
 pub record MemoryEdges : Type 0 where
-  -- a site: "draws, pending, threshold, slots in use", and its memory
-  pub site-record : siteRecord (siteWith 12) ≡ siteNumbers 12 10 11 2
-  pub site-read : siteIn settingsA (siteNumbers 12 10 11 2) (numbersWith 12 ++ (7 ∷ []))
+  -- a site: "draws, pending, threshold, slots in use", the forgotten sum, and its memory
+  pub site-record : siteRecord (siteWith 12) ≡ siteNumbers 12 10 11 2 14
+  pub site-read : siteIn settingsA (siteNumbers 12 10 11 2 14) (numbersWith 12 ++ (7 ∷ []))
       ≡ siteWith 12
   pub site-written : siteMemory settingsA (siteWith 12) (replicate 1050 7)
       ≡ numbersWith 12 ++ (7 ∷ 7 ∷ [])
@@ -62,17 +63,21 @@ pub record MemoryEdges : Type 0 where
       ≡ estimates ++ endCounts 40 41 ++ (7 ∷ 7 ∷ [])
   -- "the decks' memory stands one after another, deck 0 first"; A for two sites
   pub sites-read : sitesIn 2 settingsTwo
-      (siteNumbers 12 10 11 2 ∷ siteNumbers 13 10 11 2 ∷ replicate 30 (siteNumbers 9 9 9 9))
+      (siteNumbers 12 10 11 2 14
+      ∷ siteNumbers 13 10 11 2 14
+      ∷ replicate 30 (siteNumbers 9 9 9 9 9))
       (numbersWith 12 ++ (numbersWith 13 ++ (7 ∷ [])))
       ≡ siteWith 12 ∷ siteWith 13 ∷ []
   pub sites-written : sitesMemory settingsTwo (siteWith 12 ∷ siteWith 13 ∷ []) (replicate 2098 7)
       ≡ numbersWith 12 ++ (numbersWith 13 ++ (7 ∷ 7 ∷ []))
   -- the records of sites k to 31 stay
   pub records-written : siteRecords (siteWith 12 ∷ siteWith 13 ∷ [])
-      (replicate 32 (siteNumbers 9 9 9 9))
-      ≡ siteNumbers 12 10 11 2 ∷ siteNumbers 13 10 11 2 ∷ replicate 30 (siteNumbers 9 9 9 9)
+      (replicate 32 (siteNumbers 9 9 9 9 9))
+      ≡ siteNumbers 12 10 11 2 14
+      ∷ siteNumbers 13 10 11 2 14
+      ∷ replicate 30 (siteNumbers 9 9 9 9 9)
   -- "Started fresh, every number is 0 .., every threshold 1": 32 records, no message
-  pub fresh-records : freshSites .records ≡ replicate 32 (siteNumbers 0 0 1 0)
+  pub fresh-records : freshSites .records ≡ replicate 32 (siteNumbers 0 0 1 0 0)
   pub fresh-messages : freshSites .messages ≡ 0
   pub fresh-coordinator : coordinatorRecord (freshCoordinator settingsP6)
       ≡ coordinatorNumbers 0 0 1 0 0 Idle

@@ -15,37 +15,37 @@ use Rattle.model.specs.Edges.Sites.{siteHaving}
 
 -- P6's settings: two sites that hold no code; at threshold 2 with the base 120 that gives it.
 pub record NetworkEdges : Type 0 where
-  pub at-rest : networkRefusalOf (siteNumbers 0 0 1 0) (endCounts 0 0)
-      (siteNumbers 0 0 1 0) (endCounts 0 0) 0 freshNumbers ≡ 0
+  pub at-rest : networkRefusalOf (siteNumbers 0 0 1 0 0) (endCounts 0 0)
+      (siteNumbers 0 0 1 0 0) (endCounts 0 0) 0 freshNumbers ≡ 0
   -- a site that is inconsistent by itself, the first or the last; records 2 to 31 are not read
-  pub first-site : networkRefusalOf (siteNumbers 0 0 0 0) (endCounts 0 0)
-      (siteNumbers 0 0 1 0) (endCounts 0 0) 0 freshNumbers ≡ 11
-  pub last-site : networkRefusalOf (siteNumbers 0 0 1 0) (endCounts 0 0)
-      (siteNumbers 0 0 1 0) (endCounts 0 1) 0 freshNumbers ≡ 11
-  pub coordinator : networkRefusalOf (siteNumbers 0 0 1 0) (endCounts 0 0)
-      (siteNumbers 0 0 1 0) (endCounts 0 0) 0 (coordinatorNumbers 0 0 1 2 0 Idle) ≡ 11
+  pub first-site : networkRefusalOf (siteNumbers 0 0 0 0 0) (endCounts 0 0)
+      (siteNumbers 0 0 1 0 0) (endCounts 0 0) 0 freshNumbers ≡ 11
+  pub last-site : networkRefusalOf (siteNumbers 0 0 1 0 0) (endCounts 0 0)
+      (siteNumbers 0 0 1 0 0) (endCounts 0 1) 0 freshNumbers ≡ 11
+  pub coordinator : networkRefusalOf (siteNumbers 0 0 1 0 0) (endCounts 0 0)
+      (siteNumbers 0 0 1 0 0) (endCounts 0 0) 0 (coordinatorNumbers 0 0 1 2 0 Idle) ≡ 11
   -- "the bench's message count above 100,000,000,000,000"
-  pub messages-limit : networkRefusalOf (siteNumbers 0 0 1 0) (endCounts 0 0)
-      (siteNumbers 0 0 1 0) (endCounts 0 0) 100000000000000 freshNumbers ≡ 0
-  pub messages-above : networkRefusalOf (siteNumbers 0 0 1 0) (endCounts 0 0)
-      (siteNumbers 0 0 1 0) (endCounts 0 0) 100000000000001 freshNumbers ≡ 11
+  pub messages-limit : networkRefusalOf (siteNumbers 0 0 1 0 0) (endCounts 0 0)
+      (siteNumbers 0 0 1 0 0) (endCounts 0 0) 100000000000000 freshNumbers ≡ 0
+  pub messages-above : networkRefusalOf (siteNumbers 0 0 1 0 0) (endCounts 0 0)
+      (siteNumbers 0 0 1 0 0) (endCounts 0 0) 100000000000001 freshNumbers ≡ 11
   -- "desk not idle"
-  pub not-idle : networkRefusalOf (siteNumbers 0 0 1 0) (endCounts 0 0)
-      (siteNumbers 0 0 1 0) (endCounts 0 0) 0 (coordinatorNumbers 0 0 1 2 0 (Announcing 0)) ≡ 11
+  pub not-idle : networkRefusalOf (siteNumbers 0 0 1 0 0) (endCounts 0 0)
+      (siteNumbers 0 0 1 0 0) (endCounts 0 0) 0 (coordinatorNumbers 0 0 1 2 0 (Announcing 0)) ≡ 11
   -- "thresholds unequal"
-  pub threshold-first : networkRefusalOf (siteNumbers 0 0 2 0) (endCounts 0 0)
-      (siteNumbers 0 0 1 0) (endCounts 0 0) 0 freshNumbers ≡ 11
-  pub threshold-last : networkRefusalOf (siteNumbers 0 0 1 0) (endCounts 0 0)
-      (siteNumbers 0 0 2 0) (endCounts 0 0) 0 freshNumbers ≡ 11
-  pub threshold-lower : networkRefusalOf (siteNumbers 60 0 2 0) (endCounts 60 0)
-      (siteNumbers 60 0 1 0) (endCounts 60 0) 0 (coordinatorNumbers 120 120 2 0 3 Idle) ≡ 11
+  pub threshold-first : networkRefusalOf (siteNumbers 0 0 2 0 0) (endCounts 0 0)
+      (siteNumbers 0 0 1 0 0) (endCounts 0 0) 0 freshNumbers ≡ 11
+  pub threshold-last : networkRefusalOf (siteNumbers 0 0 1 0 0) (endCounts 0 0)
+      (siteNumbers 0 0 2 0 0) (endCounts 0 0) 0 freshNumbers ≡ 11
+  pub threshold-lower : networkRefusalOf (siteNumbers 60 0 2 0 0) (endCounts 60 0)
+      (siteNumbers 60 0 1 0 0) (endCounts 60 0) 0 (coordinatorNumbers 120 120 2 0 3 Idle) ≡ 11
   -- "total plus all pendings other than all draws": 120 and 1 are 121
-  pub all-counted : networkRefusalOf (siteNumbers 60 0 2 0) (endCounts 60 0)
-      (siteNumbers 61 1 2 0) (endCounts 61 0) 0 (coordinatorNumbers 120 120 2 0 3 Idle) ≡ 0
-  pub pending-lost : networkRefusalOf (siteNumbers 60 0 2 0) (endCounts 60 0)
-      (siteNumbers 61 0 2 0) (endCounts 61 0) 0 (coordinatorNumbers 120 120 2 0 3 Idle) ≡ 11
-  pub total-more : networkRefusalOf (siteNumbers 60 0 2 0) (endCounts 60 0)
-      (siteNumbers 61 1 2 0) (endCounts 61 0) 0 (coordinatorNumbers 121 120 2 0 3 Idle) ≡ 11
+  pub all-counted : networkRefusalOf (siteNumbers 60 0 2 0 0) (endCounts 60 0)
+      (siteNumbers 61 1 2 0 0) (endCounts 61 0) 0 (coordinatorNumbers 120 120 2 0 3 Idle) ≡ 0
+  pub pending-lost : networkRefusalOf (siteNumbers 60 0 2 0 0) (endCounts 60 0)
+      (siteNumbers 61 0 2 0 0) (endCounts 61 0) 0 (coordinatorNumbers 120 120 2 0 3 Idle) ≡ 11
+  pub total-more : networkRefusalOf (siteNumbers 60 0 2 0 0) (endCounts 60 0)
+      (siteNumbers 61 1 2 0 0) (endCounts 61 0) 0 (coordinatorNumbers 121 120 2 0 3 Idle) ≡ 11
   -- "lent memory shorter than above (longer is fine ..)": 2 × 1264 and 1034 numbers
   pub enough : networkRefusal settingsP6 freshSites freshNumbers
       (replicate 2528 0) (replicate 1034 0) ≡ 0

@@ -7,16 +7,18 @@ use lib.ListN.{replicate}
 use Rattle.model.specs.declared.SiteRecord.{SiteRecord}
 use Rattle.model.specs.Settings.{settingsWith}
 use Rattle.model.specs.Messages.{pollKind, probeKind, message, itemReport, countReport, poll, pollAnswer, probe, probeAnswer, announcement}
-use Rattle.model.specs.Counters.{Counter, unreported, find, leastPlace, placementFor, own, unused, replaced, countersAfter, afterReport}
+use Rattle.model.specs.declared.Leaving.the-variants.{Nobody, Left}
+use Rattle.model.specs.Counters.{Counter, unreported, unreportedIn, find, leastPlace, placementFor, own, unused, replaced, countersAfter, leavingBy, goneWith, afterReport}
 use Rattle.model.specs.Site.{Site, freshSite, arrivalRefusal, siteMessageRefusal, siteReceives}
 use Rattle.model.specs.SiteMemory.{siteMemoryRefusal}
 use Rattle.model.specs.Instances.{settingsA, settingsP6, arrivalWith, counterWith}
 use Rattle.model.specs.Edges.Inputs.{siteNumbers, siteAtThreshold, endCounts, siteRefusal}
 
 -- A site under settings A where all is at its limit: code 9, a count of all four draws, overcount
--- plus sent its count, unsent and pending one below the threshold, draws of class 1023.
+-- plus sent its count, unsent and pending one below the threshold, draws of class 1023, all draws
+-- forgotten.
 abbrev pub atLimits : SiteRecord
-atLimits = siteNumbers 4 2 3 2
+atLimits = siteNumbers 4 2 3 2 4
 
 -- Two slots as they stand in memory, of which the second is at its limits.
 abbrev pub twoSlots : ℕ → ℕ → ℕ → ℕ → List ℕ
@@ -27,14 +29,14 @@ twoSlots item count overestimate reported =
 pub record SiteMemoryEdges : Type 0 where
   pub at-limits : siteRefusal atLimits (twoSlots 9 3 1 0) (endCounts 1 3) ≡ 0
   -- "slots in use above c"
-  pub used-6 : siteRefusal (siteNumbers 4 2 3 6) (twoSlots 9 3 1 0) (endCounts 1 3) ≡ 0
-  pub used-7 : siteRefusal (siteNumbers 4 2 3 7) (twoSlots 9 3 1 0) (endCounts 1 3) ≡ 11
+  pub used-6 : siteRefusal (siteNumbers 4 2 3 6 0) (twoSlots 9 3 1 0) (endCounts 1 3) ≡ 0
+  pub used-7 : siteRefusal (siteNumbers 4 2 3 7 0) (twoSlots 9 3 1 0) (endCounts 1 3) ≡ 11
   -- "in a slot in use, a code not below u"
   pub item-10 : siteRefusal atLimits (twoSlots 10 3 1 0) (endCounts 1 3) ≡ 11
-  pub item-10-unused : siteRefusal (siteNumbers 4 2 3 0) (twoSlots 10 3 1 0) (endCounts 1 3) ≡ 0
+  pub item-10-unused : siteRefusal (siteNumbers 4 2 3 0 0) (twoSlots 10 3 1 0) (endCounts 1 3) ≡ 0
   -- "a deck above its limit"
-  pub full : siteRefusal (siteNumbers 1000000000 0 1 0) [] (endCounts 1000000000 0) ≡ 0
-  pub above-full : siteRefusal (siteNumbers 1000000001 0 1 0) [] (endCounts 1000000001 0) ≡ 11
+  pub full : siteRefusal (siteNumbers 1000000000 0 1 0 0) [] (endCounts 1000000000 0) ≡ 0
+  pub above-full : siteRefusal (siteNumbers 1000000001 0 1 0 0) [] (endCounts 1000000001 0) ≡ 11
   -- "class counts not summing to draws", the last class too
   pub counts-few : siteRefusal atLimits (twoSlots 9 3 1 0) (endCounts 1 2) ≡ 11
   pub counts-many : siteRefusal atLimits (twoSlots 9 3 1 0) (endCounts 2 3) ≡ 11
@@ -47,20 +49,22 @@ pub record SiteMemoryEdges : Type 0 where
   pub count-above : siteRefusal atLimits (twoSlots 9 5 4 0) (endCounts 1 3) ≡ 11
   -- "unsent or pending not below the threshold"
   pub unsent : siteRefusal atLimits (twoSlots 9 3 0 0) (endCounts 1 3) ≡ 11
-  pub pending : siteRefusal (siteNumbers 4 3 3 2) (twoSlots 9 3 1 0) (endCounts 1 3) ≡ 11
+  pub pending : siteRefusal (siteNumbers 4 3 3 2 0) (twoSlots 9 3 1 0) (endCounts 1 3) ≡ 11
   -- "a deck's threshold 0 or above 1,000,000,000"
-  pub threshold-0 : siteRefusal (siteNumbers 0 0 0 0) [] (endCounts 0 0) ≡ 11
-  pub threshold-limit : siteRefusal (siteNumbers 0 0 1000000000 0) [] (endCounts 0 0) ≡ 0
-  pub threshold-above : siteRefusal (siteNumbers 0 0 1000000001 0) [] (endCounts 0 0) ≡ 11
+  pub threshold-0 : siteRefusal (siteNumbers 0 0 0 0 0) [] (endCounts 0 0) ≡ 11
+  pub threshold-limit : siteRefusal (siteNumbers 0 0 1000000000 0 0) [] (endCounts 0 0) ≡ 0
+  pub threshold-above : siteRefusal (siteNumbers 0 0 1000000001 0 0) [] (endCounts 0 0) ≡ 11
+  -- request N1: "A forgotten sum above the deck's draws"
+  pub dropped-above : siteRefusal (siteNumbers 4 2 3 2 5) (twoSlots 9 3 1 0) (endCounts 1 3) ≡ 11
   -- "lent memory shorter than above (longer is fine ..)": 4 × 6 + 1024 numbers
-  pub enough : siteMemoryRefusal settingsA (siteNumbers 0 0 1 0) (replicate 1048 0) ≡ 0
-  pub one-short : siteMemoryRefusal settingsA (siteNumbers 0 0 1 0) (replicate 1047 0) ≡ 4
-  pub longer : siteMemoryRefusal settingsA (siteNumbers 0 0 1 0) (replicate 1049 7) ≡ 11
-  pub longer-rest : siteRefusal (siteNumbers 0 0 1 0) [] (endCounts 0 0 ++ (7 ∷ [])) ≡ 0
+  pub enough : siteMemoryRefusal settingsA (siteNumbers 0 0 1 0 0) (replicate 1048 0) ≡ 0
+  pub one-short : siteMemoryRefusal settingsA (siteNumbers 0 0 1 0 0) (replicate 1047 0) ≡ 4
+  pub longer : siteMemoryRefusal settingsA (siteNumbers 0 0 1 0 0) (replicate 1049 7) ≡ 11
+  pub longer-rest : siteRefusal (siteNumbers 0 0 1 0 0) [] (endCounts 0 0 ++ (7 ∷ [])) ≡ 0
   -- "Order: 1, 2, 3; then 4, 11"
   pub three-before-four :
-      siteMemoryRefusal (settingsWith 1 1000 1000 500 5 10) (siteNumbers 0 0 1 0) [] ≡ 3
-  pub four-before-eleven : siteMemoryRefusal settingsA (siteNumbers 0 0 0 0) [] ≡ 4
+      siteMemoryRefusal (settingsWith 1 1000 1000 500 5 10) (siteNumbers 0 0 1 0 0) [] ≡ 3
+  pub four-before-eleven : siteMemoryRefusal settingsA (siteNumbers 0 0 0 0 0) [] ≡ 4
 
 -- Settings A: one site, codes 0 to 9. A site that is full, or one draw short of it.
 abbrev pub siteHaving : ℕ → Site
@@ -70,6 +74,7 @@ siteHaving arrivals = record {
   arrivals = arrivals;
   pending = 0;
   threshold = 1;
+  dropped = 0;
 }
 
 pub record ArrivalEdges : Type 0 where
@@ -85,7 +90,7 @@ pub record ArrivalEdges : Type 0 where
   pub seven-before-eight :
       arrivalRefusal settingsA (siteHaving 1000000000) (arrivalWith 0 9 1024) ≡ 7
 
--- A site with four draws, one of class 0 and three of class 1023, and so many pending.
+-- A site with four draws, one of class 0 and three of class 1023, one forgotten, so many pending.
 abbrev pub siteAfterFour : ℕ → Site
 siteAfterFour pending = record {
   counters = [];
@@ -93,6 +98,7 @@ siteAfterFour pending = record {
   arrivals = 4;
   pending = pending;
   threshold = 3;
+  dropped = 1;
 }
 
 -- P6's settings: two sites. Messages at site 1.
@@ -168,3 +174,13 @@ pub record CounterEdges : Type 0 where
   -- "Unsent is count - overcount - sent."; "sent grows by it"
   pub unsent : unreported (held 4 7) ≡ 2
   pub sent : afterReport 2 (held 4 7) ≡ counterWith 4 7 2 5
+  pub all-unsent : unreportedIn (held 4 7 ∷ held 3 6 ∷ held 1 6 ∷ []) ≡ 4
+  -- request N1: "which code left and how many unsent draws went"
+  pub nobody-own : leavingBy (own 1) (held 4 7 ∷ held 3 6 ∷ held 1 6 ∷ []) ≡ Nobody
+  pub nobody-unused : leavingBy unused (held 4 7 ∷ []) ≡ Nobody
+  pub leaves : leavingBy (replaced 1) (held 4 9 ∷ held 3 7 ∷ held 1 8 ∷ []) ≡ Left 3 2
+  pub leaves-with-none : leavingBy (replaced 0) (held 4 5 ∷ held 3 7 ∷ []) ≡ Left 4 0
+  -- a code held twice: by the slot that leaves
+  pub leaves-twice : leavingBy (replaced 1) (held 3 9 ∷ held 3 7 ∷ []) ≡ Left 3 2
+  pub gone-with-nobody : goneWith Nobody ≡ 0
+  pub gone-with : goneWith (Left 3 2) ≡ 2

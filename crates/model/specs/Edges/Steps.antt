@@ -19,7 +19,8 @@ use Rattle.model.specs.Edges.Memories.{estimates}
 
 -- ---- A draw
 
--- A site at threshold 3 with 20 draws: one slot, code 4, of this count and this sent number.
+-- A site at threshold 3 with 20 draws, 5 of them forgotten: one slot, code 4, of this count and
+-- this sent number.
 abbrev pub siteBefore : ℕ → ℕ → Site
 siteBefore count pending = record {
   counters = counterWith 4 count 2 3 ∷ [];
@@ -27,6 +28,7 @@ siteBefore count pending = record {
   arrivals = 20;
   pending = pending;
   threshold = 3;
+  dropped = 5;
 }
 
 -- The same with 21 draws, the last of class 1023.
@@ -37,6 +39,7 @@ siteThen counters pending = record {
   arrivals = 21;
   pending = pending;
   threshold = 3;
+  dropped = 5;
 }
 
 -- A draw of a code at site 1.

@@ -44,7 +44,7 @@ count-value-requires c κs =
 
 returns : tie.Need-returns
 returns c =
-    let at-count-value = c .before .before in
+    let at-count-value = c .before .before .before in
     let at-report-counter = at-count-value .before .before .before .before .before in
     let at-count-item = at-report-counter .before .before .before .before in
     let start = at-count-item .before .before .before .before in
@@ -56,6 +56,7 @@ returns c =
     (counted .last .0)
     (counted .result) (counted .ensures) (search needs) (report .last .0) (report .result)
     (report .ensures) (search needs) (value .last .0) (value .ensures)
+    (c .gone-with .result) (c .gone-with .ensures)
 
 pub store-arrival-spec : {M : Type 1} → statement M
 store-arrival-spec =
@@ -66,5 +67,5 @@ store-arrival-spec =
     report-counter-requires
     (λ c. search needs) (λ c. search needs) (λ c. search needs)
     count-value-requires
-    (λ c. search needs)
+    (λ c κs. search needs) (λ c. search needs)
     returns)

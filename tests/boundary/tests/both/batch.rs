@@ -1,13 +1,13 @@
 //! The batch call on the proved code and on the separate implementation, through a lent slice of
 //! arrivals as C lays them out.
 
-use boundary::{Batch, UNFIT};
+use boundary::{Batch, SITES_NUMBERS, UNFIT};
 use reference::coordinator::CoordinatorRecord;
 use reference::message::{Arrival, Message};
 use reference::network::BatchAnswer;
 use reference::refusal;
 use reference::settings::Settings;
-use reference::site::{SiteRecord, Sites};
+use reference::site::Sites;
 
 use super::{fits, with_junk, Both, JUNK};
 use crate::support::TestNetwork;
@@ -28,21 +28,23 @@ pub fn numbers_of(settings: &Settings) -> [u32; 6] {
 
 /// Both records as the boundary takes them, each with some numbers more.
 pub struct Records {
-    pub sites: [u64; 131],
+    pub sites: [u64; SITES_NUMBERS + 2],
     pub coordinator: [u64; 12],
 }
 
 impl Records {
     pub fn of(network: &TestNetwork) -> Records {
-        let coordinator = with_junk(network.coordinator.to_numbers());
-        Records { sites: site_numbers(&network.sites), coordinator }
+        let sites = with_junk(network.sites.to_numbers());
+        Records { sites, coordinator: with_junk(network.coordinator.to_numbers()) }
     }
 
     /// After a call with this answer: the records go to the network, and nothing else has changed.
     pub fn hand_back(&self, network: &mut TestNetwork, answer: u32) {
-        assert_eq!(self.sites[129..], [JUNK; 2]);
+        assert_eq!(self.sites[SITES_NUMBERS..], [JUNK; 2]);
         assert_eq!(self.coordinator[10..], [JUNK; 2]);
-        network.sites = sites_of(&self.sites);
+        let mut numbers = [0; SITES_NUMBERS];
+        numbers.copy_from_slice(&self.sites[..SITES_NUMBERS]);
+        network.sites = Sites::from_numbers(&numbers);
         let mut numbers = [0; 10];
         numbers.copy_from_slice(&self.coordinator[..10]);
         network.coordinator = CoordinatorRecord::from_numbers(numbers).expect("a phase");
@@ -51,25 +53,6 @@ impl Records {
             assert_eq!(network.coordinator.to_numbers(), numbers);
         }
     }
-}
-
-/// All sites' records as the boundary takes them, with some numbers more.
-fn site_numbers(sites: &Sites) -> [u64; 131] {
-    let mut numbers = [JUNK; 131];
-    for (place, record) in numbers.chunks_exact_mut(4).zip(&sites.records) {
-        place.copy_from_slice(&record.to_numbers());
-    }
-    numbers[128] = sites.messages;
-    numbers
-}
-
-/// The records of a site's 129 numbers.
-fn sites_of(numbers: &[u64]) -> Sites {
-    let mut sites = Sites { messages: numbers[128], ..Sites::FRESH };
-    for (record, place) in sites.records.iter_mut().zip(numbers.chunks_exact(4)) {
-        *record = SiteRecord::from_numbers([place[0], place[1], place[2], place[3]]);
-    }
-    sites
 }
 
 impl Both {

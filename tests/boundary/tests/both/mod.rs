@@ -8,12 +8,14 @@
 pub mod batch;
 pub mod delivery;
 
-use boundary::UNFIT;
+use boundary::{SITES_NUMBERS, SITE_NUMBERS, UNFIT};
 use reference::coordinator::{self, CoordinatorRecord};
 use reference::message::{Arrival, Message, Outgoing};
 use reference::refusal;
 use reference::settings::Settings;
 use reference::site::{self, SiteRecord};
+
+use crate::support::account::{check_arrival, counters_of};
 
 /// What stands in lent numbers before a call, and stays where the call has nothing to say.
 const JUNK: u64 = 77;
@@ -47,17 +49,17 @@ impl Both {
 
     pub fn start_sites(&mut self, settings: [u32; 6], memory: &mut [u32]) -> u8 {
         let mut proved_memory = memory.to_vec();
-        let mut numbers = [JUNK; 131];
+        let mut numbers = [JUNK; SITES_NUMBERS + 2];
         let proved = boundary::start_sites(&settings, &mut proved_memory, &mut numbers);
         let (refusal, sites) = site::start_sites(&Settings::from_numbers(settings), memory);
         self.count(proved, refusal, "start_sites");
-        let records: Vec<u64> = sites.records.iter().flat_map(|site| site.to_numbers()).collect();
-        assert_eq!(numbers[..128], records);
-        assert_eq!(numbers[128..], [sites.messages, JUNK, JUNK]);
+        assert_eq!(numbers, with_junk(sites.to_numbers()));
         assert!(proved_memory == memory, "start_sites {settings:?}");
         refusal
     }
 
+    /// An accepted arrival also adds up as request N1 has it, and what left its counter is what the
+    /// memory shows to have left.
     pub fn observe(
         &mut self,
         settings: [u32; 6],
@@ -66,8 +68,9 @@ impl Both {
         memory: &mut [u32],
     ) -> Outgoing<2> {
         let before = *record;
+        let counters = counters_of(record, memory);
         let mut proved_memory = memory.to_vec();
-        let mut numbers = with_junk::<4, 5>(record.to_numbers());
+        let mut numbers = site_numbers(record);
         let mut out = [JUNK; 11];
         let numbers_of_arrival = [arrival.site, arrival.item, arrival.value];
         let proved = boundary::observe(
@@ -77,15 +80,22 @@ impl Both {
             &mut proved_memory,
             &mut out,
         );
-        let outgoing = site::observe(&Settings::from_numbers(settings), arrival, record, memory);
+        let rules = Settings::from_numbers(settings);
+        let mut departure = None;
+        let outgoing =
+            site::observe_with_departure(&rules, arrival, record, memory, &mut departure);
         self.count(proved, outgoing.refusal, "observe");
         let call = || format!("observe {settings:?} {arrival:?} {before:?}");
-        assert_eq!(numbers, with_junk(record.to_numbers()), "{}", call());
+        assert_eq!(numbers, site_numbers(record), "{}", call());
         assert_eq!(out[0], outgoing.count as u64, "{}", call());
         assert_eq!(out[1..5], outgoing.messages[0].to_numbers(), "{}", call());
         assert_eq!(out[5..9], outgoing.messages[1].to_numbers(), "{}", call());
         assert_eq!(out[9..], [JUNK; 2]);
         assert!(proved_memory == memory, "{}", call());
+        if outgoing.refusal == refusal::ACCEPTED {
+            let after = counters_of(record, memory);
+            check_arrival((&before, &counters), (record, &after), departure, outgoing.sent());
+        }
         outgoing
     }
 
@@ -98,7 +108,7 @@ impl Both {
         memory: &[u32],
     ) -> Outgoing<1> {
         let before = *record;
-        let mut numbers = with_junk::<4, 5>(record.to_numbers());
+        let mut numbers = site_numbers(record);
         let mut out = [JUNK; 6];
         let sent = sent(message);
         let proved =
@@ -107,7 +117,8 @@ impl Both {
         let outgoing = site::receive(&rules, which, message, record, memory);
         self.count(proved, outgoing.refusal, "receive at a site");
         let call = || format!("receive {settings:?} {which} {message:?} {before:?}");
-        assert_eq!(numbers, with_junk(record.to_numbers()), "{}", call());
+        assert_eq!(numbers, site_numbers(record), "{}", call());
+        assert_eq!(record.dropped, before.dropped, "{}", call());
         assert_eq!(out, message_out(&outgoing), "{}", call());
         outgoing
     }
@@ -267,6 +278,11 @@ fn with_junk<const FEW: usize, const MORE: usize>(numbers: [u64; FEW]) -> [u64; 
     let mut all = [JUNK; MORE];
     all[..FEW].copy_from_slice(&numbers);
     all
+}
+
+/// A site's record as the boundary takes it, with a number more.
+fn site_numbers(record: &SiteRecord) -> [u64; SITE_NUMBERS + 1] {
+    with_junk(record.to_numbers())
 }
 
 fn sent(message: Message) -> boundary::Message {

@@ -7,7 +7,7 @@ pub mod networks;
 
 use reference::coordinator::{CoordinatorRecord, Phase, MAX_NUMBER};
 use reference::settings::{threshold_of, Settings};
-use reference::site::{SiteRecord, MAX_ARRIVALS};
+use reference::site::{SiteRecord, MAX_ARRIVALS, SITE_NUMBERS};
 
 use crate::support::Random;
 
@@ -84,8 +84,8 @@ pub struct Site {
     pub memory: Vec<u32>,
 }
 
-/// A consistent site that never arose: items may be held twice, counts have nothing to do with
-/// the histogram, and counters that are not in use hold anything.
+/// A consistent site that never arose: items may be held twice, counts and what was forgotten have
+/// nothing to do with the histogram, and counters that are not in use hold anything.
 pub fn some_site(random: &mut Random) -> Site {
     let settings = some_settings(random);
     let rules = Settings::from_numbers(settings);
@@ -108,12 +108,19 @@ pub fn some_site(random: &mut Random) -> Site {
     let pending = random.pick(&[0, threshold - 1, some]);
     let some = random.below(capacity + 1);
     let used = random.pick(&[0, some, capacity - 1, capacity, capacity]);
-    let record = SiteRecord { arrivals, pending, threshold, used };
+    let dropped = some_dropped(arrivals, random);
+    let record = SiteRecord { arrivals, pending, threshold, used, dropped };
     let mut memory: Vec<u32> = (0..rules.site_memory_len() + random.below(3) as usize)
         .map(|_| random.next() as u32)
         .collect();
     forge_site_memory(&rules, &record, &mut memory, random);
     Site { settings, record, memory }
+}
+
+/// What a site with so many arrivals has forgotten: nothing, some, or as much as it may.
+fn some_dropped(arrivals: u64, random: &mut Random) -> u64 {
+    let some = random.below(arrivals + 1);
+    random.pick(&[0, 0, some, arrivals / 2, arrivals - arrivals.min(1), arrivals])
 }
 
 /// Sets the counters in use and the histogram so that they fit the record.
@@ -124,8 +131,11 @@ fn forge_site_memory(
     random: &mut Random,
 ) {
     let kinds = random.between(1, rules.universe);
+    // Where all counts are high, much goes with the item that leaves.
+    let arrivals = record.arrivals as u32;
+    let least = if random.one_in(3) { arrivals - arrivals / 8 } else { 0 };
     for counter in memory[..4 * record.used as usize].chunks_exact_mut(4) {
-        counter.copy_from_slice(&some_counter(record, kinds, random));
+        counter.copy_from_slice(&some_counter(record, least, kinds, random));
     }
     let histogram = &mut memory[rules.counters_len()..rules.site_memory_len()];
     histogram.fill(0);
@@ -134,10 +144,12 @@ fn forge_site_memory(
     histogram[1023] = record.arrivals as u32 - low;
 }
 
-fn some_counter(record: &SiteRecord, kinds: u32, random: &mut Random) -> [u32; 4] {
+/// A counter with this count or more.
+fn some_counter(record: &SiteRecord, least: u32, kinds: u32, random: &mut Random) -> [u32; 4] {
     let arrivals = record.arrivals as u32;
-    let some = random.between(0, arrivals);
-    let count = random.pick(&[some, arrivals, arrivals.min(1), arrivals.min(2), arrivals.min(3)]);
+    let some = random.between(least, arrivals);
+    let low = [1, 2, 3].map(|count| arrivals.min(count).max(least));
+    let count = random.pick(&[some, arrivals, low[0], low[1], low[2]]);
     let most = u64::from(count).min(record.threshold - 1) as u32;
     let some = random.between(0, most);
     let unreported = random.pick(&[0, most, most, some]);
@@ -163,11 +175,17 @@ pub fn damage_site(site: &mut Site, random: &mut Random) {
 
 fn damage_site_number(site: &mut Site, random: &mut Random) {
     let mut numbers = site.record.to_numbers();
-    let place = random.below(4) as usize;
-    match random.below(5) {
-        0 => numbers[place] = any(random),
-        1 => numbers[place] = numbers[place].wrapping_add(1),
-        2 => numbers[place] = numbers[place].wrapping_sub(1),
+    let place = random.below(SITE_NUMBERS as u64) as usize;
+    match random.below(12) {
+        0 | 1 => numbers[place] = any(random),
+        2 | 3 => numbers[place] = numbers[place].wrapping_add(1),
+        4 | 5 => numbers[place] = numbers[place].wrapping_sub(1),
+        6 => {
+            // Forgotten draws about as many as the arrivals.
+            let arrivals = site.record.arrivals;
+            let near = [arrivals, arrivals.wrapping_add(1), arrivals.wrapping_add(2)];
+            numbers[SITE_NUMBERS - 1] = random.pick(&near);
+        }
         _ => {
             // A number of a counter in use, or any.
             let in_use = 4 * site.record.used.min(3000);

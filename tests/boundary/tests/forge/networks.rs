@@ -3,11 +3,11 @@
 use reference::coordinator::{CoordinatorRecord, Phase};
 use reference::network::MAX_MESSAGES;
 use reference::settings::{threshold_of, Settings};
-use reference::site::{SiteRecord, Sites, MAX_ARRIVALS};
+use reference::site::{SiteRecord, Sites, MAX_ARRIVALS, SITE_NUMBERS};
 
 use super::{
     any, damage_coordinator, damage_site, damaged_settings, forge_coordinator_memory,
-    forge_site_memory, some_settings, Coordinator, Site,
+    forge_site_memory, some_dropped, some_settings, Coordinator, Site,
 };
 use crate::both::batch::numbers_of;
 use crate::support::{Random, TestNetwork};
@@ -23,6 +23,8 @@ pub fn some_network(random: &mut Random) -> TestNetwork {
     let base = random.pick(&[0, all.min(6), some, all - all.min(100), all]);
     let threshold = threshold_of(&settings, base);
     let mut total = all;
+    // With many sites that forgot much, one of them would soon have forgotten too much.
+    let forgetful = random.one_in(2);
     let mut records = Sites::FRESH;
     for (record, &arrivals) in records.records.iter_mut().zip(&arrivals) {
         let most = (threshold - 1).min(total - base);
@@ -32,11 +34,12 @@ pub fn some_network(random: &mut Random) -> TestNetwork {
         let capacity = u64::from(settings.capacity);
         let some = random.below(capacity + 1);
         let used = random.pick(&[0, some, capacity - 1, capacity, capacity]);
-        *record = SiteRecord { arrivals, pending, threshold, used };
+        let dropped = if forgetful { some_dropped(arrivals, random) } else { 0 };
+        *record = SiteRecord { arrivals, pending, threshold, used, dropped };
     }
     // Sites from k on are not looked at.
     for record in &mut records.records[sites..] {
-        *record = SiteRecord::from_numbers([(); 4].map(|()| any(random)));
+        *record = SiteRecord::from_numbers([(); SITE_NUMBERS].map(|()| any(random)));
     }
     let some = random.below(MAX_MESSAGES + 1);
     records.messages = if random.one_in(8) { MAX_MESSAGES } else { some };

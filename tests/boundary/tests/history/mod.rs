@@ -1,6 +1,7 @@
 //! A history of calls from a fresh start: batches and single arrivals with full delivery, junk
 //! calls anywhere, every call made on the proved code and on the separate implementation. Beside
-//! it stand the same rules written as plain loops, which name the messages, and the true counts.
+//! it stand the same rules written as plain loops, which name the messages and what lost its
+//! counter, and the true counts. Request N1 is checked after every call.
 
 // Each test file uses a part of this module only.
 #![allow(dead_code)]
@@ -15,6 +16,7 @@ use reference::refusal::*;
 
 use crate::both::batch::numbers_of;
 use crate::both::Both;
+use crate::support::account::Account;
 use crate::support::plain::PlainNetwork;
 use crate::support::truth::Truth;
 use crate::support::{Random, TestNetwork};
@@ -33,7 +35,8 @@ enum Asked {
 pub struct History {
     pub network: TestNetwork,
     pub truth: Truth,
-    plain: PlainNetwork,
+    pub plain: PlainNetwork,
+    account: Account,
     random: Random,
     /// Messages that batches wrote: the network's own count.
     written: u64,
@@ -50,7 +53,8 @@ impl History {
         assert_eq!(both.start_coordinator(numbers, &mut network.coordinator_memory), ACCEPTED);
         let truth = Truth::new(&network.settings);
         let plain = PlainNetwork::start(network.settings);
-        History { network, truth, plain, random: Random::new(seed), written: 0 }
+        let account = Account::start(&network.settings);
+        History { network, truth, plain, account, random: Random::new(seed), written: 0 }
     }
 
     /// A batch with a log of so many numbers: what it must do follows from the arrivals alone.
@@ -61,6 +65,17 @@ impl History {
         assert_eq!(written, messages);
         self.written += messages.len() as u64;
         assert_eq!(self.network.sites.messages, self.written);
+        self.check_forgotten(&messages);
+    }
+
+    /// Request N1 after a call, given the messages that went out since the last check: for each
+    /// site the equation, and what it forgot is the sum over the replacements by the plain loops.
+    fn check_forgotten(&mut self, sent: &[Message]) {
+        self.account.add(sent);
+        self.account.check(&self.network);
+        for (record, plain) in self.network.sites.records.iter().zip(&self.plain.sites) {
+            assert_eq!(record.dropped, plain.dropped(), "site {}", plain.site);
+        }
     }
 
     /// How many arrivals a batch accepts, the messages that follow, and what stops it.
@@ -101,8 +116,10 @@ impl History {
     /// A single arrival with full delivery by the public calls, and junk on the way.
     pub fn single(&mut self, both: &mut Both, next: Arrival) {
         let asked = self.random.pick(&[Asked::InTurn, Asked::AllAtOnce, Asked::Anyhow]);
-        let mut waiting = VecDeque::from(self.observe(both, next));
-        let mut sent: Vec<Message> = waiting.iter().copied().collect();
+        let expected = self.count(&next);
+        let mut sent = self.observe(both, next);
+        self.check_forgotten(&sent);
+        let mut waiting = VecDeque::from(sent.clone());
         loop {
             if self.random.one_in(8) {
                 let seen = self.seen_by_a_batch(&waiting);
@@ -121,10 +138,11 @@ impl History {
             } else {
                 break;
             };
+            self.check_forgotten(&more);
             sent.extend(&more);
             waiting.extend(more);
         }
-        assert_eq!(sent, self.count(&next));
+        assert_eq!(sent, expected);
         // Single arrivals don't count in the network's own count.
         assert_eq!(self.network.sites.messages, self.written);
     }

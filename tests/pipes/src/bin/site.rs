@@ -3,12 +3,13 @@
 
 use std::io::{stdin, stdout, BufReader, BufWriter, Result};
 
+use boundary::{SITES_NUMBERS, SITE_NUMBERS};
 use pipes::{from_bytes, message_of, read_request, to_bytes, write_answer, write_numbers, Request};
 
 /// A site's record and memory.
 #[derive(Clone, PartialEq)]
 struct Site {
-    record: [u64; 4],
+    record: [u64; SITE_NUMBERS],
     memory: Vec<u32>,
 }
 
@@ -17,10 +18,10 @@ impl Site {
     fn start(settings: &[u32], number: u32) -> Site {
         let length = 4 * settings[4] as usize + 1024;
         let mut memory = vec![0; length * settings[0] as usize];
-        let mut sites = [0; 129];
+        let mut sites = [0; SITES_NUMBERS];
         assert_eq!(boundary::start_sites(settings, &mut memory, &mut sites), 0);
-        let at = 4 * number as usize;
-        let record = [sites[at], sites[at + 1], sites[at + 2], sites[at + 3]];
+        let mut record = [0; SITE_NUMBERS];
+        record.copy_from_slice(&sites[SITE_NUMBERS * number as usize..][..SITE_NUMBERS]);
         Site { record, memory: memory[length * number as usize..][..length].to_vec() }
     }
 

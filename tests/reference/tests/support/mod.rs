@@ -4,6 +4,7 @@
 // Each test file uses a part of this module only.
 #![allow(dead_code)]
 
+pub mod account;
 pub mod defects;
 pub mod firm;
 pub mod plain;
@@ -208,30 +209,29 @@ impl TestNetwork {
 
     /// A single arrival with full delivery by a queue, as document 01 words it.
     /// Announcements are asked for at once or after others were handed over, as
-    /// chance has it. Before each hand-over `between` may look at the network.
+    /// chance has it. After each call `between` may look at the network, and at
+    /// the messages that have gone out.
     pub fn observe_and_deliver(
         &mut self,
         arrival: Arrival,
         random: &mut Random,
-        mut between: impl FnMut(&mut TestNetwork),
+        mut between: impl FnMut(&mut TestNetwork, &[Message]),
     ) -> Vec<Message> {
-        let (refusal, sent) = self.observe(arrival);
+        let (refusal, mut all) = self.observe(arrival);
         assert_eq!(refusal, refusal::ACCEPTED);
-        let mut all = Vec::new();
-        let mut waiting = VecDeque::from(sent);
+        let mut waiting = VecDeque::from(all.clone());
         loop {
-            between(self);
+            between(self, &all);
             let announcing = matches!(self.coordinator.phase, Phase::Announcing { .. });
-            if announcing && (waiting.is_empty() || random.one_in(2)) {
-                waiting.extend(self.next_announcement().1);
-                continue;
-            }
-            let Some(message) = waiting.pop_front() else {
+            let (refusal, sent) = if announcing && (waiting.is_empty() || random.one_in(2)) {
+                self.next_announcement()
+            } else if let Some(message) = waiting.pop_front() {
+                self.hand_over(message)
+            } else {
                 return all;
             };
-            all.push(message);
-            let (refusal, sent) = self.hand_over(message);
-            assert_eq!(refusal, refusal::ACCEPTED, "{message:?}");
+            assert_eq!(refusal, refusal::ACCEPTED, "after {all:?}");
+            all.extend(&sent);
             waiting.extend(sent);
         }
     }

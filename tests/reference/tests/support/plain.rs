@@ -3,7 +3,7 @@
 
 use reference::message::{Arrival, Message};
 use reference::settings::Settings;
-use reference::site::Counter;
+use reference::site::{Counter, Departure};
 
 use super::message;
 
@@ -14,9 +14,21 @@ pub struct PlainSite {
     pub counters: Vec<Counter>,
     pub capacity: usize,
     pub pending: u64,
+    /// What lost its counter here, in order: request N1's replacements.
+    pub departures: Vec<Departure>,
 }
 
 impl PlainSite {
+    /// A site of which these counters are in use, and which forgot nothing yet.
+    pub fn of(site: u32, counters: Vec<Counter>, capacity: usize, pending: u64) -> PlainSite {
+        PlainSite { site, counters, capacity, pending, departures: Vec::new() }
+    }
+
+    /// What went with all that left: request N1's forgotten draws.
+    pub fn dropped(&self) -> u64 {
+        self.departures.iter().map(|departure| departure.unreported).sum()
+    }
+
     /// The reports that follow an item of this value.
     pub fn observe(&mut self, item: u32, value: u32, threshold: u64) -> Vec<Message> {
         let place = self.count(item);
@@ -47,7 +59,9 @@ impl PlainSite {
         }
         let key = |place: &usize| (self.counters[*place].count, self.counters[*place].item, *place);
         let place = (0..self.capacity).min_by_key(key).expect("there is a counter");
-        let count = self.counters[place].count;
+        let Counter { item: left, count, overestimate, reported } = self.counters[place];
+        let unreported = u64::from(count - overestimate - reported);
+        self.departures.push(Departure { item: left, unreported });
         self.counters[place] = Counter { item, count: count + 1, overestimate: count, reported: 0 };
         place
     }
@@ -56,7 +70,7 @@ impl PlainSite {
 /// A network from its fresh start on. It keeps all values that arrived.
 pub struct PlainNetwork {
     settings: Settings,
-    sites: Vec<PlainSite>,
+    pub sites: Vec<PlainSite>,
     arrived: Vec<(u32, u32)>,
     pub estimates: Vec<u64>,
     pub total: u64,
@@ -69,7 +83,7 @@ pub struct PlainNetwork {
 impl PlainNetwork {
     pub fn start(settings: Settings) -> PlainNetwork {
         let capacity = settings.capacity as usize;
-        let site = |site| PlainSite { site, counters: Vec::new(), capacity, pending: 0 };
+        let site = |site| PlainSite::of(site, Vec::new(), capacity, 0);
         PlainNetwork {
             settings,
             sites: (0..settings.sites).map(site).collect(),

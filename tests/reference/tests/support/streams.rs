@@ -183,5 +183,5 @@ pub fn unreported(network: &TestNetwork, site: u32, item: u32) -> u64 {
     let memory = network.memory_of(site);
     let counters = (0..used).filter_map(|place| counter_at(memory, place));
     let found = counters.into_iter().find(|counter| counter.item == item);
-    found.map_or(0, |counter| u64::from(counter.count - counter.overestimate - counter.reported))
+    found.map_or(0, |counter| counter.unreported())
 }

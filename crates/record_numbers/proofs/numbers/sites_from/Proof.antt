@@ -21,7 +21,7 @@ loop-holds c = growing-begins _ _ 32 refl
 
 loop-again : tie.Need-loop-again Inv-loop μ-loop
 loop-again c =
-    let at-loop = c .before .before .before .before .before in
+    let at-loop = c .before .before .before .before .before .before in
     let loop = at-loop .loop in
     reading-on (at-loop .before .args .numbers .now) (loop .records) (loop .i) (loop .inv)
     (search needs)
@@ -46,6 +46,7 @@ sites-from-spec =
     (λ c. search needs) (λ c. search needs) (λ c. search needs) (λ c. search needs)
     (λ c. search needs) (λ c. search needs) (λ c. search needs) (λ c. search needs)
     (λ c. search needs) (λ c. search needs) (λ c. search needs) (λ c. search needs)
+    (λ c. search needs) (λ c. search needs) (λ c. search needs)
     loop-again
     (λ c. search needs)
     returns)

@@ -1,4 +1,4 @@
--- Four stores at the front.
+-- Five stores at the front.
 use native.Mathlib.Omega.{arith}
 use lib.ListN.{length-set}
 use borrow.Author.Needs.{needs}
@@ -15,5 +15,6 @@ write-site-spec =
     tie.close
     (tie.spec
     (λ c. search needs) (λ c. simp length-set (omega arith))
-    (λ c. simp length-set (omega arith)) (λ c. search needs) (λ c. search needs)
+    (λ c. simp length-set (omega arith)) (λ c. simp length-set (omega arith)) (λ c. search needs)
+    (λ c. search needs)
     returns)

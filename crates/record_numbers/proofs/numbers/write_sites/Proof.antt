@@ -2,10 +2,13 @@
 -- stand at the front. The measure is the count of the records left.
 use Prim.Native.Nat.{_-_, _*_}
 use mathlib.Core.Path.{refl}
+use mathlib.Core.List.{[], _∷_}
 use borrow.Author.Needs.{needs}
 use native.Mathlib.Omega.{arith}
-use lib.ListN.{length-set}
-use Rattle.laws.proofs.Fronts.{four-stores, growing-begins}
+use lib.ListN.{getD, length-set}
+use Rattle.laws.proofs.Fronts.{row-stores, growing-begins}
+use Rattle.model.specs.Held.{noRecord}
+use Rattle.record_numbers.specs.Numbers.{siteWidth}
 use Rattle.record_numbers.proofs.Records.{Recording, recording-on, recording-end}
 use Rattle.record_numbers.proofs.numbers.write_sites.Statement.{statement}
 use Rattle.record_numbers.proofs.numbers.write_sites.Tie as tie
@@ -24,8 +27,11 @@ loop-again c =
     let at-loop = c .before .before in
     let start = at-loop .before in
     let loop = at-loop .loop in
+    let site = getD (start .args .t2 .records) (loop .i) noRecord in
     recording-on (start .args .numbers .now) (start .args .t2 .records) (loop .numbers) (loop .i)
-    (start .pre) (loop .inv) (search needs) (four-stores (loop .numbers) _ _ _ _ _)
+    (start .pre) (loop .inv) (search needs)
+    (row-stores (loop .numbers) (siteWidth * loop .i) (site .arrivals)
+    (site .pending ∷ (site .threshold ∷ (site .used ∷ (site .dropped ∷ [])))))
 
 returns : tie.Need-returns Inv-loop μ-loop
 returns c =
@@ -44,6 +50,7 @@ write-sites-spec =
     loop-holds
     (λ c. search needs) (λ c. search needs) (λ c. search needs) (λ c. search needs)
     (λ c. search needs) (λ c. search needs) (λ c. search needs)
+    (λ c. simp length-set (omega arith)) (λ c. search needs) (λ c. search needs)
     (λ c. simp length-set (omega arith)) (λ c. search needs) (λ c. search needs)
     (λ c. simp length-set (omega arith)) (λ c. search needs) (λ c. search needs)
     (λ c. simp length-set (omega arith)) (λ c. search needs) (λ c. search needs)

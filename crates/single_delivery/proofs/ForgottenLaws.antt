@@ -45,7 +45,6 @@ use Rattle.single_delivery.proofs.RestLaws.{Ended}
 use Rattle.single_delivery.proofs.LimitLaws.{final-within}
 use Rattle.single_delivery.proofs.OneStep.{deliveryAt}
 use Rattle.single_delivery.proofs.PollLaws.{Coming, item-waits, count-waits, coming-poll, coming-some, coming-silent, coming-others, Nearer, reached-coming}
-
 use Rattle.single_delivery.proofs.ForgottenSites.{known, others-within, own-dropped, own-arrivals}
 
 module _ (settings : Settings) (passes : settingsRefusal settings ≡ noRefusal)

@@ -4,7 +4,6 @@
 --   seven-reached      the history
 --   firm-instances     the table
 use mathlib.Core.Path.{_≡_, refl, ap}
-use mathlib.Core.List.{_++_}
 use Prim.Native.Nat.{ℕ, _+_, _-_, _*_}
 use native.Mathlib.Omega.{arith}
 use lib.ListN.{replicate}
@@ -12,29 +11,19 @@ use Rattle.model.specs.Limits.{valueCount}
 use Rattle.model.specs.Claims.{counted}
 use Rattle.model.specs.Instances.{settingsA}
 use Rattle.model.proofs.Thresholds.SettingsLaws.{settled}
-use Rattle.tracker.specs.Batch.{messageNumbers}
-use Rattle.history.specs.Histories.{Arrives, batch, arrives, Reachable, stepped}
+use Rattle.history.specs.Histories.{Reachable}
+use Rattle.history.specs.OneBatch.{answerFor}
 use Rattle.history.specs.Reading.{ListRight}
-use Rattle.history.specs.State.{fronts, lending}
-use Rattle.history.specs.Example.{startedState}
 use Rattle.history.specs.FirmInstances.{sevenDraws, afterSeven, threeBefore, threeAfter, answerOfTwo, settings400, fortyFour, FirmInstances}
 use Rattle.history.proofs.FirmShares.{listed-firm}
 use Rattle.history.proofs.Theorem.{demands}
-use Rattle.history.proofs.Example.{begins}
+use Rattle.history.proofs.OneBatch.{reached-by-batch}
 
--- Seven draws in one batch, on 1049 and 1035 numbers and a log of 75 records.
-seven-arrive : Arrives settingsA startedState afterSeven
+-- Seven draws in one batch, with a log of 75 records.
+seven-reached : Reachable settingsA afterSeven
 unfolding valueCount
-seven-arrive =
-    batch 1049 1035 sevenDraws (replicate 300 8)
-    (record {
-      refusal = 0;
-      accepted = 7;
-      written = 50;
-      held = lending (afterSeven .held) (fronts 1049 1035);
-      log = messageNumbers (afterSeven .messages) ++ replicate 100 8;
-    })
-    (record { nothing-waits = refl; idle = refl })
+seven-reached =
+    reached-by-batch sevenDraws (replicate 300 8) (answerFor afterSeven (replicate 100 8))
     (record {
       refusal = refl;
       accepted = refl;
@@ -45,9 +34,6 @@ seven-arrive =
       coordinator-memory = refl;
       log = refl;
     })
-
-seven-reached : Reachable settingsA afterSeven
-seven-reached = stepped startedState afterSeven begins (arrives seven-arrive)
 
 -- What is promised of the list there.
 list-right : ListRight settingsA afterSeven threeBefore threeAfter answerOfTwo

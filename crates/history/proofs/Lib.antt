@@ -47,5 +47,6 @@ pub mod KeptOut
 pub mod Theorem
 pub mod Example
 pub mod ExampleHistory
+pub mod OneBatch
 pub mod FirmInstances
 pub mod DroppedHistory

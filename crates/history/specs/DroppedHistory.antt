@@ -11,14 +11,13 @@ use lib.ListN.{length, replicate}
 use Rattle.model.specs.declared.Message.{Message}
 use Rattle.model.specs.declared.Phase.the-variants.{Idle}
 use Rattle.model.specs.Messages.{countReport, poll, pollAnswer, announcement}
-use Rattle.model.specs.Site.{freshSite}
-use Rattle.model.specs.SiteMemory.{siteRecord}
 use Rattle.model.specs.Network.{siteAt}
 use Rattle.model.specs.Departures.{departures, Accounted}
 use Rattle.model.specs.Instances.{settingsA}
 use Rattle.model.specs.DroppedInstances.{left, twelveDraws}
 use Rattle.history.specs.State.{State, networkOf, recordAt}
 use Rattle.history.specs.Histories.{Reachable}
+use Rattle.history.specs.OneBatch.{batchedState}
 use Rattle.history.specs.Example.{valueCounts, reports, allMessages}
 use Rattle.history.specs.FirmInstances.{halvedAt}
 
@@ -43,37 +42,23 @@ twelveMessages =
     ++ ((countReport 0 2 0 ∷ closing 2 8) ++ (countReport 0 2 0 ∷ closing 3 10)))))))
 
 -- What records and memory hold then: code 5 in the second slot, which was that of code 0. Of the
--- six draws of code 7 the coordinator has heard; two are pending. Behind both memories stand two
--- numbers that no call touches.
+-- six draws of code 7 the coordinator has heard; two are pending.
 abbrev pub afterTwelve : State
-afterTwelve = record {
-  held = record {
-    sites = record {
-      records =
-          record { arrivals = 12; pending = 2; threshold = 3; used = 6; dropped = 1 }
-          ∷ replicate 31 (siteRecord freshSite);
-      messages = 98;
-    };
-    coordinator = record {
+afterTwelve =
+    batchedState (record { arrivals = 12; pending = 2; threshold = 3; used = 6; dropped = 1 })
+    (record {
       total = 10;
       base = 10;
       threshold = 3;
       signals = 0;
       quantile = 3;
       phase = Idle;
-    };
-    siteMemory =
-        (7 ∷ (6 ∷ (0 ∷ (6 ∷ (5 ∷ (2 ∷ (1 ∷ (0 ∷ (1 ∷ (1 ∷ (0 ∷ (0 ∷ []))))))))))))
-        ++ ((2 ∷ (1 ∷ (0 ∷ (0 ∷ (3 ∷ (1 ∷ (0 ∷ (0 ∷ (4 ∷ (1 ∷ (0 ∷ (0 ∷ []))))))))))))
-        ++ (valueCounts 12 ++ (5 ∷ (5 ∷ []))));
-    coordinatorMemory =
-        replicate 7 0 ++ (6 ∷ (0 ∷ (0 ∷ (valueCounts 6 ++ (9 ∷ (9 ∷ []))))));
-  };
-  waiting = [];
-  accepted = twelveDraws;
-  messages = twelveMessages;
-  logged = 98;
-}
+    })
+    ((7 ∷ (6 ∷ (0 ∷ (6 ∷ (5 ∷ (2 ∷ (1 ∷ (0 ∷ (1 ∷ (1 ∷ (0 ∷ (0 ∷ []))))))))))))
+    ++ ((2 ∷ (1 ∷ (0 ∷ (0 ∷ (3 ∷ (1 ∷ (0 ∷ (0 ∷ (4 ∷ (1 ∷ (0 ∷ (0 ∷ []))))))))))))
+    ++ valueCounts 12))
+    (replicate 7 0 ++ (6 ∷ (0 ∷ (0 ∷ valueCounts 6))))
+    twelveDraws twelveMessages
 
 pub record DroppedHistory : Type 0 where
   pub twelve-reached : Reachable settingsA afterTwelve

@@ -16,8 +16,6 @@ use Rattle.model.specs.declared.Phase.the-variants.{Idle}
 use Rattle.model.specs.Refusals.{noRefusal}
 use Rattle.model.specs.Settings.{settingsWith, settingsRefusal}
 use Rattle.model.specs.Messages.{itemReport, countReport, poll, pollAnswer, probe, probeAnswer, announcement}
-use Rattle.model.specs.Site.{freshSite}
-use Rattle.model.specs.SiteMemory.{siteRecord}
 use Rattle.model.specs.Reading.{heavyHitters}
 use Rattle.model.specs.Claims.{counted, countOf}
 use Rattle.model.specs.Instances.{settingsA, arrivalWith, coordinatorAfter}
@@ -25,6 +23,7 @@ use Rattle.coordinator_list.specs.declared.Listed.{Listed}
 use Rattle.coordinator_list.specs.Contracts.{ListSays}
 use Rattle.history.specs.State.{State, coordinatorPart}
 use Rattle.history.specs.Histories.{Reachable}
+use Rattle.history.specs.OneBatch.{batchedState}
 use Rattle.history.specs.Reading.{FirmShare}
 
 -- ---- Seven draws under settings A
@@ -66,35 +65,21 @@ sevenMessages =
 abbrev pub onesOnly : ℕ → List ℕ
 onesOnly ones = 0 ∷ (ones ∷ replicate 1022 0)
 
--- What records and memory hold then: the seventh draw is pending, and unreported of code 1. Behind
--- both memories stand two numbers that no call touches.
+-- What records and memory hold then: the seventh draw is pending, and unreported of code 1.
 abbrev pub afterSeven : State
-afterSeven = record {
-  held = record {
-    sites = record {
-      records =
-          record { arrivals = 7; pending = 1; threshold = 2; used = 2; dropped = 0 }
-          ∷ replicate 31 (siteRecord freshSite);
-      messages = 50;
-    };
-    coordinator = record {
+afterSeven =
+    batchedState (record { arrivals = 7; pending = 1; threshold = 2; used = 2; dropped = 0 })
+    (record {
       total = 6;
       base = 6;
       threshold = 2;
       signals = 0;
       quantile = 1;
       phase = Idle;
-    };
-    siteMemory =
-        (0 ∷ (3 ∷ (0 ∷ (3 ∷ (1 ∷ (4 ∷ (0 ∷ (3 ∷ []))))))))
-        ++ (replicate 16 0 ++ (onesOnly 7 ++ (5 ∷ (5 ∷ []))));
-    coordinatorMemory = 3 ∷ (3 ∷ (replicate 8 0 ++ (onesOnly 6 ++ (9 ∷ (9 ∷ [])))));
-  };
-  waiting = [];
-  accepted = sevenDraws;
-  messages = sevenMessages;
-  logged = 50;
-}
+    })
+    ((0 ∷ (3 ∷ (0 ∷ (3 ∷ (1 ∷ (4 ∷ (0 ∷ (3 ∷ [])))))))) ++ (replicate 16 0 ++ onesOnly 7))
+    (3 ∷ (3 ∷ (replicate 8 0 ++ onesOnly 6)))
+    sevenDraws sevenMessages
 
 -- The list call on three places: it writes codes 0 and 1.
 abbrev pub threeBefore : List ℕ

@@ -11,5 +11,6 @@ pub mod Third
 pub mod Dropped
 pub mod Demands
 pub mod Example
+pub mod OneBatch
 pub mod FirmInstances
 pub mod DroppedHistory

@@ -11,7 +11,6 @@ use native.Mathlib.Omega.{arith}
 use native.Mathlib.Decide.{decLt}
 use lib.Dec.{ltb}
 use lib.ListN.{length, getD}
-use borrow.Author.Tests.{ltb-true, le-ltb}
 use Rattle.laws.proofs.Tests.{BothTrue, both-true}
 use Rattle.model.specs.declared.Settings.{Settings}
 use Rattle.model.specs.declared.Arrival.{Arrival}
@@ -21,20 +20,18 @@ use Rattle.model.specs.Limits.{coordinatorLimit}
 use Rattle.model.specs.Settings.{settingsRefusal}
 use Rattle.model.specs.Messages.{noMessage, poll, toCoordinator}
 use Rattle.model.specs.Site.{Site, observed, reportsItem, reportsCount, reportedValue}
-use Rattle.model.specs.SiteMemory.{siteWords, siteConsistent, siteMemoryRefusal}
+use Rattle.model.specs.SiteMemory.{siteMemoryRefusal}
 use Rattle.model.specs.Coordinator.{isAnnouncing, closesRound}
 use Rattle.model.specs.Network.{Network, Delivered, siteAt}
 use Rattle.model.specs.SoundNetwork.{DroppedWithin, estimateOf}
 use Rattle.model.specs.DeliveryClaims.{Delivery, deliveryOf, deliverySteps}
 use Rattle.model.proofs.Thresholds.RefusalLaws.{both-accepted}
 use Rattle.model.proofs.Thresholds.TestedMemory.{site-tested}
-use Rattle.model.proofs.Soundness.ConsistentSites.{dropped-of-consistent}
 use Rattle.model.proofs.Soundness.ConsistentCoordinator.{CoordinatorWithin}
 use Rattle.history.specs.State.{State, networkOf, recordAt, sitePart}
 use Rattle.history.specs.Histories.{Delivers, to-coordinator, to-site, next-announcement}
 use Rattle.history.proofs.CallFronts.{announces-whole}
-use Rattle.history.proofs.Decoded.{site-is, part-long}
-use Rattle.history.proofs.Underway.{Underway, in-mid, parts-underway}
+use Rattle.history.proofs.Underway.{Underway, parts-underway}
 use Rattle.history.proofs.NextAnnouncement.{announces}
 use Rattle.history.proofs.DeliveredState.{delivered-on}
 use Rattle.history.proofs.GoesOn.{further}
@@ -45,7 +42,7 @@ use Rattle.single_delivery.proofs.RestLaws.{Ended}
 use Rattle.single_delivery.proofs.LimitLaws.{final-within}
 use Rattle.single_delivery.proofs.OneStep.{deliveryAt}
 use Rattle.single_delivery.proofs.PollLaws.{Coming, item-waits, count-waits, coming-poll, coming-some, coming-silent, coming-others, Nearer, reached-coming}
-use Rattle.single_delivery.proofs.ForgottenSites.{known, others-within, own-dropped, own-arrivals}
+use Rattle.single_delivery.proofs.ForgottenSites.{known, others-within, not-passing, refused-memory}
 
 module _ (settings : Settings) (passes : settingsRefusal settings ≡ noRefusal)
     (network : Network) (arrival : Arrival) (past : List Message)
@@ -120,57 +117,6 @@ module _ (settings : Settings) (passes : settingsRefusal settings ≡ noRefusal)
       reached-coming (own-known mid) coming-first n (deliveryAt settings now mid) (mid .reached)
       left in-all
 
-  -- Its site's memory does not pass.
-  not-passing : {n : ℕ} (now : State) (mid : Mid n now) (j words : ℕ)
-      → j ≡ arrival .site
-      → siteWords settings ≤ length (sitePart settings (now .held) j words)
-      → siteConsistent settings (recordAt (now .held) j)
-      (sitePart settings (now .held) j words) ≡ true
-      → ⊥
-  not-passing now mid j words same long holds =
-      let held-here = networkOf settings (now .held) in
-      let read = site-is passes (now .held) (mid .lengths) (in-mid passes mid .sites-sound) j
-      (omega (arith, own-known mid, same)) in
-      let own : siteAt held-here j ≡ siteAt held-here (arrival .site) =
-      ap (siteAt held-here) same in
-      omega (
-        arith,
-        dropped-of-consistent settings (recordAt (now .held) j)
-            (sitePart settings (now .held) j words) long holds,
-        ap (λ (x : Site). x .dropped) (sym read ∙ own),
-        ap (λ (x : Site). x .arrivals) (sym read ∙ own),
-        own-dropped settings passes network arrival past dropped-within mid,
-        own-arrivals settings passes network arrival past dropped-within mid,
-        ltb-true (observed settings site arrival .site .arrivals)
-            (observed settings site arrival .site .dropped) forgets,
-      )
-
-  -- It is refused by 11.
-  refused-memory : {n : ℕ} (now : State) (mid : Mid n now) (j words : ℕ)
-      → j ≡ arrival .site
-      → siteWords settings ≤ words
-      → siteMemoryRefusal settings (recordAt (now .held) j)
-      (sitePart settings (now .held) j words)
-      ≡ memoryInconsistent
-  refused-memory now mid j words same enough =
-      let part = sitePart settings (now .held) j words in
-      let long = part-long passes (now .held) (mid .lengths) (in-mid passes mid .sites-sound) j
-      (omega (arith, own-known mid, same)) words enough in
-      rw (
-        passes,
-        le-ltb (length part) (siteWords settings) long,
-        inconsistent (siteConsistent settings (recordAt (now .held) j) part) refl long,
-      )
-    where
-      inconsistent : (test : Bool)
-          → siteConsistent settings (recordAt (now .held) j)
-          (sitePart settings (now .held) j words) ≡ test
-          → siteWords settings ≤ length (sitePart settings (now .held) j words)
-          → siteConsistent settings (recordAt (now .held) j)
-          (sitePart settings (now .held) j words) ≡ false
-      inconsistent false fails long = fails
-      inconsistent true holds long = absurd (not-passing now mid j words same long holds)
-
   -- The poll waits there.
   poll-there : {n : ℕ} (now : State) (mid : Mid n now)
       → n ≡ stepsBeforePoll settings network arrival
@@ -201,7 +147,8 @@ module _ (settings : Settings) (passes : settingsRefusal settings ≡ noRefusal)
       let rows = both-accepted (siteMemoryRefusal settings numbers part) _
       (sym (says .refusal) ∙ accepts) in
       let tested = site-tested settings numbers part (rows .first-accepted) in
-      not-passing now mid (m .site) words
+      not-passing settings passes network arrival past dropped-within forgets now mid (m .site)
+      words
       (ap (λ (x : Message). x .site) (head-there now mid m later there head))
       (tested .memory-long) (tested .consistent)
   stuck now next mid there (next-announcement words answer says accepts) =
@@ -267,7 +214,8 @@ module _ (settings : Settings) (passes : settingsRefusal settings ≡ noRefusal)
       let mid = end .mid in
       let same = ap (λ (x : Message). x .site) (head-there after mid m later taken-is waits) in
       sym (number (omega (arith, own-known mid, same)))
-      ∙ rw (refused-memory after mid (m .site) words same enough) refl
+      ∙ rw (refused-memory settings passes network arrival past dropped-within forgets after mid
+      (m .site) words same enough) refl
   number-is (announcement-refused announces number) =
       absurd (false≢true (sym (silent-there after (end .mid) taken-is) ∙ announces))
 

@@ -5,29 +5,34 @@
 --   known             the arrival's site is one of the k
 --   others-within, own-dropped, own-arrivals   what a site has forgotten, in mid-delivery
 --   head-within       the head of the queue is for a site that has forgotten no more than arrived
+--   not-passing, refused-memory   the memory of one that has forgotten more: 11
 use mathlib.Core.Path.{_≡_, refl, sym, ap, _∙_, subst}
 use mathlib.Core.Bool.{Bool, true, false, _&&_, false≢true}
 use mathlib.Core.List.{List}
-use Prim.Native.Nat.{ℕ, _<_}
+use Prim.Native.Nat.{ℕ, _≤_, _<_}
 use native.Mathlib.Omega.{arith}
 use native.Mathlib.Decide.{ℕ-discrete}
 use lib.Dec.{ltb}
+use lib.ListN.{length}
 use lib.Seq.{getD-set-same, getD-set-other}
-use borrow.Author.Tests.{ltb-false}
+use borrow.Author.Tests.{ltb-true, ltb-false, le-ltb}
 use Rattle.model.specs.declared.Settings.{Settings}
 use Rattle.model.specs.declared.Arrival.{Arrival}
 use Rattle.model.specs.declared.Message.{Message}
-use Rattle.model.specs.Refusals.{noRefusal}
+use Rattle.model.specs.Refusals.{noRefusal, memoryInconsistent}
 use Rattle.model.specs.Settings.{settingsRefusal}
 use Rattle.model.specs.Site.{Site, freshSite, observed, reportsItem, reportsCount, reportedValue}
+use Rattle.model.specs.SiteMemory.{siteWords, siteConsistent, siteMemoryRefusal}
 use Rattle.model.specs.Coordinator.{closesRound}
 use Rattle.model.specs.Network.{Network, siteAt}
 use Rattle.model.specs.SoundNetwork.{DroppedWithin}
 use Rattle.model.specs.DeliveryClaims.{deliveryOf}
 use Rattle.model.proofs.Soundness.SoundSites.{taken-of-no-refusal}
 use Rattle.model.proofs.Soundness.NeverFewer.{Kept, arrivals-kept, dropped-kept, arrival-keeps}
-use Rattle.history.specs.State.{State, networkOf}
-use Rattle.history.proofs.Underway.{Underway, kept-underway}
+use Rattle.model.proofs.Soundness.ConsistentSites.{dropped-of-consistent}
+use Rattle.history.specs.State.{State, networkOf, recordAt, sitePart}
+use Rattle.history.proofs.Decoded.{site-is, part-long}
+use Rattle.history.proofs.Underway.{Underway, in-mid, kept-underway}
 use Rattle.single_delivery.specs.Delivery.{meetsForgotten}
 use Rattle.single_delivery.proofs.EndLaws.{HeadWithin}
 use Rattle.single_delivery.proofs.OneStep.{deliveryAt}
@@ -90,11 +95,11 @@ module _ (settings : Settings) (passes : settingsRefusal settings ≡ noRefusal)
         getD-set-same (network .sites) s (observed settings site arrival .site) freshSite
         (omega (arith, known, mid .origin-sound .all-sites))
 
-    pub own-dropped : here (arrival .site) .dropped
+    own-dropped : here (arrival .site) .dropped
         ≡ observed settings (siteAt network (arrival .site)) arrival .site .dropped
     own-dropped = since dropped-kept s ∙ ap (λ (x : Site). x .dropped) own-is
 
-    pub own-arrivals : here (arrival .site) .arrivals
+    own-arrivals : here (arrival .site) .arrivals
         ≡ observed settings (siteAt network (arrival .site)) arrival .site .arrivals
     own-arrivals = since arrivals-kept s ∙ ap (λ (x : Site). x .arrivals) own-is
 
@@ -170,3 +175,59 @@ module _ (settings : Settings) (passes : settingsRefusal settings ≡ noRefusal)
                     (observed settings site arrival .site .dropped) within,
               ))
           by-site (no other) = others-within mid (m .site) m< other
+
+  -- ---- Where the arrival's site has forgotten more than arrived
+
+  module _ (forgets : ltb
+      (observed settings (siteAt network (arrival .site)) arrival .site .arrivals)
+      (observed settings (siteAt network (arrival .site)) arrival .site .dropped) ≡ true) where
+    -- Its site's memory does not pass.
+    pub not-passing : {n : ℕ} (now : State) (mid : Mid n now) (j words : ℕ)
+        → j ≡ arrival .site
+        → siteWords settings ≤ length (sitePart settings (now .held) j words)
+        → siteConsistent settings (recordAt (now .held) j)
+        (sitePart settings (now .held) j words) ≡ true
+        → ⊥
+    not-passing now mid j words same long holds =
+        let held-here = networkOf settings (now .held) in
+        let read = site-is passes (now .held) (mid .lengths) (in-mid passes mid .sites-sound) j
+        (omega (arith, known mid, same)) in
+        let own : siteAt held-here j ≡ siteAt held-here (arrival .site) =
+        ap (siteAt held-here) same in
+        omega (
+          arith,
+          dropped-of-consistent settings (recordAt (now .held) j)
+              (sitePart settings (now .held) j words) long holds,
+          ap (λ (x : Site). x .dropped) (sym read ∙ own),
+          ap (λ (x : Site). x .arrivals) (sym read ∙ own),
+          own-dropped mid,
+          own-arrivals mid,
+          ltb-true (observed settings site arrival .site .arrivals)
+              (observed settings site arrival .site .dropped) forgets,
+        )
+
+    -- It is refused by 11.
+    pub refused-memory : {n : ℕ} (now : State) (mid : Mid n now) (j words : ℕ)
+        → j ≡ arrival .site
+        → siteWords settings ≤ words
+        → siteMemoryRefusal settings (recordAt (now .held) j)
+        (sitePart settings (now .held) j words)
+        ≡ memoryInconsistent
+    refused-memory now mid j words same enough =
+        let part = sitePart settings (now .held) j words in
+        let long = part-long passes (now .held) (mid .lengths) (in-mid passes mid .sites-sound) j
+        (omega (arith, known mid, same)) words enough in
+        rw (
+          passes,
+          le-ltb (length part) (siteWords settings) long,
+          inconsistent (siteConsistent settings (recordAt (now .held) j) part) refl long,
+        )
+      where
+        inconsistent : (test : Bool)
+            → siteConsistent settings (recordAt (now .held) j)
+            (sitePart settings (now .held) j words) ≡ test
+            → siteWords settings ≤ length (sitePart settings (now .held) j words)
+            → siteConsistent settings (recordAt (now .held) j)
+            (sitePart settings (now .held) j words) ≡ false
+        inconsistent false fails long = fails
+        inconsistent true holds long = absurd (not-passing now mid j words same long holds)

@@ -33,13 +33,14 @@ extern "C" {
 uint32_t tracker_test_settings(uint32_t decks, uint32_t leeway, uint32_t share, uint32_t rank,
                                uint32_t slots, uint32_t codes);
 
-/* The most messages that so many draws may cost under these settings: into *messages. Answers 0, 1,
- * 2 or 3, as the settings test does. */
+/* The most messages that so many draws may cost under these settings: into *messages. A line of
+ * class 0 is no draw and is not counted here. Answers 0, 1, 2 or 3, as the settings test does. */
 uint32_t tracker_allowance(uint32_t decks, uint32_t leeway, uint32_t share, uint32_t rank,
                            uint32_t slots, uint32_t codes, uint64_t draws, uint64_t *messages);
 
 /* Reads the first worklist line of some bytes: its deck, code and class, and how many bytes the
- * line takes with its line feed. Answers 0 or 13. */
+ * line takes with its line feed. Class 0 is read as any other: the tip touched but took nothing.
+ * Answers 0 or 13. */
 uint32_t tracker_test_line(const uint8_t *bytes, size_t length, uint32_t *deck, uint32_t *code,
                            uint32_t *volume_class, size_t *used);
 

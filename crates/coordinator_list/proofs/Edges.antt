@@ -1,10 +1,11 @@
 -- The list's chain at the edge: each row by computation.
 use mathlib.Core.Path.{refl}
 use Rattle.model.specs.Limits.{valueCount}
+use Rattle.model.specs.Runs.{isTaken}
 use Rattle.coordinator_list.specs.Edges.{ListEdges}
 
 pub list-edges : ListEdges
-unfolding valueCount
+unfolding valueCount isTaken
 list-edges = record {
   none-listed = refl;
   one-listed = refl;

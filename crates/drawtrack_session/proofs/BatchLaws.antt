@@ -3,7 +3,7 @@
 --   one-refusal, one-taken       with a log long enough: refused as the rules say, or taken
 --   length-messagesIn            how many messages a log's first records are
 --   leftOf, says-of              what the batch call answers and leaves, by its contract
-use mathlib.Core.Path.{_≡_, refl, sym, ap}
+use mathlib.Core.Path.{_≡_, refl, sym, ap, _∙_}
 use mathlib.Core.Bool.{Bool, true, false}
 use mathlib.Core.List.{List, [], _∷_}
 use Prim.Native.Nat.{ℕ, zero, suc, _-_, _≤_}
@@ -12,13 +12,15 @@ use lib.ListN.{length, drop}
 use borrow.Author.Tests.{eqb-true, le-ltb}
 use Rattle.model.specs.declared.Settings.{Settings}
 use Rattle.model.specs.declared.Arrival.{Arrival}
-use Rattle.model.specs.Choice.{isZero}
+use Rattle.model.specs.Choice.{if_then_else_, isZero}
+use Rattle.model.specs.Refusals.{_orElse_, noRefusal}
+use Rattle.model.specs.Draws.{isDraw}
 use Rattle.model.specs.Limits.{mostMessages}
 use Rattle.model.specs.SiteMemory.{overwrite}
 use Rattle.model.specs.CoordinatorMemory.{coordinatorRecord, coordinatorMemory}
 use Rattle.model.specs.NetworkMemory.{sitesMemory}
-use Rattle.model.specs.Network.{Network, afterArrival}
-use Rattle.model.specs.Runs.{refusalIn, Batch, batchRefusal, batchFrom, batchOf}
+use Rattle.model.specs.Network.{Network, afterLine}
+use Rattle.model.specs.Runs.{lineRefusalIn, Batch, batchRefusal, batchFrom, batchOf}
 use Rattle.tracker.specs.Batch.{BatchCall, BatchHeld, BatchSays, batchIn, unlessRefused, sitesAfter, messageNumbers, messagesIn}
 use Rattle.history.proofs.Answers.{or-accepted}
 use Rattle.drawtrack_steps.specs.Steps.{drawRefusal}
@@ -28,7 +30,7 @@ use Rattle.drawtrack_steps.specs.Steps.{drawRefusal}
 module _ (settings : Settings) (room : ℕ) (network : Network) (arrival : Arrival)
     (enough : mostMessages settings ≤ room) where
   abbrev refusal : ℕ
-  refusal = refusalIn settings network arrival
+  refusal = lineRefusalIn settings network arrival
 
   abbrev one : Batch
   one = batchOf settings room network (arrival ∷ [])
@@ -36,7 +38,12 @@ module _ (settings : Settings) (room : ℕ) (network : Network) (arrival : Arriv
   -- The log has room, so 14 is never met.
   test-is : batchRefusal settings network (room - 0) arrival ≡ refusal
   test-is =
-      rw (le-ltb (room - 0) (mostMessages settings) (omega arith)) (or-accepted refusal)
+      rw (le-ltb (room - 0) (mostMessages settings) (omega arith))
+      (ap (λ (later : ℕ). refusal orElse later) (either-way (isDraw arrival)) ∙ or-accepted refusal)
+    where
+      either-way : (drawn : Bool) → (if drawn then noRefusal else noRefusal) ≡ noRefusal
+      either-way true = refl
+      either-way false = refl
 
   pub one-refusal : one .refusal ≡ refusal
   one-refusal = by-test (isZero refusal) refl
@@ -46,7 +53,7 @@ module _ (settings : Settings) (room : ℕ) (network : Network) (arrival : Arriv
       by-test false some = rw (test-is, some, batchFrom) test-is
 
   pub record One : Type 0 where
-    pub messages-are : one .messages ≡ afterArrival settings network arrival .messages
+    pub messages-are : one .messages ≡ afterLine settings network arrival .messages
     pub accepted-is : one .accepted ≡ 1
 
   pub one-taken : isZero refusal ≡ true → One

@@ -9,15 +9,17 @@ use Prim.Native.Nat.{ℕ, suc, _+_, _*_, _≤_, _<_}
 use native.Mathlib.Omega.{arith}
 use lib.Dec.{leb}
 use lib.ListN.{length, take, drop}
-use borrow.Author.Tests.{lt-ltb}
+use borrow.Author.Tests.{eqb-true, lt-ltb}
 use Rattle.model.specs.declared.Settings.{Settings}
 use Rattle.model.specs.declared.Arrival.{Arrival}
 use Rattle.model.specs.Choice.{isZero}
-use Rattle.model.specs.Network.{afterArrival}
+use Rattle.model.specs.Draws.{drawsOf}
+use Rattle.model.specs.Network.{afterLine}
 use Rattle.model.specs.Lines.{Fields, malformed, fields, readFields, settingsOf, Worklist, readFrom}
-use Rattle.model.specs.Runs.{Run, runOf, withArrival, refusalIn}
+use Rattle.model.specs.Runs.{Run, runOf, runOne, lineRefusalIn}
 use Rattle.model.specs.Transcript.{messageLines, refusedLine, transcriptFrom, transcriptWith, transcript}
-use Rattle.model.proofs.Runs.RunLaws.{runFrom-append}
+use Rattle.model.proofs.Runs.RunLaws.{runFrom-append, runFrom-draws}
+use Rattle.model.proofs.Touches.DrawLaws.{line-taken}
 use Rattle.output_transcript.proofs.LineBounds.{message-lines-append}
 use Rattle.worklist_reader.specs.declared.Step.{Step}
 use Rattle.worklist_reader.specs.Walk.{lastLine, stepOf, stepAt, thenRead}
@@ -143,7 +145,7 @@ module _ (input : List ℕ) (n : ℕ) (session : Session)
   -- ---- It has ended
 
   ends-refused : step .found ≡ true
-      → isZero (refusalIn settings (run .network) (step .arrival)) ≡ false
+      → isZero (lineRefusalIn settings (run .network) (step .arrival)) ≡ false
       → now-written ≡ transcript input
   ends-refused found refused =
       bytes-then ∙ rw (found, refused) (sym (rest-then ∙ rw (found, refused, transcriptFrom)))
@@ -163,15 +165,18 @@ module _ (input : List ℕ) (n : ℕ) (session : Session)
   -- ---- It goes on
 
   goes-on : step .found ≡ true
-      → isZero (refusalIn settings (run .network) (step .arrival)) ≡ true
+      → isZero (lineRefusalIn settings (run .network) (step .arrival)) ≡ true
       → Follows session step left (there .arrivals) (answer .session)
       → Goes input (suc n) (answer .session) (left .siteMemory) (left .coordinatorMemory)
       now-written
   goes-on found fine follows =
-      let arrivals-then = there .arrivals ++ (step .arrival ∷ []) in
-      let sent = afterArrival settings (run .network) (step .arrival) .messages in
-      let run-then : runOf settings arrivals-then ≡ withArrival settings run (step .arrival) =
-      runFrom-append settings _ (there .arrivals) (step .arrival ∷ []) ∙ rw fine in
+      let arrivals-then = there .arrivals ++ drawsOf (step .arrival ∷ []) in
+      let sent = afterLine settings (run .network) (step .arrival) .messages in
+      let run-then : runOf settings arrivals-then ≡ runOne settings run (step .arrival) =
+      runFrom-append settings _ (there .arrivals) (drawsOf (step .arrival ∷ []))
+      ∙ runFrom-draws settings run (step .arrival ∷ []) in
+      let sent-then = line-taken settings run (step .arrival) (eqb-true _ 0 fine)
+      .messages-are in
       let far-then = walk-claims .goes-on input (session .at) (session .line) found in
       let same = follows .settings-same in
       record {
@@ -180,6 +185,7 @@ module _ (input : List ℕ) (n : ℕ) (session : Session)
         bytes-are =
             bytes-then
             ∙ (rw (found, fine) (sym (message-lines-append (run .messages) sent)))
+            ∙ ap messageLines (sym sent-then)
             ∙ sym (λ i. messageLines (run-then i .messages))
             ∙ sym (λ i. messageLines (runOf (same i) arrivals-then .messages));
         rest-is =
@@ -213,7 +219,7 @@ module _ (input : List ℕ) (n : ℕ) (session : Session)
   -- ---- Either way
 
   line-stands : (found : Bool) → step .found ≡ found
-      → (fine : Bool) → isZero (refusalIn settings (run .network) (step .arrival)) ≡ fine
+      → (fine : Bool) → isZero (lineRefusalIn settings (run .network) (step .arrival)) ≡ fine
       → Stands input (suc n) (answer .session) (left .siteMemory) (left .coordinatorMemory)
       now-written
   line-stands true found true fine =

@@ -2,7 +2,7 @@
 --
 --   rule-is                 with a log long enough it is refused as the rules say
 --   sent-are, few-sent      the messages of a draw that is taken
---   stands-then             the session stands after one arrival more
+--   stands-then             the session stands after one draw more, or a touch
 use mathlib.Core.Path.{_≡_, refl, sym, ap, _∙_, subst}
 use mathlib.Core.Bool.{true}
 use mathlib.Core.List.{List, [], _∷_, _++_}
@@ -15,9 +15,10 @@ use Rattle.model.specs.declared.Arrival.{Arrival}
 use Rattle.model.specs.Refusals.{noRefusal}
 use Rattle.model.specs.Limits.{mostMessages}
 use Rattle.model.specs.Settings.{settingsRefusal}
-use Rattle.model.specs.Network.{Network, afterArrival}
-use Rattle.model.specs.Runs.{Run, runOf, refusalIn}
-use Rattle.model.proofs.Deliveries.DeliveryTheorem.{delivery-claims}
+use Rattle.model.specs.Draws.{drawsOf}
+use Rattle.model.specs.Network.{Network, afterLine}
+use Rattle.model.specs.Runs.{Run, runOf, lineRefusalIn}
+use Rattle.model.proofs.Touches.DrawLaws.{line-few}
 use Rattle.worklist_reader.specs.declared.Step.{Step}
 use Rattle.tracker.specs.Batch.{BatchCall, BatchHeld, BatchSays, batchIn, unlessRefused, logRoom, messagesIn}
 use Rattle.history.specs.State.{State, networkOf}
@@ -69,16 +70,16 @@ module _ {session : Session} {given : Buffers} {arrivals : List Arrival}
   room-enough : mostMessages settings ≤ logRoom (given .log)
   room-enough = omega (arith, stands .few-sites, room .log-long)
 
-  by-rules : drawRefusal call ≡ refusalIn settings held-network arrival
+  by-rules : drawRefusal call ≡ lineRefusalIn settings held-network arrival
   by-rules =
       batch-by-rules passes (state-ok stands) (state-at-rest stands) (arrival ∷ [])
       (given .log) answer says
       ∙ one-refusal settings (logRoom (given .log)) held-network arrival room-enough
 
-  pub rule-is : drawRefusal call ≡ refusalIn settings (run .network) arrival
+  pub rule-is : drawRefusal call ≡ lineRefusalIn settings (run .network) arrival
   rule-is =
       by-rules
-      ∙ ap (λ (network : Network). refusalIn settings network arrival) (stands .network-is)
+      ∙ ap (λ (network : Network). lineRefusalIn settings network arrival) (stands .network-is)
 
   -- ---- A draw that is taken
 
@@ -89,13 +90,13 @@ module _ {session : Session} {given : Buffers} {arrivals : List Arrival}
     taken : One settings (logRoom (given .log)) held-network arrival room-enough
     taken =
         one-taken settings (logRoom (given .log)) held-network arrival room-enough
-        (eq-eqb (refusalIn settings held-network arrival) 0 (sym by-rules ∙ none))
+        (eq-eqb (lineRefusalIn settings held-network arrival) 0 (sym by-rules ∙ none))
 
     pub sent-are : batchIn call .messages
-        ≡ afterArrival settings (run .network) arrival .messages
+        ≡ afterLine settings (run .network) arrival .messages
     sent-are =
         taken .messages-are
-        ∙ ap (λ (network : Network). afterArrival settings network arrival .messages)
+        ∙ ap (λ (network : Network). afterLine settings network arrival .messages)
         (stands .network-is)
 
     pub few-sent : length (batchIn call .messages) ≤ 94
@@ -103,8 +104,7 @@ module _ {session : Session} {given : Buffers} {arrivals : List Arrival}
         omega (
           arith,
           ap length (taken .messages-are),
-          delivery-claims .few-messages settings held-network arrival
-              (state-at-rest stands .idle),
+          line-few settings held-network arrival (state-at-rest stands .idle),
           stands .few-sites,
         )
 
@@ -121,11 +121,11 @@ module _ {session : Session} {given : Buffers} {arrivals : List Arrival}
         (given .log) answer says
 
     abbrev after-all : List Arrival
-    after-all = arrivals ++ (arrival ∷ [])
+    after-all = arrivals ++ drawsOf (arrival ∷ [])
 
-    accepted-then : arrivals ++ take (answer .accepted) (arrival ∷ []) ≡ after-all
+    accepted-then : arrivals ++ drawsOf (take (answer .accepted) (arrival ∷ [])) ≡ after-all
     accepted-then =
-        ap (λ (n : ℕ). arrivals ++ take n (arrival ∷ []))
+        ap (λ (n : ℕ). arrivals ++ drawsOf (take n (arrival ∷ [])))
         (is (answer .accepted) _ _ refl ∙ taken .accepted-is)
 
     count-then : answer .held .sites .messages ≡ length (runOf settings after-all .messages)

@@ -13,7 +13,7 @@ use Rattle.model.specs.declared.Settings.{Settings}
 use Rattle.model.specs.declared.Arrival.{Arrival}
 use Rattle.model.specs.Choice.{isZero}
 use Rattle.model.specs.Refusals.{noRefusal}
-use Rattle.model.specs.Runs.{Run, refusalIn}
+use Rattle.model.specs.Runs.{Run, lineRefusalIn}
 use Rattle.model.specs.Transcript.{messageLines, refusedLine}
 use Rattle.worklist_reader.specs.declared.Step.{Step}
 use Rattle.tracker.specs.Batch.{BatchCall, batchIn}
@@ -48,7 +48,7 @@ module _ {session : Session} {given : Buffers} {arrivals : List Arrival}
   Right there = LineRight session step (there .left) arrivals (there .moved)
 
   abbrev rule : ℕ
-  rule = refusalIn settings (run .network) (step .arrival)
+  rule = lineRefusalIn settings (run .network) (step .arrival)
 
   -- ---- A draw
 

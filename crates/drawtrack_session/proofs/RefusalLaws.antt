@@ -13,14 +13,15 @@ use lib.ListN.{length, take, drop}
 use borrow.Author.Tests.{eqb-true}
 use Rattle.model.specs.declared.Settings.{Settings}
 use Rattle.model.specs.declared.Arrival.{Arrival}
-use Rattle.model.specs.Choice.{isZero}
+use Rattle.model.specs.Choice.{if_then_else_, isZero}
 use Rattle.model.specs.Refusals.{when, _orElse_, malformedLine}
 use Rattle.model.specs.Limits.{topValue, siteLimit}
 use Rattle.model.specs.Settings.{inRange, settingsRefusal}
+use Rattle.model.specs.Draws.{isDraw}
 use Rattle.model.specs.Site.{addressRefusal}
 use Rattle.model.specs.Network.{Network, siteAt}
 use Rattle.model.specs.Lines.{Fields, malformed, fields, readFields}
-use Rattle.model.specs.Runs.{refusalIn}
+use Rattle.model.specs.Runs.{refusalIn, lineRefusalIn}
 use Rattle.model.specs.Transcript.{refusedLine, beyondProgram}
 use Rattle.output_transcript.proofs.LineBounds.{line-claims}
 use Rattle.worklist_reader.specs.Contracts.{lineRefusal, settingsIn, bytesAfter}
@@ -51,14 +52,23 @@ settings-small settings =
     (row-small (ltb (settings .capacity * settings .epsilon) 6000) 3 0 (omega arith) (omega arith)))
 
 pub draw-small : (settings : Settings) (network : Network) (arrival : Arrival)
-    → refusalIn settings network arrival ≤ 99
-draw-small settings network arrival =
-    or-small (addressRefusal settings arrival) _
-    (row-small (leb (settings .sites) (arrival .site)) 5 _ (omega arith)
-    (row-small (leb (settings .universe) (arrival .item)) 6 _ (omega arith)
-    (row-small (ltb topValue (arrival .value)) 7 0 (omega arith) (omega arith))))
-    (row-small (leb siteLimit (siteAt network (arrival .site) .arrivals)) 8 0 (omega arith)
-    (omega arith))
+    → lineRefusalIn settings network arrival ≤ 99
+draw-small settings network arrival = by-draw (isDraw arrival)
+  where
+    address-small : addressRefusal settings arrival ≤ 99
+    address-small =
+        row-small (leb (settings .sites) (arrival .site)) 5 _ (omega arith)
+        (row-small (leb (settings .universe) (arrival .item)) 6 _ (omega arith)
+        (row-small (ltb topValue (arrival .value)) 7 0 (omega arith) (omega arith)))
+
+    by-draw : (drawn : Bool)
+        → (if drawn then refusalIn settings network arrival else addressRefusal settings arrival)
+        ≤ 99
+    by-draw true =
+        or-small (addressRefusal settings arrival) _ address-small
+        (row-small (leb siteLimit (siteAt network (arrival .site) .arrivals)) 8 0 (omega arith)
+        (omega arith))
+    by-draw false = address-small
 
 pub begin-small : (input : List ℕ) (found : Fields) → beginRefusal input found ≤ 99
 begin-small input found =

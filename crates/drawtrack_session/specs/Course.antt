@@ -1,7 +1,7 @@
 -- What a session stands for, and all its calls one after the other.
 --
 --   Represents session siteMemory coordinatorMemory arrivals
---                                    the session stands after these arrivals
+--                                    the session stands after these draws
 --   Room given                       log, list and output are long enough for the program's limits
 --   linePiece settings run step      the bytes that a line of the worklist brings
 --   beginPiece input found           the bytes before the first line: none, or a refusal
@@ -20,11 +20,12 @@ use Rattle.model.specs.Refusals.{_orElse_, noRefusal}
 use Rattle.model.specs.Limits.{mostSites}
 use Rattle.model.specs.Settings.{settingsRefusal}
 use Rattle.model.specs.CoordinatorMemory.{coordinatorWords}
-use Rattle.model.specs.Network.{afterArrival}
+use Rattle.model.specs.Draws.{drawsOf}
+use Rattle.model.specs.Network.{afterLine}
 use Rattle.model.specs.NetworkMemory.{sitesWords}
 use Rattle.model.specs.Held.{networkOf}
 use Rattle.model.specs.Lines.{Fields, readFields}
-use Rattle.model.specs.Runs.{Run, runOf, refusalIn}
+use Rattle.model.specs.Runs.{Run, runOf, lineRefusalIn}
 use Rattle.model.specs.Transcript.{messageLines, refusedLine, resultLines, programRefusal}
 use Rattle.worklist_reader.specs.declared.Step.{Step}
 use Rattle.worklist_reader.specs.Contracts.{lineRefusal, settingsIn, bytesAfter}
@@ -37,8 +38,8 @@ use Rattle.drawtrack_session.specs.Advance.{AdvanceSays}
 
 -- ---- What a session stands for
 
--- The session stands after these arrivals, all of them accepted: records and memory hold the
--- network of the model's run over them, and its messages are counted.
+-- The session stands after these draws, all of them accepted: records and memory hold the network
+-- of the model's run over them, and its messages are counted.
 pub record Represents (session : Session) (siteMemory coordinatorMemory : List ℕ)
     (arrivals : List Arrival) : Type 0 where
   pub settings-accepted : settingsRefusal (session .settings) ≡ noRefusal
@@ -88,12 +89,13 @@ pub record BeginRight (input : List ℕ) (left : Buffers) (answer : Moved) : Typ
 
 -- ---- A line
 
--- "It takes each line's draw before it reads the next line."
+-- "It takes each line's draw before it reads the next line." A touch is a good line and writes
+-- nothing.
 abbrev pub drawPiece : Settings → Run → Arrival → List ℕ
 drawPiece settings run arrival =
-    let refusal = refusalIn settings (run .network) arrival in
+    let refusal = lineRefusalIn settings (run .network) arrival in
     if isZero refusal
-    then messageLines (afterArrival settings (run .network) arrival .messages)
+    then messageLines (afterLine settings (run .network) arrival .messages)
     else refusedLine refusal
 
 abbrev pub linePiece : Settings → Run → Step → List ℕ
@@ -102,19 +104,20 @@ linePiece settings run step =
     else if isZero (step .refusal) then resultLines settings run
     else refusedLine (step .refusal)
 
--- A session goes on after an accepted draw alone.
+-- A session goes on after an accepted draw or touch alone.
 abbrev pub accepts : Settings → Run → Step → Bool
 accepts settings run step =
-    step .found && isZero (refusalIn settings (run .network) (step .arrival))
+    step .found && isZero (lineRefusalIn settings (run .network) (step .arrival))
 
--- After an accepted draw the session stands behind its line, after one arrival more.
+-- After an accepted draw the session stands behind its line, after one draw more; after a touch it
+-- stands behind its line, after the same draws.
 pub record Follows (session : Session) (step : Step) (left : Buffers) (arrivals : List Arrival)
     (after : Session) : Type 0 where
   pub settings-same : after .settings ≡ session .settings
   pub at-after : after .at ≡ step .at
   pub line-after : after .line ≡ step .line
   pub represents : Represents after (left .siteMemory) (left .coordinatorMemory)
-      (arrivals ++ (step .arrival ∷ []))
+      (arrivals ++ drawsOf (step .arrival ∷ []))
 
 -- The piece of a line of the worklist, or of its end, and where the session stands.
 pub record LineRight (session : Session) (step : Step) (left : Buffers) (arrivals : List Arrival)

@@ -7,7 +7,7 @@ use mathlib.Core.Bool.{Bool, true, false}
 use mathlib.Core.List.{List, [], _∷_}
 use Prim.Native.Nat.{ℕ, _-_, _*_, _≤_}
 use native.Mathlib.Omega.{arith}
-use lib.ListN.{length, drop, length-append}
+use lib.ListN.{length, take, drop, length-append}
 use borrow.Author.Tests.{eq-eqb, ne-eqb}
 use Rattle.model.specs.declared.Settings.{Settings}
 use Rattle.model.specs.declared.Arrival.{Arrival}
@@ -15,6 +15,7 @@ use Rattle.model.specs.declared.Message.{Message}
 use Rattle.model.specs.Choice.{isZero}
 use Rattle.model.specs.Refusals.{noRefusal}
 use Rattle.model.specs.Messages.{messageWidth}
+use Rattle.model.specs.Draws.{drawsOf}
 use Rattle.model.specs.SiteMemory.{overwrite}
 use Rattle.model.specs.CoordinatorMemory.{coordinatorMemory}
 use Rattle.model.specs.Held.{networkOf}
@@ -84,7 +85,7 @@ module _ (session : Session) (step : Step) (given : Buffers) (answer : BatchHeld
     same : afterBatch before (step .arrival ∷ []) answer ≡ before
     same =
         batch-same before (session .settings) (step .arrival ∷ []) (given .log) answer
-        says accepts-none
+        says (ap (λ (n : ℕ). drawsOf (take n (step .arrival ∷ []))) accepts-none)
 
     site-memory-same : answer .held .siteMemory ≡ given .siteMemory
     site-memory-same = ap (λ (state : State). state .held .siteMemory) same
@@ -98,7 +99,9 @@ module _ (session : Session) (step : Step) (given : Buffers) (answer : BatchHeld
         by-start : (fine : Bool) → isZero (startRefusal call) ≡ fine → answer .log ≡ given .log
         by-start true fine =
             let none = nothing-done (session .settings) (logRoom (given .log)) network
-            (step .arrival ∷ []) (sym (rw fine at (says .accepted)) ∙ accepts-none) in
+            (step .arrival ∷ [])
+            (ap (λ (n : ℕ). drawsOf (take n (step .arrival ∷ [])))
+            (sym (rw fine at (says .accepted)) ∙ accepts-none)) in
             says .log
             ∙ rw fine
             (ap (λ (messages : List Message). overwrite (messageNumbers messages) (given .log))

@@ -1,10 +1,12 @@
 -- What a call hands back by whether it accepts, and what its acceptance is worth.
 --
 --   accepted-choice, refused-choice   what is chosen where a call accepts, and where it refuses
+--   taken-choice, left-choice         the same where it takes an arrival, and where it does not
 --   or-accepted                       a chain's last row may be left out
 --   accepted-long                     memory that a call on a site accepts is long enough
 --   words-enough                      and so is a part of so many numbers
 use mathlib.Core.Path.{_≡_, refl}
+use mathlib.Core.Bool.{Bool, true, false}
 use mathlib.Core.List.{List}
 use Prim.Native.Nat.{ℕ, zero, suc, _≤_}
 use native.Mathlib.Omega.{arith}
@@ -30,6 +32,17 @@ pub refused-choice : {A : Type 0} (refusal : ℕ) (chosen other : A)
     → (refusal ≡ noRefusal → ⊥)
     → (if isZero refusal then chosen else other) ≡ other
 refused-choice refusal chosen other refused = rw (ne-eqb refusal 0 refused)
+
+-- By a test: whether an arrival is taken.
+pub taken-choice : {A : Type 0} (test : Bool) (chosen other : A)
+    → test ≡ true
+    → (if test then chosen else other) ≡ chosen
+taken-choice test chosen other holds = rw holds
+
+pub left-choice : {A : Type 0} (test : Bool) (chosen other : A)
+    → test ≡ false
+    → (if test then chosen else other) ≡ other
+left-choice test chosen other fails = rw fails
 
 -- A chain ends with `accepted`, which adds no refusal.
 pub or-accepted : (refusal : ℕ) → (refusal orElse noRefusal) ≡ refusal

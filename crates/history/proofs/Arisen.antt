@@ -41,10 +41,13 @@ module _ {settings : Settings} (passes : settingsRefusal settings ≡ noRefusal)
         steps = 0;
         ok = batch-ok passes before (there .ok) rest arrivals log _ all;
       })
-  arisen-step before after there (arrives (single arrival words part answer rest says accepts)) =
+  arisen-step before after there
+      (arrives (single arrival words part answer rest is-draw says accepts)) =
       record {
         steps = 0;
-        ok = single-ok passes before (there .ok) rest arrival words part answer says accepts;
+        ok =
+            single-ok passes before (there .ok) rest arrival words part answer says is-draw
+            accepts;
       }
   arisen-step before after there (delivers step) =
       record { steps = suc (there .steps); ok = delivered-ok passes before (there .ok) after step }

@@ -10,15 +10,17 @@ use mathlib.Core.List.{List, [], _∷_, _++_, append-assoc, append-nil}
 use Prim.Native.Nat.{ℕ, suc, _+_, _-_}
 use native.Mathlib.Omega.{arith}
 use lib.ListN.{length, take}
-use borrow.Author.Tests.{eqb-true, eq-eqb}
+use borrow.Author.Tests.{eqb-true}
 use Rattle.model.specs.declared.Settings.{Settings}
 use Rattle.model.specs.declared.Arrival.{Arrival}
 use Rattle.model.specs.declared.Message.{Message}
 use Rattle.model.specs.Choice.{isZero}
 use Rattle.model.specs.Refusals.{noRefusal}
-use Rattle.model.specs.Network.{Network, afterArrival}
-use Rattle.model.specs.Runs.{Run, withArrival, refusalIn, runOne, runFrom, Batch, batchRefusal, batchFrom, batchOf}
+use Rattle.model.specs.Draws.{drawsOf}
+use Rattle.model.specs.Network.{Network, afterLine}
+use Rattle.model.specs.Runs.{Run, lineRefusalIn, runOne, runFrom, Batch, batchRefusal, batchFrom, batchOf}
 use Rattle.model.proofs.Thresholds.RefusalLaws.{both-accepted}
+use Rattle.model.proofs.Touches.DrawLaws.{LineTaken, line-taken, drawsOf-append}
 
 -- What a batch that goes on adds to a batch, and to the run that it goes on from.
 pub record GoesOn (settings : Settings) (run : Run) (arrivals : List Arrival) (batch after : Batch)
@@ -30,7 +32,7 @@ pub record GoesOn (settings : Settings) (run : Run) (arrivals : List Arrival) (b
   pub messages-are : after .messages ≡ batch .messages ++ sent
   pub network-is : after .network ≡ runFrom settings run (take taken arrivals) .network
   pub run-accepted : runFrom settings run (take taken arrivals) .accepted
-      ≡ run .accepted ++ take taken arrivals
+      ≡ run .accepted ++ drawsOf (take taken arrivals)
   pub run-messages : runFrom settings run (take taken arrivals) .messages ≡ run .messages ++ sent
 
 module _ (settings : Settings) (room : ℕ) where
@@ -56,27 +58,23 @@ module _ (settings : Settings) (room : ℕ) where
   -- The batch with one arrival more.
   abbrev pub nextBatch : Batch → Arrival → Batch
   nextBatch batch arrival = record {
-    network = afterArrival settings (batch .network) arrival .network;
+    network = afterLine settings (batch .network) arrival .network;
     accepted = batch .accepted + 1;
-    messages = batch .messages ++ afterArrival settings (batch .network) arrival .messages;
+    messages = batch .messages ++ afterLine settings (batch .network) arrival .messages;
     refusal = noRefusal;
   }
 
   -- One arrival accepted, and what the rest of the batch then adds.
   accepts-one : (run : Run) (arrival : Arrival) (arrivals : List Arrival) (batch after : Batch)
       → batch .network ≡ run .network
-      → refusalIn settings (run .network) arrival ≡ noRefusal
-      → GoesOn settings (withArrival settings run arrival) arrivals (nextBatch batch arrival) after
+      → LineTaken settings run arrival
+      → GoesOn settings (runOne settings run arrival) arrivals (nextBatch batch arrival) after
       → GoesOn settings run (arrival ∷ arrivals) batch after
-  accepts-one run arrival arrivals batch after same none later =
-      let own = afterArrival settings (run .network) arrival .messages in
-      let one : runOne settings run arrival ≡ withArrival settings run arrival =
-      rw (eq-eqb (refusalIn settings (run .network) arrival) 0 none) in
-      let on : runFrom settings run (arrival ∷ take (later .taken) arrivals)
-      ≡ runFrom settings (withArrival settings run arrival) (take (later .taken) arrivals) =
-      ap (λ (r : Run). runFrom settings r (take (later .taken) arrivals)) one in
-      let own-same : afterArrival settings (batch .network) arrival .messages ≡ own =
-      ap (λ (network : Network). afterArrival settings network arrival .messages) same in
+  accepts-one run arrival arrivals batch after same one later =
+      let own = afterLine settings (run .network) arrival .messages in
+      let others = take (later .taken) arrivals in
+      let own-same : afterLine settings (batch .network) arrival .messages ≡ own =
+      ap (λ (network : Network). afterLine settings network arrival .messages) same in
       record {
         taken = suc (later .taken);
         sent = own ++ later .sent;
@@ -85,14 +83,16 @@ module _ (settings : Settings) (room : ℕ) where
             later .messages-are
             ∙ ap (λ (ms : List Message). (batch .messages ++ ms) ++ later .sent) own-same
             ∙ append-assoc (batch .messages) own (later .sent);
-        network-is = later .network-is ∙ ap (λ (r : Run). r .network) (sym on);
+        network-is = later .network-is;
         run-accepted =
-            ap (λ (r : Run). r .accepted) on
-            ∙ later .run-accepted
-            ∙ append-assoc (run .accepted) (arrival ∷ []) (take (later .taken) arrivals);
+            later .run-accepted
+            ∙ ap (λ (xs : List Arrival). xs ++ drawsOf others) (one .accepted-are)
+            ∙ append-assoc (run .accepted) (drawsOf (arrival ∷ [])) (drawsOf others)
+            ∙ ap (λ (xs : List Arrival). run .accepted ++ xs)
+            (sym (drawsOf-append (arrival ∷ []) others));
         run-messages =
-            ap (λ (r : Run). r .messages) on
-            ∙ later .run-messages
+            later .run-messages
+            ∙ ap (λ (ms : List Message). ms ++ later .sent) (one .messages-are)
             ∙ append-assoc (run .messages) own (later .sent);
       }
 
@@ -113,18 +113,24 @@ module _ (settings : Settings) (room : ℕ) where
           → GoesOn settings run (arrival ∷ arrivals) batch
           (batchFrom settings room batch (arrival ∷ arrivals))
       by-refusal true none later =
-          let taken : refusalIn settings (run .network) arrival ≡ noRefusal =
-          ap (λ (network : Network). refusalIn settings network arrival) (sym same)
-          ∙ both-accepted _ _ (eqb-true refusal 0 none) .first-accepted in
+          let one : LineTaken settings run arrival =
+          line-taken settings run arrival
+          (ap (λ (network : Network). lineRefusalIn settings network arrival) (sym same)
+          ∙ both-accepted _ _ (eqb-true refusal 0 none) .first-accepted) in
           rw (none, batchFrom)
           (accepts-one run arrival arrivals batch
-          (batchFrom settings room (nextBatch batch arrival) arrivals) same taken
-          (later (withArrival settings run arrival) (nextBatch batch arrival)
-          (ap (λ (network : Network). afterArrival settings network arrival .network) same)))
+          (batchFrom settings room (nextBatch batch arrival) arrivals) same one
+          (later (runOne settings run arrival) (nextBatch batch arrival)
+          (ap (λ (network : Network). afterLine settings network arrival .network) same
+          ∙ one .network-is)))
       by-refusal false some later =
           rw (some, batchFrom) (stops run (arrival ∷ arrivals) batch refusal same)
 
 -- ---- A whole batch
+
+-- A run that has accepted nothing and stands at this network.
+abbrev pub runAt : Network → Run
+runAt network = record { network = network; accepted = []; messages = [] }
 
 -- A batch from the start: a run over as many arrivals as it accepts.
 pub record BatchRun (settings : Settings) (run : Run) (arrivals : List Arrival) (batch : Batch)
@@ -132,7 +138,7 @@ pub record BatchRun (settings : Settings) (run : Run) (arrivals : List Arrival) 
   pub network-is : batch .network
       ≡ runFrom settings run (take (batch .accepted) arrivals) .network
   pub run-accepted : runFrom settings run (take (batch .accepted) arrivals) .accepted
-      ≡ run .accepted ++ take (batch .accepted) arrivals
+      ≡ run .accepted ++ drawsOf (take (batch .accepted) arrivals)
   pub run-messages : runFrom settings run (take (batch .accepted) arrivals) .messages
       ≡ run .messages ++ batch .messages
 

@@ -3,7 +3,6 @@
 --
 --   StopsAt, stops-at         of a batch that goes on
 --   BatchStops, batch-stops   of a whole batch
---   runAt network             a run that has accepted nothing and stands there
 --   not-of-arrival            a batch refused when it starts is refused by none of these
 use mathlib.Core.Path.{_≡_, refl, sym, ap, _∙_}
 use mathlib.Core.Bool.{Bool, true, false, false≢true, not}
@@ -12,28 +11,37 @@ use Prim.Native.Nat.{ℕ, zero, suc, _+_, _-_}
 use native.Mathlib.Omega.{arith}
 use lib.Dec.{ltb}
 use lib.ListN.{length, take}
-use borrow.Author.Tests.{eqb-true, eqb-false, eq-eqb, ne-eqb}
+use borrow.Author.Tests.{eqb-true, eqb-false}
 use Rattle.model.specs.declared.Settings.{Settings}
 use Rattle.model.specs.declared.Arrival.{Arrival}
-use Rattle.model.specs.Choice.{isZero}
+use Rattle.model.specs.Choice.{if_then_else_, isZero}
 use Rattle.model.specs.Refusals.{when, _orElse_, noRefusal, logTooShort, memoryTooShort, memoryInconsistent}
 use Rattle.model.specs.Limits.{mostMessages}
 use Rattle.model.specs.Settings.{settingsRefusal}
-use Rattle.model.specs.Network.{Network, afterArrival}
+use Rattle.model.specs.Draws.{isDraw}
+use Rattle.model.specs.Network.{Network, afterLine}
 use Rattle.model.specs.NetworkMemory.{networkTooShort, networkConsistent}
-use Rattle.model.specs.Runs.{Run, withArrival, refusalIn, runOne, runFrom, Batch, batchRefusal, batchFrom, batchOf}
+use Rattle.model.specs.Runs.{Run, lineRefusalIn, isTaken, runOne, runFrom, Batch, batchRefusal, batchFrom, batchOf}
 use Rattle.model.proofs.Thresholds.RefusalLaws.{both-accepted}
+use Rattle.model.proofs.Touches.DrawLaws.{refused-left, LineTaken, line-taken}
 use Rattle.tracker.specs.Batch.{BatchCall, startRefusal}
 use Rattle.history.specs.Given.{ofArrival}
 use Rattle.history.proofs.BatchRuns.{nextBatch}
 
--- A refusal of a batch that is of its arrival is the rules' own.
-rules-refuse : (own : ℕ) (short : Bool)
-    → ofArrival (own orElse when short logTooShort orElse noRefusal) ≡ true
-    → isZero own ≡ false
-rules-refuse zero true of = absurd (false≢true of)
-rules-refuse zero false of = absurd (false≢true of)
-rules-refuse (suc own) short of = ne-eqb (suc own) 0 (λ none. omega arith)
+-- 14 is not of an arrival, so a refusal of a batch that is of its arrival is the rules' own.
+not-of-log : (drawn short : Bool)
+    → ofArrival
+    (if drawn then (when short logTooShort orElse noRefusal) else noRefusal) ≡ false
+not-of-log true true = refl
+not-of-log true false = refl
+not-of-log false short = refl
+
+rules-refuse : (own later : ℕ)
+    → ofArrival later ≡ false
+    → ofArrival (own orElse later) ≡ true
+    → own ≡ noRefusal → ⊥
+rules-refuse zero later not-of of none = false≢true (sym not-of ∙ of)
+rules-refuse (suc own) later not-of of none = omega (arith, none)
 
 module _ (settings : Settings) (room : ℕ) where
   -- So many more arrivals were taken, and what stopped it there.
@@ -72,20 +80,17 @@ module _ (settings : Settings) (room : ℕ) where
           → StopsAt run (arrival ∷ arrivals) batch
           (batchFrom settings room batch (arrival ∷ arrivals))
       by-refusal true none later =
-          let own : refusalIn settings (run .network) arrival ≡ noRefusal =
-          ap (λ (network : Network). refusalIn settings network arrival) (sym same)
-          ∙ both-accepted _ _ (eqb-true refusal 0 none) .first-accepted in
-          let one : runOne settings run arrival ≡ withArrival settings run arrival =
-          rw (eq-eqb (refusalIn settings (run .network) arrival) 0 own) in
-          let on = later (withArrival settings run arrival) (nextBatch settings room batch arrival)
-          (ap (λ (network : Network). afterArrival settings network arrival .network) same) in
+          let one : LineTaken settings run arrival =
+          line-taken settings run arrival
+          (ap (λ (network : Network). lineRefusalIn settings network arrival) (sym same)
+          ∙ both-accepted _ _ (eqb-true refusal 0 none) .first-accepted) in
+          let on = later (runOne settings run arrival) (nextBatch settings room batch arrival)
+          (ap (λ (network : Network). afterLine settings network arrival .network) same
+          ∙ one .network-is) in
           rw (none, batchFrom) (record {
             taken = suc (on .taken);
             accepted-is = on .accepted-is ∙ omega arith;
-            no-trace = λ of.
-                ap (λ (r : Run). runFrom settings r (take (suc (on .taken)) arrivals)) one
-                ∙ on .no-trace of
-                ∙ ap (λ (r : Run). runFrom settings r (take (on .taken) arrivals)) (sym one);
+            no-trace = λ of. on .no-trace of;
             all-taken = λ stopped. ap suc (on .all-taken stopped);
           })
       by-refusal false some later =
@@ -93,21 +98,18 @@ module _ (settings : Settings) (room : ℕ) where
             taken = 0;
             accepted-is = omega arith;
             no-trace = λ of.
-                let own : isZero (refusalIn settings (batch .network) arrival) ≡ false =
-                rules-refuse (refusalIn settings (batch .network) arrival)
-                (ltb free (mostMessages settings)) of in
-                let refused : isZero (refusalIn settings (run .network) arrival) ≡ false =
-                ap (λ (network : Network). isZero (refusalIn settings network arrival)) (sym same)
-                ∙ own in
-                rw refused;
+                let own = rules-refuse (lineRefusalIn settings (batch .network) arrival) _
+                (not-of-log (isDraw arrival) (ltb free (mostMessages settings))) of in
+                let left : isTaken settings (run .network) arrival ≡ false =
+                refused-left settings (run .network) arrival
+                (λ none. own
+                (ap (λ (network : Network). lineRefusalIn settings network arrival) same
+                ∙ none)) in
+                rw left;
             all-taken = λ none. absurd (eqb-false refusal 0 some none);
           })
 
 -- ---- A whole batch
-
--- A run that has accepted nothing and stands at this network.
-abbrev pub runAt : Network → Run
-runAt network = record { network = network; accepted = []; messages = [] }
 
 -- What stopped it, after those that it accepted.
 pub record BatchStops (settings : Settings) (run : Run) (arrivals : List Arrival) (batch : Batch)

@@ -18,10 +18,11 @@ use Rattle.model.specs.SiteMemory.{siteWords}
 use Rattle.model.specs.CoordinatorMemory.{coordinatorIn, coordinatorRecord, coordinatorMemory}
 use Rattle.model.specs.Network.{Network}
 use Rattle.model.specs.NetworkMemory.{sitesIn, sitesMemory, siteRecords}
+use Rattle.model.specs.Draws.{drawsOf}
 use Rattle.model.specs.Runs.{Run, runFrom, runOf, Batch, batchOf}
 use Rattle.model.specs.SoundNetwork.{Sound}
 use Rattle.model.proofs.Thresholds.SettingsLaws.{Settled, settled}
-use Rattle.model.proofs.Runs.RunLaws.{runFrom-append}
+use Rattle.model.proofs.Runs.RunLaws.{runFrom-append, runFrom-draws}
 use Rattle.site_memory.proofs.SitesMemoryLaws.{AllStorable, all-storable, length-siteRecords, length-sitesMemory}
 use Rattle.site_memory.proofs.SitesReading.{sitesIn-sitesMemory}
 use Rattle.coordinator_kinds.proofs.MemoryLaws.{written-coordinator}
@@ -124,13 +125,15 @@ module _ {settings : Settings} (passes : settingsRefusal settings ≡ noRefusal)
       (sym (rest .network-is))
       (batch-run settings (logRoom log) arrivals (runOf settings (before .accepted)))
 
-  -- The arrivals accepted then.
+  -- The draws accepted then.
   abbrev acceptedThen : List Arrival
-  acceptedThen = before .accepted ++ take (batch .accepted) arrivals
+  acceptedThen = before .accepted ++ drawsOf (take (batch .accepted) arrivals)
 
   run-on : runOf settings acceptedThen
       ≡ runFrom settings (runOf settings (before .accepted)) (take (batch .accepted) arrivals)
-  run-on = runFrom-append settings _ (before .accepted) (take (batch .accepted) arrivals)
+  run-on =
+      runFrom-append settings _ (before .accepted) (drawsOf (take (batch .accepted) arrivals))
+      ∙ runFrom-draws settings _ (take (batch .accepted) arrivals)
 
   network-then : batch .network ≡ runOf settings acceptedThen .network
   network-then = as-run .network-is ∙ ap (λ (run : Run). run .network) (sym run-on)
@@ -157,7 +160,7 @@ module _ {settings : Settings} (passes : settingsRefusal settings ≡ noRefusal)
     accepted-are =
         ap (λ (run : Run). run .accepted) run-on
         ∙ as-run .run-accepted
-        ∙ ap (λ (front : List Arrival). front ++ take (batch .accepted) arrivals)
+        ∙ ap (λ (front : List Arrival). front ++ drawsOf (take (batch .accepted) arrivals))
         (rest .accepted-are);
     network-is =
         network-written passes (before .held) (ok .lengths) (batch .network) sound-then
@@ -206,7 +209,7 @@ module _ {settings : Settings} (passes : settingsRefusal settings ≡ noRefusal)
             coordinatorMemory = memory i;
           };
           waiting = before .waiting;
-          accepted = before .accepted ++ take (taken i) arrivals;
+          accepted = before .accepted ++ drawsOf (take (taken i) arrivals);
           messages = before .messages ++ read i;
           logged = before .logged + written i;
         }

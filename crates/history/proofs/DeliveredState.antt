@@ -136,6 +136,7 @@ module _ {settings : Settings} (passes : settingsRefusal settings ≡ noRefusal)
               standing = delivering (record {
                 front = mid .front;
                 arrival = mid .arrival;
+                is-draw = mid .is-draw;
                 accepted-are = keeps .same-accepted ∙ mid .accepted-are;
                 front-accepted = mid .front-accepted;
                 underway = on;

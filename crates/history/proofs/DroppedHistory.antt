@@ -7,6 +7,7 @@ use mathlib.Core.Path.{refl}
 use native.Mathlib.Omega.{arith}
 use lib.ListN.{replicate}
 use Rattle.model.specs.Limits.{valueCount}
+use Rattle.model.specs.Runs.{isTaken}
 use Rattle.model.specs.Instances.{settingsA}
 use Rattle.model.specs.DroppedInstances.{twelveDraws}
 use Rattle.history.specs.Histories.{Reachable}
@@ -17,7 +18,7 @@ use Rattle.history.proofs.OneBatch.{reached-by-batch}
 
 -- Twelve draws in one batch, with a log of 150 records.
 twelve-reached : Reachable settingsA afterTwelve
-unfolding valueCount
+unfolding valueCount isTaken
 twelve-reached =
     reached-by-batch twelveDraws (replicate 600 8) (answerFor afterTwelve (replicate 208 8))
     (record {
@@ -32,7 +33,7 @@ twelve-reached =
     })
 
 pub dropped-history : DroppedHistory
-unfolding valueCount
+unfolding valueCount isTaken
 dropped-history = record {
   twelve-reached = twelve-reached;
   many-messages = refl;

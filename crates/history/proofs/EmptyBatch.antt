@@ -1,91 +1,60 @@
--- A batch call that accepts no arrival, refused or not, leaves everything as it was. For every
--- state, arisen or not.
+-- A batch call that accepts no draw leaves everything as it was: refused, or with no arrivals, or
+-- with touches alone. For every state, arisen or not.
 --
---   NothingDone, nothing-done    a batch of the model that accepts nothing
+--   NothingDone, nothing-done    a batch of the model that accepts no draw
 --   batch-same                   the state after such a call
 use mathlib.Core.Path.{_≡_, refl, sym, ap, _∙_}
 use mathlib.Core.Bool.{Bool, true, false}
-use mathlib.Core.List.{List, [], _∷_, _++_, append-nil}
-use Prim.Native.Nat.{ℕ, _+_, _-_, _≤_}
+use mathlib.Core.List.{List, [], append-nil}
+use Prim.Native.Nat.{ℕ, _+_}
 use native.Mathlib.Omega.{arith}
-use lib.ListN.{length}
+use lib.ListN.{length, take}
 use borrow.Author.Tests.{eq-eqb, eqb-true}
 use Rattle.model.specs.declared.Settings.{Settings}
 use Rattle.model.specs.declared.Arrival.{Arrival}
 use Rattle.model.specs.Choice.{isZero}
 use Rattle.model.specs.Refusals.{noRefusal}
-use Rattle.model.specs.Network.{Network, afterArrival}
-use Rattle.model.specs.Runs.{Batch, batchRefusal, batchFrom, batchOf}
+use Rattle.model.specs.Draws.{drawsOf}
+use Rattle.model.specs.Network.{Network}
+use Rattle.model.specs.Runs.{Run, runFrom, Batch, batchOf}
+use Rattle.model.proofs.Runs.RunLaws.{runFrom-draws}
 use Rattle.model.proofs.Soundness.ConsistentNetwork.{Passes, passes-of}
 use Rattle.site_memory.proofs.SitesReading.{enough-records, used-within, siteRecords-sitesIn, sitesMemory-sitesIn}
 use Rattle.coordinator_kinds.proofs.MemoryLaws.{memory-kept}
 use Rattle.tracker.specs.Batch.{BatchCall, BatchSays, startRefusal, batchIn, unlessRefused, BatchHeld}
-use Rattle.history.specs.State.{Held, State, networkOf, heldRefusal, noRecord}
+use Rattle.history.specs.State.{Held, State, networkOf, noRecord}
 use Rattle.history.specs.Histories.{batchCall, afterBatch}
+use Rattle.history.proofs.BatchRuns.{runAt, batch-run}
 
--- ---- A batch of the model that accepts nothing
+-- ---- A batch of the model that accepts no draw
 
 -- The network is as it was, and nothing was sent.
 pub record NothingDone (network : Network) (batch : Batch) : Type 0 where
   pub network-same : batch .network ≡ network
   pub no-messages : batch .messages ≡ []
 
--- The number accepted only grows, so a batch that ends with none took none on the way.
-never-fewer : (settings : Settings) (room : ℕ) (arrivals : List Arrival) (batch : Batch)
-    → batch .accepted ≤ batchFrom settings room batch arrivals .accepted
-never-fewer settings room [] batch = omega arith
-never-fewer settings room (arrival ∷ arrivals) batch =
-    by-refusal (isZero refusal) refl (never-fewer settings room arrivals)
-  where
-    refusal : ℕ
-    refusal = batchRefusal settings (batch .network) (room - length (batch .messages)) arrival
-
-    by-refusal : (none : Bool) → isZero refusal ≡ none
-        → ((next : Batch) → next .accepted ≤ batchFrom settings room next arrivals .accepted)
-        → batch .accepted ≤ batchFrom settings room batch (arrival ∷ arrivals) .accepted
-    by-refusal true none later =
-        let next : Batch = record {
-          network = afterArrival settings (batch .network) arrival .network;
-          accepted = batch .accepted + 1;
-          messages = batch .messages ++ afterArrival settings (batch .network) arrival .messages;
-          refusal = noRefusal;
-        } in
-        rw (none, batchFrom) (omega (arith, later next))
-    by-refusal false some later = rw (some, batchFrom) (omega arith)
-
--- A batch that accepts no arrival did nothing.
+-- A batch that accepts no draw did nothing: it is a run over its draws, which are none.
 pub nothing-done : (settings : Settings) (room : ℕ) (network : Network) (arrivals : List Arrival)
-    → batchOf settings room network arrivals .accepted ≡ 0
+    → drawsOf (take (batchOf settings room network arrivals .accepted) arrivals) ≡ []
     → NothingDone network (batchOf settings room network arrivals)
-nothing-done settings room network [] none = record { network-same = refl; no-messages = refl }
-nothing-done settings room network (arrival ∷ arrivals) none = by-refusal (isZero refusal) refl
-  where
-    refusal : ℕ
-    refusal = batchRefusal settings network (room - 0) arrival
-
-    by-refusal : (accepts : Bool) → isZero refusal ≡ accepts
-        → NothingDone network (batchOf settings room network (arrival ∷ arrivals))
-    by-refusal true accepts =
-        let next : Batch = record {
-          network = afterArrival settings network arrival .network;
-          accepted = 0 + 1;
-          messages = [] ++ afterArrival settings network arrival .messages;
-          refusal = noRefusal;
-        } in
-        let some : 1 ≤ batchFrom settings room next arrivals .accepted =
-        never-fewer settings room arrivals next in
-        let is : batchOf settings room network (arrival ∷ arrivals) .accepted
-        ≡ batchFrom settings room next arrivals .accepted = rw (accepts, batchFrom) in
-        absurd (omega arith)
-    by-refusal false refuses =
-        rw (refuses, batchFrom) (record { network-same = refl; no-messages = refl })
+nothing-done settings room network arrivals none =
+    let batch = batchOf settings room network arrivals in
+    let run = batch-run settings room arrivals (runAt network) in
+    let idle : runFrom settings (runAt network) (take (batch .accepted) arrivals)
+    ≡ runAt network =
+    sym (runFrom-draws settings (runAt network) (take (batch .accepted) arrivals))
+    ∙ ap (runFrom settings (runAt network)) none in
+    record {
+      network-same = run .network-is ∙ ap (λ (r : Run). r .network) idle;
+      no-messages = sym (run .run-messages) ∙ ap (λ (r : Run). r .messages) idle;
+    }
 
 -- ---- The state after the call
 
 module _ (before : State) (given : Settings) (arrivals : List Arrival) (log : List ℕ)
     (answer : BatchHeld)
     (says : BatchSays (batchCall given (before .held) arrivals log) answer)
-    (nothing : answer .accepted ≡ 0) where
+    (nothing : drawsOf (take (answer .accepted) arrivals) ≡ []) where
   abbrev call : BatchCall
   call = batchCall given (before .held) arrivals log
 
@@ -103,12 +72,14 @@ module _ (before : State) (given : Settings) (arrivals : List Arrival) (log : Li
       by-test true none = is ∙ rw none (same (eqb-true (startRefusal call) 0 none))
       by-test false some = is ∙ rw some
 
-  -- Where it was not refused, the model's batch accepts nothing.
+  -- Where it was not refused, the model's batch accepts no draw.
   idle-batch : startRefusal call ≡ noRefusal
       → NothingDone (networkOf given held) (batchIn call)
   idle-batch none =
       nothing-done given _ (networkOf given held) arrivals
-      (sym (rw (eq-eqb (startRefusal call) 0 none) at (says .accepted)) ∙ nothing)
+      (ap (λ (n : ℕ). drawsOf (take n arrivals))
+      (sym (rw (eq-eqb (startRefusal call) 0 none) at (says .accepted)))
+      ∙ nothing)
 
   passes : startRefusal call ≡ noRefusal
       → Passes given (held .sites) (held .coordinator) (held .siteMemory) (held .coordinatorMemory)

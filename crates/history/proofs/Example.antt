@@ -4,9 +4,10 @@
 --
 --   begins                                  the two start calls
 --   draw-refused, draw-accepted             single draws
+--   touch-underway, touches-alone           touches, single and in a batch that has no log
 --   item-report, count-report, polled, poll-answered, announced, told    the delivery
 --   message-refused, slice-refused, draw-refused-underway                refused calls in it
---   batch-stopped                           a batch of two draws
+--   batch-stopped                           a batch of two draws and a touch
 use mathlib.Core.Path.{_≡_, refl}
 use mathlib.Core.List.{[], _∷_, _++_}
 use Prim.Native.Nat.{ℕ, suc}
@@ -17,9 +18,11 @@ use Rattle.model.specs.Limits.{valueCount}
 use Rattle.model.specs.Messages.{noMessage, itemReport, countReport, poll, pollAnswer, announcement}
 use Rattle.model.specs.NetworkMemory.{freshSites}
 use Rattle.model.specs.Instances.{settingsA, arrivalWith, draw}
+use Rattle.model.specs.TouchInstances.{touch}
 use Rattle.site_steps.specs.declared.Observed.{Observed}
+use Rattle.site.specs.Calls.{observeTakes}
 use Rattle.tracker.specs.Batch.{messageNumbers}
-use Rattle.history.specs.Histories.{Arrives, batch, single, Delivers, to-coordinator, to-site, next-announcement, Refuses, arrival-refused, coordinator-message-refused, Reachable, started}
+use Rattle.history.specs.Histories.{Arrives, batch, single, Delivers, to-coordinator, to-site, next-announcement, Refuses, arrival-left, coordinator-message-refused, batch-takes-none, Reachable, started}
 use Rattle.history.specs.State.{fronts, lending}
 use Rattle.history.specs.Example.{siteAfter, siteNumbers, coordinatorWith, coordinatorNumbers, allMessages, startedState, afterDraw, afterItemReport, afterCountReport, afterPoll, afterPollAnswer, afterAnnouncement, atRestAgain, afterBatchOfTwo}
 
@@ -52,9 +55,9 @@ begins =
 -- ---- A refused draw: item 10 is none, 6
 
 unfoldable pub draw-refused : Refuses startedState startedState
-unfolding valueCount
+unfolding valueCount observeTakes
 draw-refused =
-    arrival-refused settingsA 0 (arrivalWith 0 10 3) 0 1050 (siteNumbers 0)
+    arrival-left settingsA 0 (arrivalWith 0 10 3) 0 1050 (siteNumbers 0)
     (drawAnswer 6 0)
     (record {
       refusal = refl;
@@ -64,12 +67,12 @@ draw-refused =
       second = refl;
       memory = refl;
     })
-    (refused-number 5)
+    (λ none. absurd (refused-number 5 none))
 
 -- ---- The draw of P2, on a part that reaches past the site's own numbers
 
 unfoldable pub draw-accepted : Arrives settingsA startedState afterDraw
-unfolding valueCount
+unfolding valueCount observeTakes
 draw-accepted =
     single draw 1050 (siteNumbers 1)
     (record {
@@ -80,6 +83,7 @@ draw-accepted =
       second = countReport 0 1 3;
     })
     (record { nothing-waits = refl; idle = refl })
+    refl
     (record {
       refusal = refl;
       site = refl;
@@ -134,9 +138,9 @@ slice-refused =
 
 -- A draw that names no site, given to site 0: 5.
 unfoldable pub draw-refused-underway : Refuses afterItemReport afterItemReport
-unfolding valueCount
+unfolding valueCount observeTakes
 draw-refused-underway =
-    arrival-refused settingsA 0 (arrivalWith 1 7 3) 0 1048 (take 1048 (siteNumbers 1))
+    arrival-left settingsA 0 (arrivalWith 1 7 3) 0 1048 (take 1048 (siteNumbers 1))
     (drawAnswer 5 1)
     (record {
       refusal = refl;
@@ -146,7 +150,23 @@ draw-refused-underway =
       second = refl;
       memory = refl;
     })
-    (refused-number 4)
+    (λ none. absurd (refused-number 4 none))
+
+-- A touch, which is accepted and changes nothing.
+unfoldable pub touch-underway : Refuses afterItemReport afterItemReport
+unfolding valueCount observeTakes
+touch-underway =
+    arrival-left settingsA 0 touch 0 1048 (take 1048 (siteNumbers 1))
+    (drawAnswer 0 1)
+    (record {
+      refusal = refl;
+      site = refl;
+      count = refl;
+      first = refl;
+      second = refl;
+      memory = refl;
+    })
+    (λ _. refl)
 
 pub count-report : Delivers settingsA afterItemReport afterCountReport
 unfolding valueCount
@@ -215,15 +235,41 @@ told =
     (record { refusal = refl; site = refl; count = refl; reply = refl })
     refl
 
--- ---- A batch of two draws, with a log of 25 records: 14 before the second
+-- ---- A batch of two touches, with no log
+
+unfoldable pub touches-alone : Refuses atRestAgain atRestAgain
+unfolding valueCount
+touches-alone =
+    batch-takes-none settingsA (fronts 1050 1036) (touch ∷ (touch ∷ [])) []
+    (record {
+      refusal = 0;
+      accepted = 2;
+      written = 0;
+      held = atRestAgain .held;
+      log = [];
+    })
+    (record {
+      refusal = refl;
+      accepted = refl;
+      written = refl;
+      sites = refl;
+      coordinator = refl;
+      site-memory = refl;
+      coordinator-memory = refl;
+      log = refl;
+    })
+    refl
+
+-- ---- A batch of two draws and a touch between them, with a log of 25 records: 14 before the
+-- second draw
 
 unfoldable pub batch-stopped : Arrives settingsA atRestAgain afterBatchOfTwo
 unfolding valueCount
 batch-stopped =
-    batch 1048 1035 (draw ∷ (draw ∷ [])) (replicate 100 8)
+    batch 1048 1035 (draw ∷ (touch ∷ (draw ∷ []))) (replicate 100 8)
     (record {
       refusal = 14;
-      accepted = 1;
+      accepted = 2;
       written = 5;
       held = lending (afterBatchOfTwo .held) (fronts 1048 1035);
       log = messageNumbers (allMessages 2) ++ replicate 80 8;

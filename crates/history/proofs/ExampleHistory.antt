@@ -9,13 +9,14 @@ use mathlib.Core.List.{[], _∷_}
 use Rattle.model.specs.declared.Quantile.the-variants.{Value}
 use Rattle.model.specs.Limits.{valueCount}
 use Rattle.model.specs.Instances.{settingsA, arrivalWith, draw}
+use Rattle.model.specs.TouchInstances.{touch}
 use Rattle.coordinator_reading.specs.Contracts.{QuantileSays}
 use Rattle.coordinator_list.specs.Contracts.{ListSays}
 use Rattle.history.specs.State.{State, coordinatorPart}
 use Rattle.history.specs.Histories.{Step, arrives, delivers, refuses, Reachable, stepped}
 use Rattle.history.specs.Given.{givenIn, keptOutIn}
 use Rattle.history.specs.Example.{startedState, afterDraw, afterItemReport, afterCountReport, afterPoll, afterPollAnswer, afterAnnouncement, atRestAgain, afterBatchOfTwo}
-use Rattle.history.proofs.Example.{begins, draw-refused, draw-accepted, item-report, message-refused, slice-refused, draw-refused-underway, count-report, polled, poll-answered, announced, told, batch-stopped}
+use Rattle.history.proofs.Example.{begins, draw-refused, draw-accepted, item-report, message-refused, slice-refused, draw-refused-underway, touch-underway, count-report, polled, poll-answered, announced, told, touches-alone, batch-stopped}
 
 -- ---- The whole history
 
@@ -26,35 +27,38 @@ abbrev then : {before : State} (after : State)
     → Reachable settingsA after
 then {before} after step earlier = stepped before after earlier step
 
--- Twelve calls after the two starts.
+-- Fourteen calls after the two starts.
 pub example : Reachable settingsA afterBatchOfTwo
 example =
     then afterBatchOfTwo (arrives batch-stopped)
+    (then atRestAgain (refuses touches-alone)
     (then atRestAgain (delivers told)
     (then afterAnnouncement (delivers announced)
     (then afterPollAnswer (delivers poll-answered)
     (then afterPoll (delivers polled)
     (then afterCountReport (delivers count-report)
+    (then afterItemReport (refuses touch-underway)
     (then afterItemReport (refuses draw-refused-underway)
     (then afterItemReport (refuses slice-refused)
     (then afterItemReport (refuses message-refused)
     (then afterItemReport (delivers item-report)
     (then afterDraw (arrives draw-accepted)
-    (then startedState (refuses draw-refused) begins)))))))))))
+    (then startedState (refuses draw-refused) begins)))))))))))))
 
 -- ---- Its draws
 
--- Item 10 and site 1 are none: 6 and 5. Of the batch 14 stopped the second draw.
+-- Item 10 and site 1 are none: 6 and 5. Of the last batch 14 stopped the second draw.
 pub example-given : givenIn example
-    ≡ arrivalWith 0 10 3 ∷ (draw ∷ (arrivalWith 1 7 3 ∷ (draw ∷ [])))
+    ≡ arrivalWith 0 10 3
+    ∷ (draw ∷ (arrivalWith 1 7 3 ∷ (touch ∷ (touch ∷ (touch ∷ (draw ∷ (touch ∷ [])))))))
 unfolding example begins draw-refused draw-accepted message-refused slice-refused
-    draw-refused-underway batch-stopped
+    draw-refused-underway touch-underway touches-alone batch-stopped
 example-given = refl
 
 -- Which no rule was asked about.
 pub example-kept-out : keptOutIn example ≡ draw ∷ []
 unfolding example begins draw-refused draw-accepted message-refused slice-refused
-    draw-refused-underway batch-stopped
+    draw-refused-underway touch-underway touches-alone batch-stopped
 example-kept-out = refl
 
 -- ---- A reading: "listed 7", "class 3"

@@ -10,11 +10,10 @@ use lib.ListN.{length, getD, take, length-append}
 use lib.Seq.{take-suc, take-append-seam, take-length}
 use Rattle.model.specs.declared.Settings.{Settings}
 use Rattle.model.specs.declared.Arrival.{Arrival}
-use Rattle.model.specs.Choice.{isZero}
 use Rattle.model.specs.Refusals.{noRefusal}
 use Rattle.model.specs.Settings.{settingsRefusal}
 use Rattle.model.specs.Network.{afterArrival}
-use Rattle.model.specs.Runs.{withArrival, refusalIn, runOne, runOf}
+use Rattle.model.specs.Runs.{withArrival, isTaken, runOne, runOf}
 use Rattle.model.proofs.Deliveries.DeliveryTheorem.{delivery-claims}
 use Rattle.model.proofs.Runs.RunLaws.{runFrom-append}
 use Rattle.model.proofs.Numbers.NeverFalls.{either}
@@ -26,7 +25,7 @@ noArrival : Arrival
 noArrival = record { site = 0; item = 0; value = 0 }
 
 module _ (settings : Settings) (passes : settingsRefusal settings ≡ noRefusal) where
-  -- An arrival that is accepted adds the messages of its delivery; one that is refused adds none.
+  -- An arrival that is taken adds the messages of its delivery; any other adds none.
   one-follows : (arrivals : List Arrival) (arrival : Arrival)
       → FewFollow settings (runOf settings arrivals)
       (runOne settings (runOf settings arrivals) arrival)
@@ -35,7 +34,7 @@ module _ (settings : Settings) (passes : settingsRefusal settings ≡ noRefusal)
       let sent = afterArrival settings (run .network) arrival .messages in
       let few = delivery-claims .few-messages settings (run .network) arrival
       (demands-over-runs .tracks settings arrivals passes .at-rest) in
-      either (FewFollow settings run) (isZero (refusalIn settings (run .network) arrival))
+      either (FewFollow settings run) (isTaken settings (run .network) arrival)
       (withArrival settings run arrival) run
       (record {
         messages-stay = take-append-seam (run .messages) sent;

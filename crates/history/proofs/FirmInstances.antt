@@ -8,6 +8,7 @@ use Prim.Native.Nat.{ℕ, _+_, _-_, _*_}
 use native.Mathlib.Omega.{arith}
 use lib.ListN.{replicate}
 use Rattle.model.specs.Limits.{valueCount}
+use Rattle.model.specs.Runs.{isTaken}
 use Rattle.model.specs.Claims.{counted}
 use Rattle.model.specs.Instances.{settingsA}
 use Rattle.model.proofs.Thresholds.SettingsLaws.{settled}
@@ -21,7 +22,7 @@ use Rattle.history.proofs.OneBatch.{reached-by-batch}
 
 -- Seven draws in one batch, with a log of 75 records.
 seven-reached : Reachable settingsA afterSeven
-unfolding valueCount
+unfolding valueCount isTaken
 seven-reached =
     reached-by-batch sevenDraws (replicate 300 8) (answerFor afterSeven (replicate 100 8))
     (record {
@@ -37,7 +38,7 @@ seven-reached =
 
 -- What is promised of the list there.
 list-right : ListRight settingsA afterSeven threeBefore threeAfter answerOfTwo
-unfolding valueCount
+unfolding valueCount isTaken
 list-right =
     demands .second settingsA afterSeven refl seven-reached
     .at-rest (record { nothing-waits = refl; idle = refl })
@@ -45,7 +46,7 @@ list-right =
     (record { refusal = refl; count = refl; list = refl })
 
 pub firm-instances : FirmInstances
-unfolding valueCount
+unfolding valueCount isTaken
 firm-instances = record {
   seven-reached = seven-reached;
   total-6 = refl;

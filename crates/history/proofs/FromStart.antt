@@ -6,6 +6,7 @@
 --   from-step                        kept by every step
 --   held-whole                       all that is held
 use mathlib.Core.Path.{_≡_, sym, ap, _∙_, subst}
+use mathlib.Core.Bool.{true}
 use mathlib.Core.List.{List, _++_}
 use Prim.Native.Nat.{ℕ, _+_, _*_, _≤_}
 use native.Mathlib.Omega.{arith}
@@ -17,6 +18,7 @@ use Rattle.model.specs.declared.SiteRecord.{SiteRecord}
 use Rattle.model.specs.Refusals.{noRefusal}
 use Rattle.model.specs.Limits.{mostSites}
 use Rattle.model.specs.Settings.{settingsRefusal}
+use Rattle.model.specs.Draws.{isDraw}
 use Rattle.model.specs.Site.{siteReceives}
 use Rattle.model.specs.SiteMemory.{siteWords, siteMemory}
 use Rattle.model.specs.Network.{Network, siteAt}
@@ -136,20 +138,23 @@ module _ {settings : Settings} (passes : settingsRefusal settings ≡ noRefusal)
       (arrival : Arrival) (words : ℕ) (part : List ℕ) (answer : Observed)
       (says : ObserveSays settings (recordAt held (arrival .site)) arrival
       (sitePart settings held (arrival .site) words) part answer)
+      (is-draw : isDraw arrival ≡ true)
       (accepts : answer .refusal ≡ noRefusal) where
     -- A single arrival writes its site.
     single-over : Over (afterSingle settings state arrival words part answer .held)
     single-over =
         let j = arrival .site in
         let old = rest .sound in
-        let site = Single.site passes state rest arrival words part answer says accepts in
-        let fits = Single.site-fits passes state rest arrival words part answer says accepts in
-        let known = Single.known passes state rest arrival words part answer says accepts in
-        let read = Single.network-then passes state rest arrival words part answer says accepts in
+        let site = Single.site passes state rest arrival words part answer says is-draw accepts in
+        let fits = Single.site-fits passes state rest arrival words part answer says is-draw
+        accepts in
+        let known = Single.known passes state rest arrival words part answer says is-draw accepts in
+        let read = Single.network-then passes state rest arrival words part answer says is-draw
+        accepts in
         subst (λ (s : State). Over (s .held))
-        (sym (Single.after-is passes state rest arrival words part answer says accepts))
+        (sym (Single.after-is passes state rest arrival words part answer says is-draw accepts))
         (memory-then passes held (rest .lengths) (old .sites-sound) j known site fits words
-        (Single.long passes state rest arrival words part answer says accepts)
+        (Single.long passes state rest arrival words part answer says is-draw accepts)
         ∙ ap (λ (memory : List ℕ).
         take (siteStart settings j) memory
         ++ siteMemory settings site (drop (siteStart settings j) memory))
@@ -163,7 +168,8 @@ module _ {settings : Settings} (passes : settingsRefusal settings ≡ noRefusal)
     pub from-single : FromStart settings start
         (afterSingle settings state arrival words part answer .held)
     from-single =
-        kept-from from (single-kept passes state rest arrival words part answer says accepts)
+        kept-from from
+        (single-kept passes state rest arrival words part answer says is-draw accepts)
         single-over
 
   module _ {origin : Network} {arrival : Arrival} {past : List Message} {n : ℕ}
@@ -245,9 +251,9 @@ module _ {settings : Settings} (passes : settingsRefusal settings ≡ noRefusal)
       (λ (after : State). WrittenOver settings (start .siteMemory) (after .held))
       (from .site-memory)
       (batch-over arrivals log _ rest))
-  from-step after (arrives (single arrival words part answer rest says accepts)) =
+  from-step after (arrives (single arrival words part answer rest is-draw says accepts)) =
       from-single passes state start from (sound-rest-of passes ok rest) arrival words part answer
-      says accepts
+      says is-draw accepts
   from-step after (delivers step) = by-standing (ok .standing)
     where
       by-standing : Standing settings n state → FromStart settings start (after .held)

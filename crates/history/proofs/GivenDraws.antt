@@ -16,17 +16,18 @@ use Rattle.model.specs.declared.Arrival.{Arrival}
 use Rattle.model.specs.Choice.{if_then_else_, isZero}
 use Rattle.model.specs.Refusals.{noRefusal}
 use Rattle.model.specs.Settings.{settingsRefusal}
+use Rattle.model.specs.Draws.{isDraw, drawsOf}
 use Rattle.model.specs.Runs.{Run, runFrom, runOf}
-use Rattle.model.proofs.Runs.RunLaws.{runFrom-append}
+use Rattle.model.proofs.Runs.RunLaws.{runFrom-append, runFrom-draws}
 use Rattle.site_steps.specs.declared.Observed.{Observed}
 use Rattle.site.specs.Calls.{ObserveSays}
 use Rattle.tracker.specs.Batch.{BatchHeld, BatchSays}
 use Rattle.history.specs.State.{Held, State, recordAt, partOf, siteStart, Slices, fronts, lending}
-use Rattle.history.specs.Histories.{batchCall, batch, single, to-coordinator, to-site, next-announcement, Refuses, arrival-refused, site-message-refused, coordinator-message-refused, announcement-refused, batch-accepts-nothing, Step, arrives, delivers, refuses, Reachable, started, stepped}
+use Rattle.history.specs.Histories.{batchCall, batch, single, to-coordinator, to-site, next-announcement, Refuses, arrival-left, site-message-refused, coordinator-message-refused, announcement-refused, batch-takes-none, Step, arrives, delivers, refuses, Reachable, started, stepped}
 use Rattle.history.specs.Given.{ofArrival, decidedCount, Handed, noDraw, drawHanded, batchHanded, sameSettings, ownDraw, ownBatch, handedRefused, givenBy, givenIn, AsGiven}
 use Rattle.history.proofs.Invariant.{StateOk, run-of-standing}
 use Rattle.history.proofs.Refused.{refused-same}
-use Rattle.history.proofs.RefusedDraws.{draw-no-trace, batch-no-trace, refused-batch-no-trace}
+use Rattle.history.proofs.RefusedDraws.{touch-no-trace, draw-no-trace, batch-no-trace, touches-no-trace, refused-batch-no-trace}
 use Rattle.history.proofs.Arisen.{arisen}
 
 -- ---- The same settings
@@ -87,13 +88,13 @@ module _ {settings : Settings} (passes : settingsRefusal settings ≡ noRefusal)
   run = runOf settings (before .accepted)
 
   -- A refused draw, if it is one of the list.
-  draw-given : (given : Settings) (which : ℕ) (arrival : Arrival) (start words : ℕ)
+  refused-draw-given : (given : Settings) (which : ℕ) (arrival : Arrival) (start words : ℕ)
       (part : List ℕ) (answer : Observed)
       → ObserveSays given (recordAt held which) arrival (partOf held start words) part answer
       → ownDraw settings given which arrival start ≡ true
       → ofArrival (answer .refusal) ≡ true
       → runFrom settings run (arrival ∷ []) ≡ run
-  draw-given given which arrival start words part answer says own of =
+  refused-draw-given given which arrival start words part answer says own of =
       let names = eqb which (arrival .site) || leb (settings .sites) (arrival .site) in
       let known = ltb which (settings .sites) in
       let same = sameSettings given settings in
@@ -110,11 +111,30 @@ module _ {settings : Settings} (passes : settingsRefusal settings ≡ noRefusal)
       (settings-same given settings (two .first-true)) says))
       of
 
-  -- A batch call that accepts nothing, if it is one of the list.
+  -- The same, or a touch.
+  draw-given : (given : Settings) (which : ℕ) (arrival : Arrival) (start words : ℕ)
+      (part : List ℕ) (answer : Observed)
+      → ObserveSays given (recordAt held which) arrival (partOf held start words) part answer
+      → (answer .refusal ≡ noRefusal → isDraw arrival ≡ false)
+      → ownDraw settings given which arrival start ≡ true
+      → (isZero (answer .refusal) || ofArrival (answer .refusal)) ≡ true
+      → runFrom settings run (arrival ∷ []) ≡ run
+  draw-given given which arrival start words part answer says touches own decided =
+      by-test (isZero (answer .refusal)) refl decided
+    where
+      by-test : (none : Bool) → isZero (answer .refusal) ≡ none
+          → (none || ofArrival (answer .refusal)) ≡ true
+          → runFrom settings run (arrival ∷ []) ≡ run
+      by-test true none of =
+          touch-no-trace passes before ok arrival (touches (eqb-true (answer .refusal) 0 none))
+      by-test false some of =
+          refused-draw-given given which arrival start words part answer says own of
+
+  -- A batch call that accepts no draw, if it is one of the list.
   refused-batch-given : (given : Settings) (slices : Slices) (arrivals : List Arrival)
       (log : List ℕ) (answer : BatchHeld)
       → BatchSays (batchCall given (lending held slices) arrivals log) answer
-      → answer .accepted ≡ 0
+      → drawsOf (take (answer .accepted) arrivals) ≡ []
       → ownBatch settings given slices ≡ true
       → runFrom settings run (take (decidedCount answer) arrivals) ≡ run
   refused-batch-given given slices arrivals log answer says nothing own =
@@ -130,11 +150,10 @@ module _ {settings : Settings} (passes : settingsRefusal settings ≡ noRefusal)
         coordinatorCount = slices .coordinatorCount;
       } in
       let none : runFrom settings run (take (answer .accepted) arrivals) ≡ run =
-      ap (λ (m : ℕ). runFrom settings run (take m arrivals)) nothing in
+      touches-no-trace passes before ok (take (answer .accepted) arrivals) nothing in
       one-more settings run (ofArrival (answer .refusal)) (answer .accepted) arrivals
       (λ of.
-      ap (λ (m : ℕ). runFrom settings run (take (suc m) arrivals)) nothing
-      ∙ refused-batch-no-trace passes before ok (slices .siteCount) (slices .coordinatorCount)
+      refused-batch-no-trace passes before ok (slices .siteCount) (slices .coordinatorCount)
       arrivals log answer
       (subst (λ (theirs : Slices).
       BatchSays (batchCall settings (lending held theirs) arrivals log) answer) are-fronts
@@ -150,16 +169,16 @@ module _ {settings : Settings} (passes : settingsRefusal settings ≡ noRefusal)
       (take (handedRefused settings step .count) (handedRefused settings step .arrivals))
       ≡ run
   refused-given after
-      (arrival-refused given which arrival start words part answer says refused) =
+      (arrival-left given which arrival start words part answer says touches) =
       own-given settings run (ownDraw settings given which arrival start)
       (drawHanded arrival (answer .refusal))
       (λ own.
-      one-more settings run (ofArrival (answer .refusal)) 0 (arrival ∷ [])
-      (draw-given given which arrival start words part answer says own))
+      one-more settings run (isZero (answer .refusal) || ofArrival (answer .refusal)) 0
+      (arrival ∷ []) (draw-given given which arrival start words part answer says touches own))
   refused-given after (site-message-refused _ _ _ _ _ _ _ _ _) = refl
   refused-given after (coordinator-message-refused _ _ _ _ _ _ _ _) = refl
   refused-given after (announcement-refused _ _ _ _ _ _) = refl
-  refused-given after (batch-accepts-nothing given slices arrivals log answer says nothing) =
+  refused-given after (batch-takes-none given slices arrivals log answer says nothing) =
       own-given settings run (ownBatch settings given slices) (batchHanded arrivals answer)
       (refused-batch-given given slices arrivals log answer says nothing)
 
@@ -171,8 +190,10 @@ module _ {settings : Settings} (passes : settingsRefusal settings ≡ noRefusal)
       one-more settings run (ofArrival (answer .refusal)) (answer .accepted) arrivals
       (batch-no-trace passes before ok siteCount coordinatorCount arrivals log answer rest
       says)
-      ∙ sym (runFrom-append settings _ (before .accepted) (take (answer .accepted) arrivals))
-  step-given after (arrives (single arrival words part answer rest says accepts)) =
+      ∙ sym (runFrom-draws settings run (take (answer .accepted) arrivals))
+      ∙ sym (runFrom-append settings _ (before .accepted)
+      (drawsOf (take (answer .accepted) arrivals)))
+  step-given after (arrives (single arrival words part answer rest is-draw says accepts)) =
       sym (runFrom-append settings _ (before .accepted) (arrival ∷ []))
   step-given after (delivers (to-coordinator _ _ _ _ _ _ _ _ _)) = refl
   step-given after (delivers (to-site _ _ _ _ _ _ _ _)) = refl

@@ -9,23 +9,24 @@
 --   head-of-standing                 the head of the queue is accepted
 --   run-of-standing                  the accepted arrivals, and the messages as the first of a run
 use mathlib.Core.Path.{_≡_, sym, ap, _∙_, subst}
-use mathlib.Core.Bool.{false}
+use mathlib.Core.Bool.{true, false}
 use mathlib.Core.List.{List, [], _∷_, _++_, append-assoc, append-nil}
 use Prim.Native.Nat.{ℕ, suc, _+_, _≤_}
 use native.Mathlib.Omega.{arith}
 use lib.ListN.{length}
-use borrow.Author.Tests.{eq-eqb}
 use Rattle.model.specs.declared.Settings.{Settings}
 use Rattle.model.specs.declared.Arrival.{Arrival}
 use Rattle.model.specs.declared.Message.{Message}
 use Rattle.model.specs.Refusals.{noRefusal}
 use Rattle.model.specs.Limits.{mostSteps}
 use Rattle.model.specs.Settings.{settingsRefusal}
+use Rattle.model.specs.Draws.{isDraw}
 use Rattle.model.specs.Coordinator.{isAnnouncing}
 use Rattle.model.specs.Network.{Delivered, deliveryFuel}
-use Rattle.model.specs.Runs.{Run, refusalIn, withArrival, runOf}
+use Rattle.model.specs.Runs.{Run, withArrival, runOf}
 use Rattle.model.specs.DeliveryClaims.{messageRefusal}
 use Rattle.model.proofs.Runs.RunLaws.{runFrom-append}
+use Rattle.model.proofs.Touches.DrawLaws.{takes}
 use Rattle.model.proofs.Soundness.ConsistentCoordinator.{CoordinatorWithin}
 use Rattle.history.specs.State.{State, networkOf}
 use Rattle.history.proofs.RunSound.{sound-run, within-of-run}
@@ -46,6 +47,7 @@ pub record Delivering (settings : Settings) (n : ℕ) (state : State) : Type 0 w
   -- the arrivals before it, and the arrival
   pub front : List Arrival
   pub arrival : Arrival
+  pub is-draw : isDraw arrival ≡ true
   pub accepted-are : state .accepted ≡ front ++ (arrival ∷ [])
   pub front-accepted : runOf settings front .accepted ≡ front
   -- from the network that the run before it comes to
@@ -116,7 +118,8 @@ module _ {settings : Settings} (passes : settingsRefusal settings ≡ noRefusal)
           ap (runOf settings) (mid .accepted-are)
           ∙ runFrom-append settings _ (mid .front) (mid .arrival ∷ [])
           ∙ rw
-          (eq-eqb (refusalIn settings (before .network) (mid .arrival)) 0 (mid .underway .taken))
+          (takes settings (before .network) (mid .arrival) (mid .is-draw)
+          (mid .underway .taken))
 
       accepted-then : runOf settings (state .accepted) .accepted ≡ state .accepted
       accepted-then =

@@ -5,6 +5,7 @@
 --                                             any sound network
 --   tails-kept                                every step of a history
 use mathlib.Core.Path.{_≡_, refl, ap, sym, _∙_, subst}
+use mathlib.Core.Bool.{true}
 use mathlib.Core.List.{List}
 use Prim.Native.Nat.{ℕ, _+_, _*_, _≤_, _<_}
 use native.Mathlib.Nat.{mul-le-mul-right}
@@ -16,6 +17,7 @@ use Rattle.model.specs.declared.Arrival.{Arrival}
 use Rattle.model.specs.declared.Message.{Message}
 use Rattle.model.specs.Refusals.{noRefusal}
 use Rattle.model.specs.Settings.{settingsRefusal}
+use Rattle.model.specs.Draws.{isDraw}
 use Rattle.model.specs.Site.{Site}
 use Rattle.model.specs.SiteMemory.{siteWords, siteRecord}
 use Rattle.model.specs.Coordinator.{coordinatorReceives}
@@ -87,18 +89,19 @@ module _ {settings : Settings} (passes : settingsRefusal settings ≡ noRefusal)
       (arrival : Arrival) (words : ℕ) (part : List ℕ) (answer : Observed)
       (says : ObserveSays settings (recordAt (state .held) (arrival .site)) arrival
       (sitePart settings (state .held) (arrival .site) words) part answer)
+      (is-draw : isDraw arrival ≡ true)
       (accepts : answer .refusal ≡ noRefusal) where
     abbrev j : ℕ
     j = arrival .site
 
     abbrev stateThen : State
-    stateThen = Single.after passes state rest arrival words part answer says accepts
+    stateThen = Single.after passes state rest arrival words part answer says is-draw accepts
 
     abbrev site : Site
-    site = Single.site passes state rest arrival words part answer says accepts
+    site = Single.site passes state rest arrival words part answer says is-draw accepts
 
     known : j < settings .sites
-    known = Single.known passes state rest arrival words part answer says accepts
+    known = Single.known passes state rest arrival words part answer says is-draw accepts
 
     within : siteStart settings j + siteWords settings ≤ length (state .held .siteMemory)
     within =
@@ -107,16 +110,16 @@ module _ {settings : Settings} (passes : settingsRefusal settings ≡ noRefusal)
     memory-is : stateThen .held .siteMemory
         ≡ written settings (siteStart settings j) site (state .held .siteMemory)
     memory-is =
-        let fits = Single.site-fits passes state rest arrival words part answer says
+        let fits = Single.site-fits passes state rest arrival words part answer says is-draw
         accepts in
         memory-then passes (state .held) (rest .lengths) (rest .sound .sites-sound) j known site
         fits words
-        (Single.long passes state rest arrival words part answer says accepts)
+        (Single.long passes state rest arrival words part answer says is-draw accepts)
 
     behind : drop (siteStart settings j + siteWords settings) (stateThen .held .siteMemory)
         ≡ drop (siteStart settings j + siteWords settings) (state .held .siteMemory)
     behind =
-        let fits = Single.site-fits passes state rest arrival words part answer says
+        let fits = Single.site-fits passes state rest arrival words part answer says is-draw
         accepts in
         ap (drop (siteStart settings j + siteWords settings)) memory-is
         ∙ drop-written settings site fits
@@ -124,7 +127,7 @@ module _ {settings : Settings} (passes : settingsRefusal settings ≡ noRefusal)
 
     others-then : OthersKept settings j (state .held) (stateThen .held)
     others-then =
-        let fits = Single.site-fits passes state rest arrival words part answer says
+        let fits = Single.site-fits passes state rest arrival words part answer says is-draw
         accepts in
         record {
           earlier-parts =
@@ -150,7 +153,7 @@ module _ {settings : Settings} (passes : settingsRefusal settings ≡ noRefusal)
     }
 
     same : afterSingle settings state arrival words part answer ≡ stateThen
-    same = Single.after-is passes state rest arrival words part answer says accepts
+    same = Single.after-is passes state rest arrival words part answer says is-draw accepts
 
     -- The claim on the other sites.
     pub others-kept : OthersKept settings j (state .held)
@@ -231,8 +234,8 @@ module _ {settings : Settings} (passes : settingsRefusal settings ≡ noRefusal)
       (λ (after : State). TailsKept settings (state .held) (after .held))
       (kept-self settings (state .held))
       (batch-kept arrivals log _ rest)
-  tails-kept after (arrives (single arrival words part answer rest says accepts)) =
-      single-kept passes state (sound-rest-of passes ok rest) arrival words part answer says
+  tails-kept after (arrives (single arrival words part answer rest is-draw says accepts)) =
+      single-kept passes state (sound-rest-of passes ok rest) arrival words part answer says is-draw
       accepts
   tails-kept after (delivers step) = by-standing (ok .standing)
     where

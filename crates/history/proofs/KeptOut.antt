@@ -15,10 +15,11 @@ use Rattle.model.specs.Refusals.{noRefusal}
 use Rattle.model.specs.Held.{networkOf}
 use Rattle.tracker.specs.Batch.{BatchCall, BatchHeld, BatchSays, startRefusal, logRoom}
 use Rattle.history.specs.State.{State}
-use Rattle.history.specs.Histories.{batch, single, Refuses, arrival-refused, site-message-refused, coordinator-message-refused, announcement-refused, batch-accepts-nothing, Step, arrives, delivers, refuses}
-use Rattle.history.specs.Given.{ofArrival, decidedCount, keptOut, Handed, noDraw, batchHanded, ownBatch, handedRefused, handedBy, refusalOfRefused, keptOutBy, refusalBy, NothingLost}
+use Rattle.history.specs.Histories.{batch, single, Refuses, arrival-left, site-message-refused, coordinator-message-refused, announcement-refused, batch-takes-none, Step, arrives, delivers, refuses}
+use Rattle.history.specs.Given.{ofArrival, decidedCount, keptOut, Handed, noDraw, drawHanded, batchHanded, ownDraw, ownBatch, handedRefused, handedBy, refusalOfRefused, keptOutBy, refusalBy, NothingLost}
 use Rattle.history.proofs.Answers.{accepted-choice, refused-choice}
-use Rattle.history.proofs.BatchStops.{runAt, batch-stops}
+use Rattle.history.proofs.BatchRuns.{runAt}
+use Rattle.history.proofs.BatchStops.{batch-stops}
 
 -- A batch that is not refused accepts all its arrivals, and so keeps none out.
 batch-none-kept-out : (call : BatchCall) (answer : BatchHeld)
@@ -57,13 +58,14 @@ refused-none-kept-out : (settings : Settings) {before after : State} (step : Ref
     → refusalOfRefused step ≡ noRefusal
     → drop (handedRefused settings step .count) (handedRefused settings step .arrivals) ≡ []
 refused-none-kept-out settings
-    (arrival-refused given which arrival start words part answer says refused) none =
-    absurd (refused none)
+    (arrival-left given which arrival start words part answer says touches) none =
+    own-none-kept-out (ownDraw settings given which arrival start)
+    (drawHanded arrival (answer .refusal)) (rw none)
 refused-none-kept-out settings (site-message-refused _ _ _ _ _ _ _ _ _) none = refl
 refused-none-kept-out settings (coordinator-message-refused _ _ _ _ _ _ _ _) none = refl
 refused-none-kept-out settings (announcement-refused _ _ _ _ _ _) none = refl
 refused-none-kept-out settings
-    (batch-accepts-nothing given slices arrivals log answer says nothing) none =
+    (batch-takes-none given slices arrivals log answer says nothing) none =
     own-none-kept-out (ownBatch settings given slices) (batchHanded arrivals answer)
     (batch-none-kept-out _ answer says none)
 
@@ -72,7 +74,7 @@ none-kept-out : {settings : Settings} {before after : State} (step : Step settin
     → keptOutBy step ≡ []
 none-kept-out (arrives (batch siteCount coordinatorCount arrivals log answer rest says)) none =
     batch-none-kept-out _ answer says none
-none-kept-out (arrives (single arrival words part answer rest says accepts)) none = refl
+none-kept-out (arrives (single arrival words part answer rest is-draw says accepts)) none = refl
 none-kept-out (delivers step) none = refl
 none-kept-out {settings} (refuses step) none = refused-none-kept-out settings step none
 

@@ -19,12 +19,13 @@ use Rattle.model.specs.SiteMemory.{siteWords, overwrite}
 use Rattle.model.specs.CoordinatorMemory.{coordinatorRecord, coordinatorMemory}
 use Rattle.model.specs.Network.{Network}
 use Rattle.model.specs.NetworkMemory.{siteRecords, sitesMemory}
+use Rattle.model.specs.Draws.{drawsOf}
 use Rattle.model.specs.Runs.{Batch, batchOf}
 use Rattle.model.specs.SoundNetwork.{Sound}
 use Rattle.model.proofs.Soundness.ConsistentNetwork.{Passes, passes-of}
 use Rattle.tracker.specs.Batch.{BatchCall, BatchSays, startRefusal, batchIn, unlessRefused, logRoom, messageNumbers, BatchHeld}
 use Rattle.history.specs.State.{Held, State, AtRest, fronts, lending, withPart, putBack}
-use Rattle.history.specs.Histories.{batchCall, afterBatch, batch-accepts-nothing}
+use Rattle.history.specs.Histories.{batchCall, afterBatch, batch-takes-none}
 use Rattle.history.proofs.Answers.{accepted-choice, refused-choice}
 use Rattle.history.proofs.CoordinatorFronts.{front-then, overwrite-front}
 use Rattle.site_memory.proofs.SitesFronts.{sitesMemory-front}
@@ -67,8 +68,9 @@ module _ {settings : Settings} (passes : settingsRefusal settings ≡ noRefusal)
       → afterBatch before arrivals back ≡ before
   unchanged refused =
       refused-same before _
-      (batch-accepts-nothing settings (fronts siteCount coordinatorCount) arrivals log answer
-      says (says .accepted ∙ refused-choice (startRefusal onFronts) _ _ refused))
+      (batch-takes-none settings (fronts siteCount coordinatorCount) arrivals log answer says
+      (ap (λ (n : ℕ). drawsOf (take n arrivals))
+      (says .accepted ∙ refused-choice (startRefusal onFronts) _ _ refused)))
 
   -- ---- Accepted
 

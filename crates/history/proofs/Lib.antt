@@ -34,6 +34,7 @@ pub mod NextAnnouncement
 pub mod DeliveredState
 pub mod GoesOn
 pub mod Kept
+pub mod OneTouch
 pub mod FromStart
 pub mod FirmShares
 pub mod ListReading
@@ -44,6 +45,8 @@ pub mod Arisen
 pub mod RefusedDraws
 pub mod GivenDraws
 pub mod KeptOut
+pub mod BatchWithout
+pub mod LeftOut
 pub mod Theorem
 pub mod Example
 pub mod ExampleHistory

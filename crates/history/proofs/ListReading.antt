@@ -25,7 +25,7 @@ use Rattle.model.specs.CoordinatorMemory.{coordinatorWords, coordinatorIn}
 use Rattle.model.specs.Reading.{neededSide, isListed, heavyHitters}
 use Rattle.model.specs.Network.{Network}
 use Rattle.model.specs.Runs.{Run, runOf}
-use Rattle.model.specs.Claims.{counted, countOf, contains, Tracks, ListLaw, ListSize}
+use Rattle.model.specs.Claims.{counted, countOf, contains, Tracks, ListLaw, ListSize, BeforeDraws}
 use Rattle.model.proofs.Runs.Theorem.{demands-over-runs}
 use Rattle.coordinator_list.specs.declared.Listed.{Listed}
 use Rattle.coordinator_list.specs.Contracts.{ListSays, listRefusal}
@@ -70,6 +70,12 @@ module _ {settings : Settings} (passes : settingsRefusal settings ≡ noRefusal)
 
   pub back : (P : List Arrival → Type 0) → P (state .accepted) → P (run .accepted)
   back P holds = subst P (sym (rest .accepted-are)) holds
+
+  -- While no draw is accepted.
+  pub before-draws : counted (state .accepted) ≡ 0 → BeforeDraws settings run
+  before-draws none =
+      demands-over-runs .before-draws settings (state .accepted) passes
+      (back (λ (arrivals : List Arrival). counted arrivals ≡ 0) none)
 
   -- ---- The list
 
@@ -186,6 +192,8 @@ module _ {settings : Settings} (passes : settingsRefusal settings ≡ noRefusal)
           over (FirmShare settings item)
           (listed-firm settings passes (state .accepted) item
           (sym (ap (contains item) (list-is accepts)) ∙ holds));
+      nothing-listed = λ none.
+          omega (arith, few-listed, ap length (before-draws none .nothing-listed));
       rising = λ accepts.
           of-list (λ (items : List ℕ).
           (i : ℕ) → i + 1 < length items → getD items i 0 < getD items (i + 1) 0) accepts

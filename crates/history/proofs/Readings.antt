@@ -24,7 +24,7 @@ use Rattle.history.specs.Reading.{rulesCoordinator, MarginRight, Quantil
 use Rattle.history.proofs.Invariant.{StateOk, Resting}
 use Rattle.history.proofs.Accepted.{memory-accepted, refused-by-rules}
 use Rattle.history.proofs.Answers.{accepted-choice}
-use Rattle.history.proofs.ListReading.{held-is, coordinator-is, tracks, over, back, list-right}
+use Rattle.history.proofs.ListReading.{held-is, coordinator-is, tracks, over, back, before-draws, list-right}
 
 module _ {settings : Settings} (passes : settingsRefusal settings ≡ noRefusal)
     {n : ℕ} {state : State}
@@ -54,6 +54,12 @@ module _ {settings : Settings} (passes : settingsRefusal settings ≡ noRefusal)
           ∙ accepted-choice _ _ _ (sym (says .refusal) ∙ accepts)
           ∙ ap (λ (there : Coordinator). margin settings there item)
           (coordinator-is passes ok rest words enough);
+      margin-zero = λ accepts none.
+          says .margin-is
+          ∙ accepted-choice _ _ _ (sym (says .refusal) ∙ accepts)
+          ∙ ap (λ (there : Coordinator). margin settings there item)
+          (coordinator-is passes ok rest words enough)
+          ∙ before-draws passes ok rest none .margins-zero item;
     }
 
   -- ---- The quantile
@@ -105,6 +111,7 @@ module _ {settings : Settings} (passes : settingsRefusal settings ≡ noRefusal)
           ≤ (1000 - settings .rank + settings .epsilon) * counted arrivals)
           (promise .few-above value (sym quantile-is ∙ is));
       value-known = λ value is. firm .value-known value (sym quantile-is ∙ is);
+      value-drawn = λ value is. firm .value-drawn value (sym quantile-is ∙ is);
       firm-below = λ value is.
           over passes ok rest (λ (arrivals : List Arrival).
           3000 * below value arrivals

@@ -1,22 +1,29 @@
--- A call that accepts nothing leaves everything as it was: its contract hands back records and
+-- A call that accepts no draw leaves everything as it was: its contract hands back records and
 -- memory as they were given, and putting them back changes nothing. For every state, arisen or
 -- not.
 --
 --   part-same        a part of a memory put back as it was
+--   not-taken        an arrival that is refused or a touch
 --   refused-same     the state after such a call
 use mathlib.Core.Path.{_≡_, refl, sym, ap, _∙_}
+use mathlib.Core.Bool.{false}
 use mathlib.Core.List.{List, _++_}
 use Prim.Native.Nat.{ℕ, _+_}
+use native.Mathlib.Decide.{ℕ-discrete}
 use lib.ListN.{set, take, drop, take-append-drop}
 use lib.Seq.{set-getD, drop-drop}
+use Rattle.model.specs.declared.Settings.{Settings}
+use Rattle.model.specs.declared.Arrival.{Arrival}
 use Rattle.model.specs.declared.SiteRecord.{SiteRecord}
 use Rattle.model.specs.declared.CoordinatorRecord.{CoordinatorRecord}
 use Rattle.model.specs.Refusals.{noRefusal}
+use Rattle.model.specs.Draws.{isDraw}
 use Rattle.site.specs.Calls as SiteCalls
+use Rattle.site.proofs.CallLaws.{touch-left, refused-left}
 use Rattle.coordinator.specs.Calls as CoordinatorCalls
 use Rattle.history.specs.State.{Held, State, recordAt, partOf, coordinatorPart, lending, withPart, afterSiteCall, afterCoordinatorCall, holding, noRecord}
-use Rattle.history.specs.Histories.{afterBatch, Refuses, arrival-refused, site-message-refused, coordinator-message-refused, announcement-refused, batch-accepts-nothing}
-use Rattle.history.proofs.Answers.{refused-choice}
+use Rattle.history.specs.Histories.{afterBatch, Refuses, arrival-left, site-message-refused, coordinator-message-refused, announcement-refused, batch-takes-none}
+use Rattle.history.proofs.Answers.{refused-choice, left-choice}
 use Rattle.history.proofs.EmptyBatch.{batch-same}
 
 -- A part of a memory put back as it was.
@@ -59,19 +66,34 @@ module _ (held : Held) where
 
 -- ---- Each call
 
+-- An arrival that is refused or a touch is not taken.
+pub not-taken : (settings : Settings) (own : SiteRecord) (arrival : Arrival) (lent : List ℕ)
+    {refusal : ℕ}
+    → refusal ≡ SiteCalls.observeRefusal settings own arrival lent
+    → (refusal ≡ noRefusal → isDraw arrival ≡ false)
+    → SiteCalls.observeTakes settings own arrival lent ≡ false
+not-taken settings own arrival lent {refusal} refusal-is touches =
+    by-refusal (ℕ-discrete refusal 0)
+  where
+    by-refusal : Dec (refusal ≡ 0) → SiteCalls.observeTakes settings own arrival lent ≡ false
+    by-refusal (yes none) = touch-left settings own arrival lent (touches none)
+    by-refusal (no some) =
+        refused-left settings own arrival lent (λ none. some (refusal-is ∙ none))
+
 -- Call by call: the contract hands back what was given.
 pub refused-same : (before after : State) → Refuses before after → after ≡ before
 refused-same before after
-    (arrival-refused given which arrival start words part answer says refused) =
-    let refusal = SiteCalls.observeRefusal given (recordAt (before .held) which) arrival
-    (partOf (before .held) start words) in
-    let no : refusal ≡ noRefusal → ⊥ = λ none. refused (says .refusal ∙ none) in
+    (arrival-left given which arrival start words part answer says touches) =
+    let own = recordAt (before .held) which in
+    let lent = partOf (before .held) start words in
+    let left : SiteCalls.observeTakes given own arrival lent ≡ false =
+    not-taken given own arrival lent (says .refusal) touches in
     ap (holding before)
     (site-same (before .held) which (answer .site)
     (withPart (before .held .siteMemory) start words part)
-    (says .site ∙ refused-choice refusal _ _ no)
+    (says .site ∙ left-choice _ _ _ left)
     (ap (withPart (before .held .siteMemory) start words)
-    (says .memory ∙ refused-choice refusal _ _ no)
+    (says .memory ∙ left-choice _ _ _ left)
     ∙ part-same (before .held .siteMemory) start words))
 refused-same before after
     (site-message-refused given which number m start words answer says refused) =
@@ -101,7 +123,7 @@ refused-same before after (announcement-refused given start words answer says re
     (coordinator-same (before .held) (answer .coordinator) (before .held .coordinatorMemory)
     (says .answer .coordinator ∙ refused-choice refusal _ _ no) refl)
 refused-same before after
-    (batch-accepts-nothing given slices arrivals log answer says nothing) =
+    (batch-takes-none given slices arrivals log answer says nothing) =
     let held = before .held in
     -- the law of a whole network lent, of a state that holds the slices alone
     let same : afterBatch (holding before (lending held slices)) arrivals answer

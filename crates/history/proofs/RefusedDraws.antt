@@ -1,27 +1,32 @@
--- A draw that is refused for its own sake, by 5, 6, 7 or 8, leaves no trace in the rules' run over
--- the arrivals accepted: refused by a single call or by the batch that it stops, at rest or in
--- mid-delivery.
+-- A touch, and a draw that is refused for its own sake, by 5, 6, 7 or 8, leave no trace in the
+-- rules' run over the draws accepted: refused by a single call or by the batch that it stops, at
+-- rest or in mid-delivery.
 --
+--   touch-no-trace             a single touch
 --   draw-no-trace              a single draw
---   batch-no-trace             the draw that stops a batch, at rest
---   refused-batch-no-trace     the first of a batch that accepts nothing, at any time
+--   batch-no-trace             the arrival that stops a batch, at rest
+--   touches-no-trace           those that a batch accepts which takes no draw, at any time
+--   refused-batch-no-trace     and the arrival that stops it
 use mathlib.Core.Path.{_≡_, refl, sym, ap, _∙_, subst}
 use mathlib.Core.Bool.{Bool, true, false, false≢true, _||_}
 use mathlib.Core.List.{List, [], _∷_}
-use Prim.Native.Nat.{ℕ, suc, _≤_, _<_}
+use Prim.Native.Nat.{ℕ, zero, suc, _≤_, _<_}
 use native.Mathlib.Omega.{arith}
 use lib.Dec.{eqb, leb}
 use lib.ListN.{length, take, drop, length-take}
-use borrow.Author.Tests.{eqb-true, eqb-false, leb-true, leb-false, eq-eqb, ne-eqb, lt-ltb}
+use borrow.Author.Tests.{eqb-true, eqb-false, leb-true, leb-false, lt-ltb}
 use Rattle.model.specs.declared.Settings.{Settings}
 use Rattle.model.specs.declared.Arrival.{Arrival}
 use Rattle.model.specs.Choice.{isZero}
 use Rattle.model.specs.Refusals.{noRefusal, memoryTooShort, unknownSite}
 use Rattle.model.specs.Settings.{settingsRefusal}
-use Rattle.model.specs.Site.{arrivalRefusal}
+use Rattle.model.specs.Draws.{isDraw, drawsOf}
+use Rattle.model.specs.Site.{addressRefusal, lineRefusal}
 use Rattle.model.specs.SiteMemory.{siteWords}
 use Rattle.model.specs.Network.{Network, siteAt}
-use Rattle.model.specs.Runs.{Run, withArrival, refusalIn, runOne, runFrom, runOf, Batch, batchOf}
+use Rattle.model.specs.Runs.{Run, withArrival, isTaken, runOne, runFrom, runOf, Batch, batchOf}
+use Rattle.model.proofs.Runs.RunLaws.{runFrom-draws}
+use Rattle.model.proofs.Touches.DrawLaws.{line-known, touch-left, refused-left, drawsOf-draw, drawsOf-touch}
 use Rattle.model.proofs.Soundness.ConsistentNetwork.{passes-of}
 use Rattle.site_steps.specs.declared.Observed.{Observed}
 use Rattle.site.specs.Calls as SiteCalls
@@ -30,11 +35,12 @@ use Rattle.history.specs.State.{Held, State, AtRest, networkOf, recordAt
 use Rattle.history.specs.Histories.{batchCall}
 use Rattle.history.specs.Given.{ofArrival}
 use Rattle.history.proofs.Answers.{accepted-choice, refused-choice}
-use Rattle.history.proofs.BatchStops.{runAt, batch-stops, not-of-arrival}
+use Rattle.history.proofs.BatchRuns.{runAt}
+use Rattle.history.proofs.BatchStops.{batch-stops, not-of-arrival}
 use Rattle.history.proofs.NetworkFronts.{network-front}
 use Rattle.history.proofs.Invariant.{StateOk}
 use Rattle.history.proofs.Accepted.{refused-by-rules, held-sound}
-use Rattle.history.proofs.SiteArrivals.{refusal-same}
+use Rattle.history.proofs.SiteArrivals.{taken-same}
 use Rattle.history.proofs.LentBatch.{LentBatch, nothing-changed, as-all-lent, lent-batch}
 use Rattle.history.proofs.BatchedState as Batched
 
@@ -47,26 +53,30 @@ module _ {settings : Settings} (passes : settingsRefusal settings ≡ noRefusal)
   abbrev run : Run
   run = runOf settings (before .accepted)
 
-  -- An arrival that the rules refuse leaves no trace.
+  -- An arrival that the rules do not take leaves no trace.
   no-trace : (arrival : Arrival)
-      → (refusalIn settings (run .network) arrival ≡ noRefusal → ⊥)
+      → isTaken settings (run .network) arrival ≡ false
       → runFrom settings run (arrival ∷ []) ≡ run
-  no-trace arrival refused =
-      rw (ne-eqb (refusalIn settings (run .network) arrival) 0 refused)
+  no-trace arrival left = rw left
 
-  -- And so does one that the network that is held refuses, in mid-delivery too.
+  -- And so does one that the network that is held does not take, in mid-delivery too.
   no-trace-held : (arrival : Arrival)
-      → (refusalIn settings (networkOf settings held) arrival ≡ noRefusal → ⊥)
+      → isTaken settings (networkOf settings held) arrival ≡ false
       → runFrom settings run (arrival ∷ []) ≡ run
-  no-trace-held arrival refused =
-      no-trace arrival (λ none.
-      refused (refusal-same passes (ok .standing) (arrival .site) arrival ∙ none))
+  no-trace-held arrival left =
+      no-trace arrival (sym (taken-same passes (ok .standing) arrival) ∙ left)
 
   -- A refusal that is of an arrival is none.
   some-refusal : (refusal : ℕ) → ofArrival refusal ≡ true → refusal ≡ noRefusal → ⊥
   some-refusal refusal of none = false≢true (sym (ap ofArrival none) ∙ of)
 
-  -- ---- A single draw that is refused
+  -- ---- A single touch, or a single draw that is refused
+
+  pub touch-no-trace : (arrival : Arrival)
+      → isDraw arrival ≡ false
+      → runFrom settings run (arrival ∷ []) ≡ run
+  touch-no-trace arrival no-draw =
+      no-trace arrival (touch-left settings (run .network) arrival no-draw)
 
   module _ (which : ℕ) (arrival : Arrival) (words : ℕ) (part : List ℕ) (answer : Observed)
       (known : which < settings .sites)
@@ -94,7 +104,7 @@ module _ {settings : Settings} (passes : settingsRefusal settings ≡ noRefusal)
             absurd (false≢true (sym (ap ofArrival four) ∙ of))
 
     by-rules : answer .refusal
-        ≡ arrivalRefusal settings (siteAt (networkOf settings held) which) arrival
+        ≡ lineRefusal settings (siteAt (networkOf settings held) which) arrival
     by-rules =
         says .refusal ∙ refused-by-rules passes ok .arrival which words arrival known enough
 
@@ -106,17 +116,21 @@ module _ {settings : Settings} (passes : settingsRefusal settings ≡ noRefusal)
             → (test || leb (settings .sites) (arrival .site)) ≡ true
             → runFrom settings run (arrival ∷ []) ≡ run
         by-name true same _ =
-            no-trace-held arrival (λ none.
+            no-trace-held arrival
+            (refused-left settings (networkOf settings held) arrival (λ none.
             some-refusal (answer .refusal) of
             (by-rules
-            ∙ ap (λ (j : ℕ). arrivalRefusal settings (siteAt (networkOf settings held) j) arrival)
+            ∙ ap (λ (j : ℕ). lineRefusal settings (siteAt (networkOf settings held) j) arrival)
             (eqb-true which (arrival .site) same)
-            ∙ none))
+            ∙ none)))
         by-name false other unknown =
-            no-trace arrival (λ none.
-            let five : refusalIn settings (run .network) arrival ≡ unknownSite = rw unknown in
-            let same : _≡_ {A = ℕ} unknownSite noRefusal = sym five ∙ none in
-            omega arith)
+            no-trace arrival
+            (refused-left settings (run .network) arrival (λ none.
+            let five : addressRefusal settings arrival ≡ unknownSite = rw unknown in
+            let same : _≡_ {A = ℕ} unknownSite noRefusal =
+            sym five
+            ∙ line-known settings (siteAt (run .network) (arrival .site)) arrival none in
+            omega arith))
 
   -- ---- A batch
 
@@ -161,38 +175,72 @@ module _ {settings : Settings} (passes : settingsRefusal settings ≡ noRefusal)
           (batch-stops settings (logRoom log) arrivals run .no-trace
           (ap ofArrival (sym refusal) ∙ of))
 
-  -- The first arrival of a batch that accepts nothing, in mid-delivery too.
-  first-no-trace : (room : ℕ) (arrivals : List Arrival)
-      → batchOf settings room (networkOf settings held) arrivals .accepted ≡ 0
-      → ofArrival (batchOf settings room (networkOf settings held) arrivals .refusal) ≡ true
-      → runFrom settings run (take 1 arrivals) ≡ run
-  first-no-trace room [] none of = refl
-  first-no-trace room (arrival ∷ arrivals) none of =
-      no-trace-held arrival (λ taken.
-      let one : runOne settings (runAt (networkOf settings held)) arrival
-      ≡ withArrival settings (runAt (networkOf settings held)) arrival =
-      rw (eq-eqb (refusalIn settings (networkOf settings held) arrival) 0 taken) in
-      let longer : 1 ≡ 0 = ap (λ (r : Run). length (r .accepted)) (sym one ∙ alone) in
-      omega arith)
-    where
-      alone : runOne settings (runAt (networkOf settings held)) arrival
-          ≡ runAt (networkOf settings held)
-      alone =
-          subst (λ (m : ℕ).
-          runFrom settings (runAt (networkOf settings held)) (take (suc m) (arrival ∷ arrivals))
-          ≡ runFrom settings (runAt (networkOf settings held)) (take m (arrival ∷ arrivals)))
-          none
-          (batch-stops settings room (arrival ∷ arrivals) (runAt (networkOf settings held))
-          .no-trace of)
+  -- A run that has accepted nothing and stands where the network that is held does.
+  abbrev there : Run
+  there = runAt (networkOf settings held)
 
-  -- A batch call that accepts nothing.
+  -- An arrival that leaves no trace there was not taken.
+  left-there : (arrival : Arrival)
+      → runOne settings there arrival ≡ there
+      → isTaken settings (networkOf settings held) arrival ≡ false
+  left-there arrival alone = by-test (isTaken settings (networkOf settings held) arrival) refl
+    where
+      by-test : (taken : Bool) → isTaken settings (networkOf settings held) arrival ≡ taken
+          → isTaken settings (networkOf settings held) arrival ≡ false
+      by-test true taken =
+          let one : runOne settings there arrival ≡ withArrival settings there arrival =
+          rw taken in
+          let longer : _≡_ {A = ℕ} 1 0 = ap (λ (r : Run). length (r .accepted)) (sym one ∙ alone) in
+          absurd (omega arith)
+      by-test false left = left
+
+  -- Touches, and then an arrival that leaves no trace.
+  front-no-trace : (m : ℕ) (arrivals : List Arrival)
+      → drawsOf (take m arrivals) ≡ []
+      → runFrom settings there (take (suc m) arrivals)
+      ≡ runFrom settings there (take m arrivals)
+      → runFrom settings run (take (suc m) arrivals) ≡ run
+  front-no-trace m [] no-draws same = refl
+  front-no-trace zero (arrival ∷ arrivals) no-draws same =
+      no-trace-held arrival (left-there arrival same)
+  front-no-trace (suc m) (arrival ∷ arrivals) no-draws same =
+      by-draw (isDraw arrival) refl (front-no-trace m arrivals)
+    where
+      by-draw : (drawn : Bool) → isDraw arrival ≡ drawn
+          → (drawsOf (take m arrivals) ≡ []
+          → runFrom settings there (take (suc m) arrivals)
+          ≡ runFrom settings there (take m arrivals)
+          → runFrom settings run (take (suc m) arrivals) ≡ run)
+          → runFrom settings run (arrival ∷ take (suc m) arrivals) ≡ run
+      by-draw true is-draw later =
+          let longer : suc (length (drawsOf (take m arrivals))) ≡ 0 =
+          ap length (sym (drawsOf-draw arrival (take m arrivals) is-draw) ∙ no-draws) in
+          absurd (omega (arith, longer))
+      by-draw false no-draw later =
+          let here : runOne settings run arrival ≡ run = touch-no-trace arrival no-draw in
+          let gone : runOne settings there arrival ≡ there =
+          rw (touch-left settings (networkOf settings held) arrival no-draw) in
+          ap (λ (r : Run). runFrom settings r (take (suc m) arrivals)) here
+          ∙ later (sym (drawsOf-touch arrival (take m arrivals) no-draw) ∙ no-draws)
+          (ap (λ (r : Run). runFrom settings r (take (suc m) arrivals)) (sym gone)
+          ∙ same
+          ∙ ap (λ (r : Run). runFrom settings r (take m arrivals)) gone)
+
+  -- The arrivals that a batch accepted, if it took no draw.
+  pub touches-no-trace : (arrivals : List Arrival)
+      → drawsOf arrivals ≡ []
+      → runFrom settings run arrivals ≡ run
+  touches-no-trace arrivals no-draws =
+      sym (runFrom-draws settings run arrivals) ∙ ap (runFrom settings run) no-draws
+
+  -- A batch call that accepts no draw, and the arrival that stops it.
   pub refused-batch-no-trace : (siteCount coordinatorCount : ℕ) (arrivals : List Arrival)
       (log : List ℕ) (answer : BatchHeld)
       → BatchSays
       (batchCall settings (lending held (fronts siteCount coordinatorCount)) arrivals log) answer
-      → answer .accepted ≡ 0
+      → drawsOf (take (answer .accepted) arrivals) ≡ []
       → ofArrival (answer .refusal) ≡ true
-      → runFrom settings run (take 1 arrivals) ≡ run
+      → runFrom settings run (take (suc (answer .accepted)) arrivals) ≡ run
   refused-batch-no-trace siteCount coordinatorCount arrivals log answer says nothing of =
       by-start (isZero (startRefusal call)) refl
     where
@@ -200,7 +248,7 @@ module _ {settings : Settings} (passes : settingsRefusal settings ≡ noRefusal)
       call = batchCall settings (lending held (fronts siteCount coordinatorCount)) arrivals log
 
       by-start : (none : Bool) → isZero (startRefusal call) ≡ none
-          → runFrom settings run (take 1 arrivals) ≡ run
+          → runFrom settings run (take (suc (answer .accepted)) arrivals) ≡ run
       by-start true none =
           let accepts = eqb-true (startRefusal call) 0 none in
           let long = passes-of settings (held .sites) (held .coordinator)
@@ -215,8 +263,12 @@ module _ {settings : Settings} (passes : settingsRefusal settings ≡ noRefusal)
           ∙ ap (λ (b : Batch). b .refusal) model in
           let taken = says .accepted ∙ accepted-choice _ _ _ accepts
           ∙ ap (λ (b : Batch). b .accepted) model in
-          first-no-trace (logRoom log) arrivals (sym taken ∙ nothing)
-          (ap ofArrival (sym refusal) ∙ of)
+          front-no-trace (answer .accepted) arrivals nothing
+          (subst (λ (m : ℕ).
+          runFrom settings there (take (suc m) arrivals)
+          ≡ runFrom settings there (take m arrivals)) (sym taken)
+          (batch-stops settings (logRoom log) arrivals there .no-trace
+          (ap ofArrival (sym refusal) ∙ of)))
       by-start false some =
           let refused = eqb-false (startRefusal call) 0 some in
           let is = says .refusal ∙ refused-choice _ _ _ refused in

@@ -12,23 +12,22 @@ use mathlib.Core.List.{List, [], _∷_}
 use Prim.Native.Nat.{ℕ, zero, suc, _≤_}
 use native.Mathlib.Omega.{arith}
 use lib.ListN.{length, replicate}
-use borrow.Author.Tests.{eqb-true}
 use Rattle.laws.proofs.Lists.{getD-replicate-default}
 use Rattle.model.specs.declared.Settings.{Settings}
 use Rattle.model.specs.declared.Arrival.{Arrival}
-use Rattle.model.specs.Choice.{isZero}
 use Rattle.model.specs.Refusals.{noRefusal}
 use Rattle.model.specs.Limits.{valueCount, mostArrivals, messageLimit}
 use Rattle.model.specs.Settings.{settingsRefusal}
 use Rattle.model.specs.Site.{freshSite}
 use Rattle.model.specs.Network.{Network, freshNetwork}
 use Rattle.model.specs.NetworkMemory.{allArrivals}
-use Rattle.model.specs.Runs.{refusalIn, Run, freshRun, runOne, runFrom, runOf}
+use Rattle.model.specs.Runs.{isTaken, Run, freshRun, runOne, runFrom, runOf}
 use Rattle.model.specs.SoundNetwork.{Sound}
 use Rattle.model.specs.NumberClaims.{allUnreported, Grown}
 use Rattle.model.proofs.Thresholds.SettingsLaws.{Settled, settled}
 use Rattle.model.proofs.Deliveries.ClosedSites.{sumBelow-allArrivals}
 use Rattle.model.proofs.Runs.RunInvariant.{run-ok}
+use Rattle.model.proofs.Touches.DrawLaws.{taken-accepted}
 use Rattle.model.proofs.Soundness.SoundTheorem.{sound-claims}
 use Rattle.model.proofs.Numbers.NumberBounds.{arrivals-few}
 use Rattle.model.proofs.Numbers.NumberTheorem.{number-claims, grown-self, grown-more}
@@ -43,17 +42,17 @@ pub record SoundRun (settings : Settings) (network : Network) : Type 0 where
 module _ (settings : Settings) (passes : settingsRefusal settings ≡ noRefusal) where
   -- ---- Every run
 
-  -- A refused arrival changes nothing; an accepted one leaves a sound network, grown by one.
+  -- An arrival that is not taken changes nothing; one that is leaves a sound network, grown by one.
   sound-run-one : (run : Run) (arrival : Arrival)
       → SoundRun settings (run .network)
       → SoundRun settings (runOne settings run arrival .network)
   sound-run-one run arrival ok =
-      by-refusal (isZero (refusalIn settings (run .network) arrival)) refl
+      by-test (isTaken settings (run .network) arrival) refl
     where
-      by-refusal : (taken : Bool) → isZero (refusalIn settings (run .network) arrival) ≡ taken
+      by-test : (taken : Bool) → isTaken settings (run .network) arrival ≡ taken
           → SoundRun settings (runOne settings run arrival .network)
-      by-refusal true taken =
-          let none = eqb-true (refusalIn settings (run .network) arrival) 0 taken in
+      by-test true taken =
+          let none = taken-accepted settings (run .network) arrival taken in
           rw taken (record {
             sound = sound-claims .arrival-sound settings (run .network) arrival passes
                 (ok .sound) none;
@@ -61,7 +60,7 @@ module _ (settings : Settings) (passes : settingsRefusal settings ≡ noRefusal)
                 (number-claims .arrival-grows settings (run .network) arrival passes (ok .sound)
                 none);
           })
-      by-refusal false refused = rw refused ok
+      by-test false left = rw left ok
 
   sound-run-from : (run : Run) (arrivals : List Arrival)
       → SoundRun settings (run .network)

@@ -4,6 +4,7 @@
 --   after-is, begins   the state, by the model's step, and the delivery
 --   single-ok          the invariant of that state
 use mathlib.Core.Path.{_≡_, refl, sym, ap, _∙_, subst}
+use mathlib.Core.Bool.{true}
 use mathlib.Core.List.{List, [], _∷_, _++_}
 use Prim.Native.Nat.{ℕ, _+_, _≤_, _<_}
 use native.Mathlib.Omega.{arith}
@@ -15,10 +16,12 @@ use Rattle.model.specs.declared.SiteRecord.{SiteRecord}
 use Rattle.model.specs.Refusals.{noRefusal}
 use Rattle.model.specs.Settings.{settingsRefusal}
 use Rattle.model.specs.Messages.{noMessage}
-use Rattle.model.specs.Site.{Site, arrivalRefusal, observed}
+use Rattle.model.specs.Site.{Site, arrivalRefusal, lineRefusal, observed}
 use Rattle.model.specs.SiteMemory.{siteWords, siteIn, siteRecord, siteMemory, siteMemoryRefusal}
 use Rattle.model.specs.Network.{Network, siteAt, withSite}
+use Rattle.model.specs.Draws.{isDraw}
 use Rattle.model.specs.Runs.{runOf}
+use Rattle.model.proofs.Touches.DrawLaws.{line-draw}
 use Rattle.model.specs.SoundNetwork.{SoundSite}
 use Rattle.model.specs.DeliveryClaims.{delivery, deliveryOf}
 use Rattle.model.specs.SoundClaims.{Reached, begun}
@@ -26,6 +29,7 @@ use Rattle.model.proofs.Thresholds.RefusalLaws.{BothAccepted, both-accepted}
 use Rattle.model.proofs.Thresholds.SettingsLaws.{settled}
 use Rattle.model.proofs.Soundness.SoundSites.{ArrivalTaken, taken-of-no-refusal, sound-observed}
 use Rattle.site_memory.proofs.OneSite.{Storable, storable}
+use Rattle.site.proofs.CallLaws.{observe-takes}
 use Rattle.site_steps.specs.declared.Observed.{Observed}
 use Rattle.site.specs.Calls as SiteCalls
 use Rattle.history.specs.State.{Held, State, AtRest, networkOf, recordAt, siteStart, sitePart, withPart, afterSiteCall}
@@ -35,7 +39,7 @@ use Rattle.history.proofs.Decoded.{SitesSound, site-part, lengths-site-
 use Rattle.history.proofs.Underway.{SoundRest, Underway}
 use Rattle.history.proofs.Invariant.{StateOk, delivering}
 use Rattle.history.proofs.Accepted.{resting-of, sound-rest-of}
-use Rattle.history.proofs.Answers.{accepted-choice, accepted-long, words-enough}
+use Rattle.history.proofs.Answers.{taken-choice, accepted-long, words-enough}
 
 -- ---- From any sound network
 
@@ -44,6 +48,7 @@ module _ {settings : Settings} (passes : settingsRefusal settings ≡ noRefusal)
     (arrival : Arrival) (words : ℕ) (part : List ℕ) (answer : Observed)
     (says : SiteCalls.ObserveSays settings (recordAt (before .held) (arrival .site)) arrival
     (sitePart settings (before .held) (arrival .site) words) part answer)
+    (is-draw : isDraw arrival ≡ true)
     (accepts : answer .refusal ≡ noRefusal) where
   abbrev j : ℕ
   j = arrival .site
@@ -64,8 +69,16 @@ module _ {settings : Settings} (passes : settingsRefusal settings ≡ noRefusal)
   none = sym (says .refusal) ∙ accepts
 
   parts : BothAccepted (siteMemoryRefusal settings numbers given)
-      (arrivalRefusal settings (siteIn settings numbers given) arrival)
+      (lineRefusal settings (siteIn settings numbers given) arrival)
   parts = both-accepted (siteMemoryRefusal settings numbers given) _ none
+
+  drawn : arrivalRefusal settings (siteIn settings numbers given) arrival ≡ noRefusal
+  drawn =
+      sym (line-draw settings (siteIn settings numbers given) arrival is-draw)
+      ∙ parts .later-accepted
+
+  taken : SiteCalls.observeTakes settings numbers arrival given ≡ true
+  taken = observe-takes settings numbers arrival given is-draw none
 
   -- The part that was lent is long enough, as the call accepts it.
   pub long : siteWords settings ≤ length given
@@ -74,7 +87,7 @@ module _ {settings : Settings} (passes : settingsRefusal settings ≡ noRefusal)
   -- The arrival names one of the k sites.
   pub known : j < settings .sites
   known =
-      taken-of-no-refusal settings (siteIn settings numbers given) arrival (parts .later-accepted)
+      taken-of-no-refusal settings (siteIn settings numbers given) arrival drawn
       .known .site-known
 
   -- The site that record and part hold is the network's.
@@ -91,8 +104,7 @@ module _ {settings : Settings} (passes : settingsRefusal settings ≡ noRefusal)
   taken-here : ArrivalTaken settings (siteAt (networkOf settings held) j) arrival
   taken-here =
       taken-of-no-refusal settings (siteAt (networkOf settings held) j) arrival
-      (subst (λ (s : Site). arrivalRefusal settings s arrival ≡ noRefusal) site-here
-      (parts .later-accepted))
+      (subst (λ (s : Site). arrivalRefusal settings s arrival ≡ noRefusal) site-here drawn)
 
   -- An accepted arrival keeps a site sound.
   pub site-sound : SoundSite settings site
@@ -123,7 +135,7 @@ module _ {settings : Settings} (passes : settingsRefusal settings ≡ noRefusal)
   out-is =
       let messages = observed settings (siteIn settings numbers given) arrival .messages in
       let sent : SiteCalls.observedMessages settings numbers arrival given ≡ messages =
-      accepted-choice _ _ _ none in
+      taken-choice _ _ _ taken in
       let count = says .count ∙ ap length sent in
       let first = says .first ∙ ap (λ (ms : List Message). getD ms 0 noMessage) sent in
       let second = says .second ∙ ap (λ (ms : List Message). getD ms 1 noMessage) sent in
@@ -135,10 +147,10 @@ module _ {settings : Settings} (passes : settingsRefusal settings ≡ noRefusal)
   pub after-is : afterSingle settings before arrival words part answer ≡ after
   after-is =
       let record-is : answer .site ≡ siteRecord site =
-      says .site ∙ accepted-choice _ _ _ none
+      says .site ∙ taken-choice _ _ _ taken
       ∙ ap (λ (s : Site). siteRecord (observed settings s arrival .site)) site-here in
       let part-is : part ≡ siteMemory settings site given =
-      says .memory ∙ accepted-choice _ _ _ none
+      says .memory ∙ taken-choice _ _ _ taken
       ∙ ap (λ (s : Site). siteMemory settings (observed settings s arrival .site) given)
       site-here in
       λ i. record {
@@ -166,8 +178,7 @@ module _ {settings : Settings} (passes : settingsRefusal settings ≡ noRefusal)
       record {
         origin-sound = rest .sound;
         taken =
-            ap (λ (s : Site). arrivalRefusal settings s arrival) (sym site-here)
-            ∙ parts .later-accepted;
+            ap (λ (s : Site). arrivalRefusal settings s arrival) (sym site-here) ∙ drawn;
         lengths =
             lengths-site-written passes held (rest .lengths) sites-sound j known site site-fits
             words long;
@@ -191,18 +202,20 @@ pub single-ok : {settings : Settings} (passes : settingsRefusal settings ≡ noR
     (arrival : Arrival) (words : ℕ) (part : List ℕ) (answer : Observed)
     → SiteCalls.ObserveSays settings (recordAt (before .held) (arrival .site)) arrival
     (sitePart settings (before .held) (arrival .site) words) part answer
+    → isDraw arrival ≡ true
     → answer .refusal ≡ noRefusal
     → StateOk settings 0 (afterSingle settings before arrival words part answer)
-single-ok {settings} passes before ok at-rest arrival words part answer says accepts =
+single-ok {settings} passes before ok at-rest arrival words part answer says is-draw accepts =
     let rest = resting-of passes ok at-rest in
     let after = afterSingle settings before arrival words part answer in
     let on = begins passes before (sound-rest-of passes ok at-rest) arrival words part answer says
-    accepts in
+    is-draw accepts in
     record {
       lengths = on .lengths;
       standing = delivering (record {
         front = before .accepted;
         arrival = arrival;
+        is-draw = is-draw;
         accepted-are = refl;
         front-accepted = rest .accepted-are;
         underway =

@@ -14,7 +14,7 @@ use Rattle.model.specs.declared.Arrival.{Arrival}
 use Rattle.model.specs.declared.Message.{Message}
 use Rattle.model.specs.Refusals.{noRefusal}
 use Rattle.model.specs.Settings.{settingsRefusal}
-use Rattle.model.specs.Site.{Site, arrivalRefusal, siteMessageRefusal}
+use Rattle.model.specs.Site.{Site, lineRefusal, siteMessageRefusal}
 use Rattle.model.specs.SiteMemory.{siteWords, siteIn, siteMemoryRefusal}
 use Rattle.model.specs.Coordinator.{Coordinator}
 use Rattle.model.specs.CoordinatorMemory.{coordinatorWords, coordinatorIn, coordinatorMemoryRefusal}
@@ -80,9 +80,9 @@ module _ {settings : Settings} (passes : settingsRefusal settings ≡ noRefusal)
     pub arrival-by-rules : (arrival : Arrival)
         → SiteCalls.observeRefusal settings (recordAt held which) arrival
         (sitePart settings held which words)
-        ≡ arrivalRefusal settings (siteAt (networkOf settings held) which) arrival
+        ≡ lineRefusal settings (siteAt (networkOf settings held) which) arrival
     arrival-by-rules arrival =
-        rw site-accepted (ap (λ (site : Site). arrivalRefusal settings site arrival) site-here)
+        rw site-accepted (ap (λ (site : Site). lineRefusal settings site arrival) site-here)
 
     -- The number for a message is the rules'.
     pub site-message-by-rules : (m : Message)

@@ -40,11 +40,14 @@ use Rattle.history.proofs.FewFollow.{few-follow}
 use Rattle.history.proofs.Refused.{refused-same}
 use Rattle.history.proofs.GoesOn.{delivery-goes-on}
 use Rattle.history.proofs.Kept.{tails-kept, others-kept}
+use Rattle.history.proofs.OneTouch.{others-left, touch-or-draw}
 use Rattle.history.proofs.FromStart.{held-whole}
 pub use Rattle.history.proofs.Arisen.{Arisen, arisen}
 use Rattle.history.proofs.Arisen.{kept-from}
 use Rattle.history.proofs.GivenDraws.{as-given}
 use Rattle.history.proofs.KeptOut.{nothing-lost}
+use Rattle.history.proofs.BatchWithout.{says-without}
+use Rattle.history.proofs.LeftOut.{left-out}
 
 -- ---- Each demand
 
@@ -105,8 +108,11 @@ module _ (settings : Settings) (state : State) (passes : settingsRefusal setting
         (listed-firm settings passes (take n (state .accepted)) item holds);
     tails-kept = tails-kept passes state (there .ok);
     others-kept = λ arrival words part answer rest says accepts.
+        touch-or-draw arrival
+        (others-left settings state arrival words part answer says)
+        (λ is-draw.
         others-kept passes state (sound-rest-of passes (there .ok) rest) arrival words part answer
-        says accepts;
+        says is-draw accepts);
   }
 
   whole : Whole settings (heldAtStart reachable) state
@@ -201,5 +207,7 @@ demands = record {
   third = third;
   dropped = dropped;
   given = λ settings state passes reachable. as-given passes state reachable;
+  touches = left-out;
+  batch-touches = says-without;
   nothing-lost = λ settings before after step. nothing-lost step;
 }

@@ -9,13 +9,15 @@
 --   Whole     every number of records and lent memory, from what the start calls left
 --   Third     the bounds on messages
 --   Dropped   every draw of a deck is reported, unreported or forgotten (request N1)
+--   LeftOut   touches are accepted, and leaving them out gives the same (request N2)
 --   AsGiven   of all draws that were given, the rules accept exactly what the calls accepted;
 --             NothingLost: a call decides on what it is handed, or keeps it out
--- In all of them n is `counted (state .accepted)`: the arrivals accepted so far.
+-- In all of them n is `counted (state .accepted)`: the draws accepted so far, of class 1 or more.
 use mathlib.Core.Path.{_≡_}
 use Rattle.model.specs.declared.Settings.{Settings}
 use Rattle.model.specs.Refusals.{noRefusal}
 use Rattle.model.specs.Settings.{settingsRefusal}
+use Rattle.tracker.specs.Batch.{BatchCall, BatchHeld, BatchSays}
 use Rattle.history.specs.State.{State}
 use Rattle.history.specs.Histories.{Step, Reachable, heldAtStart}
 pub use Rattle.history.specs.First.{DeliveryGoesOn, First}
@@ -23,6 +25,7 @@ pub use Rattle.history.specs.Second.{Second}
 pub use Rattle.history.specs.Whole.{Whole}
 pub use Rattle.history.specs.Third.{Third}
 pub use Rattle.history.specs.Dropped.{Dropped}
+pub use Rattle.history.specs.Touches.{BatchWithout, LeftOut}
 pub use Rattle.history.specs.Given.{givenIn, AsGiven, NothingLost}
 
 -- For all settings that pass their test and all states that a history reaches.
@@ -47,6 +50,15 @@ pub record Demands : Type 0 where
       → settingsRefusal settings ≡ noRefusal
       → Reachable settings state
       → Dropped settings state
+  -- of a history with touches anywhere
+  pub touches : (settings : Settings) (state : State)
+      → settingsRefusal settings ≡ noRefusal
+      → (history : Reachable settings state)
+      → LeftOut settings history
+  -- and of every batch call, whatever memory it is lent
+  pub batch-touches : (call : BatchCall) (answer : BatchHeld)
+      → BatchSays call answer
+      → BatchWithout call answer
   -- of the draws given in a history, refused ones too
   pub given : (settings : Settings) (state : State)
       → settingsRefusal settings ≡ noRefusal

@@ -1,14 +1,16 @@
 -- One history, state by state, in numbers: so the demands are about something. Settings A of
 -- document 01's instances. Both start calls, on memory that holds other numbers and is longer than
--- asked; a draw that is refused; the draw of P2 by single calls, with two refused messages and a
--- refused draw in mid-delivery; a batch of two such draws, stopped by 14 after the first; a
--- reading. The calls are lent more or less of the memories.
+-- asked; a draw that is refused; the draw of P2 by single calls, with two refused messages, a
+-- refused draw and a touch in mid-delivery; a batch of touches alone, with no log; a batch of two
+-- such draws with a touch between them, stopped by 14 before the second draw; a reading. The calls
+-- are lent more or less of the memories.
 --
 --   startedState                           started; the refused draw leaves it so
 --   afterDraw                              the draw accepted: kinds 1 and 2 wait
 --   afterItemReport, afterCountReport,     kinds 1, 2, 3 and 4 handed over; the refused calls
---   afterPoll, afterPollAnswer             leave afterItemReport so
---   afterAnnouncement, atRestAgain         kind 7 asked for, and handed over
+--   afterPoll, afterPollAnswer             and the touch leave afterItemReport so
+--   afterAnnouncement, atRestAgain         kind 7 asked for, and handed over; the touches leave
+--                                          atRestAgain so
 --   afterBatchOfTwo                        after the batch
 use mathlib.Core.List.{List, [], _∷_, _++_}
 use Prim.Native.Nat.{ℕ, zero, suc}

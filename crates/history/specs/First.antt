@@ -20,7 +20,7 @@ use Rattle.model.specs.declared.Phase.the-variants.{Idle}
 use Rattle.model.specs.Refusals.{when, noRefusal, unknownItem, listTooShort}
 use Rattle.model.specs.Limits.{mostSteps}
 use Rattle.model.specs.Messages.{toCoordinator}
-use Rattle.model.specs.Site.{arrivalRefusal, siteMessageRefusal}
+use Rattle.model.specs.Site.{lineRefusal, siteMessageRefusal}
 use Rattle.model.specs.SiteMemory.{siteWords, siteMemoryRefusal}
 use Rattle.model.specs.Coordinator.{isAnnouncing, coordinatorRefusal, announcementRefusal}
 use Rattle.model.specs.CoordinatorMemory.{coordinatorWords, coordinatorMemoryRefusal}
@@ -62,13 +62,13 @@ pub record MemoryAccepted (settings : Settings) (state : State) : Type 0 where
 -- So each call is refused by the number that the rules give its arrival or message, and is accepted
 -- where they give none.
 pub record RefusedByRules (settings : Settings) (state : State) : Type 0 where
-  -- 5, 6, 7, 8
+  -- 5, 6, 7, 8; a touch is never refused by 8
   pub arrival : (which words : ℕ) (arrival : Arrival)
       → which < settings .sites
       → siteWords settings ≤ words
       → SiteCalls.observeRefusal settings (recordAt (state .held) which) arrival
       (sitePart settings (state .held) which words)
-      ≡ arrivalRefusal settings (siteAt (networkOf settings (state .held)) which) arrival
+      ≡ lineRefusal settings (siteAt (networkOf settings (state .held)) which) arrival
   -- 5, 9, 7, 10
   pub site-message : (which words : ℕ) (m : Message)
       → which < settings .sites
@@ -102,7 +102,7 @@ pub record RefusedByRules (settings : Settings) (state : State) : Type 0 where
       → marginRefusal settings (state .held .coordinator) item
       (coordinatorPart (state .held) 0 words)
       ≡ when (leb (settings .universe) item) unknownItem
-  -- 5, 6, 7, 8, 14
+  -- 5, 6, 7, 8, 14; a touch never by 8 or 14
   pub batch : (siteCount coordinatorCount : ℕ)
       → sitesWords settings ≤ siteCount
       → coordinatorWords settings ≤ coordinatorCount
@@ -155,7 +155,8 @@ pub record DeliveryGoesOn (settings : Settings) (state : State) : Type 0 where
 pub record First (settings : Settings) (state : State) : Type 0 where
   pub memory-accepted : MemoryAccepted settings state
   pub refused-by-rules : RefusedByRules settings state
-  -- a call that accepts nothing leaves everything as it was
+  -- a call that accepts no draw leaves everything as it was: refused, or a touch, or a batch of
+  -- touches
   pub refused-changes-nothing : (after : State)
       → Refuses state after
       → after ≡ state

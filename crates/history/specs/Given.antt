@@ -1,5 +1,6 @@
--- The draws given in a history, single and in batches, refused ones too: the rules over these
--- accept exactly what the calls accepted, in the order given (document 01, "Whole lists of draws").
+-- The lines given in a history, single and in batches, touches and refused ones too: the rules over
+-- these accept exactly the draws that the calls accepted, in the order given (document 01, "Whole
+-- lists of draws").
 --
 --   ofArrival refusal               whether a refusal says something of the arrival: 5, 6, 7, 8
 --   decided, keptOut arrivals answer    a batch's arrivals: those that it decided on, and the rest
@@ -22,7 +23,7 @@ use Rattle.model.specs.Refusals.{noRefusal, unknownSite, siteFull}
 use Rattle.model.specs.Runs.{runOf}
 use Rattle.tracker_steps.specs.Steps.{BatchHeld}
 use Rattle.history.specs.State.{State, siteStart, Slices}
-use Rattle.history.specs.Histories.{batch, single, Refuses, arrival-refused, site-message-refused, coordinator-message-refused, announcement-refused, batch-accepts-nothing, Step, arrives, delivers, refuses, Reachable, started, stepped}
+use Rattle.history.specs.Histories.{batch, single, Refuses, arrival-left, site-message-refused, coordinator-message-refused, announcement-refused, batch-takes-none, Step, arrives, delivers, refuses, Reachable, started, stepped}
 
 -- ---- What a call decides on
 
@@ -57,11 +58,11 @@ noDraw = record { arrivals = []; count = 0 }
 abbrev pub batchHanded : List Arrival → BatchHeld → Handed
 batchHanded arrivals answer = record { arrivals = arrivals; count = decidedCount answer }
 
--- A single draw that was refused.
+-- A single draw that was refused, or a touch, which may be accepted.
 abbrev pub drawHanded : Arrival → ℕ → Handed
 drawHanded arrival refusal = record {
   arrivals = arrival ∷ [];
-  count = if ofArrival refusal then 1 else 0;
+  count = if isZero refusal || ofArrival refusal then 1 else 0;
 }
 
 -- "every call is given these": whether two calls have the same settings.
@@ -74,8 +75,8 @@ sameSettings one other =
     && eqb (one .capacity) (other .capacity)
     && eqb (one .universe) (other .universe)
 
--- Whether a refused draw is one of the list: under its settings, at the site that it names, with
--- the memory from where that site's starts; at any site, where it names none.
+-- Whether a refused draw or a touch is one of the list: under its settings, at the site that it
+-- names, with the memory from where that site's starts; at any site, where it names none.
 abbrev pub ownDraw : Settings → Settings → ℕ → Arrival → ℕ → Bool
 ownDraw settings given which arrival start =
     sameSettings given settings
@@ -89,39 +90,39 @@ ownBatch settings given slices =
     sameSettings given settings && isZero (slices .siteFrom) && isZero (slices .coordinatorFrom)
 
 abbrev pub handedRefused : {before after : State} → Settings → Refuses before after → Handed
-handedRefused settings (arrival-refused given which arrival start words part answer _ _) =
+handedRefused settings (arrival-left given which arrival start words part answer _ _) =
     if ownDraw settings given which arrival start
     then drawHanded arrival (answer .refusal) else noDraw
 handedRefused settings (site-message-refused _ _ _ _ _ _ _ _ _) = noDraw
 handedRefused settings (coordinator-message-refused _ _ _ _ _ _ _ _) = noDraw
 handedRefused settings (announcement-refused _ _ _ _ _ _) = noDraw
-handedRefused settings (batch-accepts-nothing given slices arrivals log answer _ _) =
+handedRefused settings (batch-takes-none given slices arrivals log answer _ _) =
     if ownBatch settings given slices then batchHanded arrivals answer else noDraw
 
 abbrev pub handedBy : {settings : Settings} {before after : State}
     → Step settings before after
     → Handed
 handedBy (arrives (batch _ _ arrivals log answer _ _)) = batchHanded arrivals answer
-handedBy (arrives (single arrival words part answer _ _ _)) =
+handedBy (arrives (single arrival words part answer _ _ _ _)) =
     record { arrivals = arrival ∷ []; count = 1 }
 handedBy (delivers step) = noDraw
 handedBy {settings} (refuses step) = handedRefused settings step
 
 -- The number that a call with draws answers; other steps are handed none.
 abbrev pub refusalOfRefused : {before after : State} → Refuses before after → ℕ
-refusalOfRefused (arrival-refused given which arrival start words part answer _ _) =
+refusalOfRefused (arrival-left given which arrival start words part answer _ _) =
     answer .refusal
 refusalOfRefused (site-message-refused _ _ _ _ _ _ _ _ _) = noRefusal
 refusalOfRefused (coordinator-message-refused _ _ _ _ _ _ _ _) = noRefusal
 refusalOfRefused (announcement-refused _ _ _ _ _ _) = noRefusal
-refusalOfRefused (batch-accepts-nothing given slices arrivals log answer _ _) =
+refusalOfRefused (batch-takes-none given slices arrivals log answer _ _) =
     answer .refusal
 
 abbrev pub refusalBy : {settings : Settings} {before after : State}
     → Step settings before after
     → ℕ
 refusalBy (arrives (batch _ _ arrivals log answer _ _)) = answer .refusal
-refusalBy (arrives (single arrival words part answer _ _ _)) = answer .refusal
+refusalBy (arrives (single arrival words part answer _ _ _ _)) = answer .refusal
 refusalBy (delivers step) = noRefusal
 refusalBy (refuses step) = refusalOfRefused step
 
@@ -153,7 +154,7 @@ keptOutIn (stepped before after earlier step) = keptOutIn earlier ++ keptOutBy s
 
 -- Of the draws that were given.
 pub record AsGiven (settings : Settings) (given : List Arrival) (state : State) : Type 0 where
-  -- the rules accept the same of them as the calls did, in the order given
+  -- the rules accept the same draws of them as the calls did, in the order given
   pub accepted-are : runOf settings given .accepted ≡ state .accepted
   -- and come to the same network and messages
   pub run-is : runOf settings given ≡ runOf settings (state .accepted)

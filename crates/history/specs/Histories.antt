@@ -4,9 +4,9 @@
 -- made of the call's results. How much of a memory is lent may differ from call to call ("longer is
 -- fine, the rest untouched"): the first so many numbers, and of refused calls any slice.
 --
---   Arrives settings before after      a batch call, or an accepted single arrival, at rest
+--   Arrives settings before after      a batch call, or an accepted single draw, at rest
 --   Delivers settings before after     one message handed over and accepted, or a kind 7 asked for
---   Refuses before after               any call that accepts nothing, at any time
+--   Refuses before after               any call that accepts no draw, at any time
 --   Step settings before after         one of them
 --   Reachable settings state           the states of all histories under these settings
 --   Deliveries settings start n state  n steps of delivery, with refused calls between them
@@ -21,6 +21,7 @@ use Rattle.model.specs.declared.Message.{Message}
 use Rattle.model.specs.declared.Sites.{Sites}
 use Rattle.model.specs.declared.CoordinatorRecord.{CoordinatorRecord}
 use Rattle.model.specs.Refusals.{noRefusal}
+use Rattle.model.specs.Draws.{isDraw, drawsOf}
 use Rattle.model.specs.Messages.{toCoordinator}
 use Rattle.site_steps.specs.declared.Observed.{Observed}
 use Rattle.site_steps.specs.declared.Replied.{Replied}
@@ -43,13 +44,13 @@ batchCall settings held arrivals log = record {
   log = log;
 }
 
--- Records from the answer, memory as it was left; as many of the arrivals as it accepted, and as
--- many messages of the log as it wrote.
+-- Records from the answer, memory as it was left; the draws among as many of the arrivals as it
+-- accepted, and as many messages of the log as it wrote.
 abbrev pub afterBatch : State → List Arrival → BatchHeld → State
 afterBatch before arrivals answer = record {
   held = answer .held;
   waiting = before .waiting;
-  accepted = before .accepted ++ take (answer .accepted) arrivals;
+  accepted = before .accepted ++ drawsOf (take (answer .accepted) arrivals);
   messages = before .messages ++ messagesIn (answer .written) (answer .log);
   logged = before .logged + answer .written;
 }
@@ -81,9 +82,10 @@ pub data Arrives (settings : Settings) (before : State) : State → Type 0 where
       → Arrives settings before
       (afterBatch before arrivals
       (putBack (before .held) (fronts siteCount coordinatorCount) answer))
-  -- a single arrival that is accepted, at the site that it names
+  -- a single draw that is accepted, at the site that it names
   single : (arrival : Arrival) (words : ℕ) (part : List ℕ) (answer : Observed)
       → AtRest before
+      → isDraw arrival ≡ true
       → ObserveSays settings (recordAt (before .held) (arrival .site)) arrival
       (sitePart settings (before .held) (arrival .site) words) part answer
       → answer .refusal ≡ noRefusal
@@ -137,17 +139,18 @@ pub data Delivers (settings : Settings) (before : State) : State → Type 0 wher
       (afterCoordinatorCall (before .held) (answer .coordinator) (before .held .coordinatorMemory))
       (before .waiting) (receivedOut answer))
 
--- ---- Calls that accept nothing
+-- ---- Calls that accept no draw
 
 -- "A call that is refused .., with a draw or a message, may stand anywhere", in mid-delivery too;
 -- with any settings, any site's record, any part of the memories and any arrival, number or
--- message. Also a batch call that accepts no arrival, refused or not.
+-- message. So may a touch, accepted or not, and a batch call that accepts no draw: none of its
+-- arrivals, or touches alone.
 pub data Refuses (before : State) : State → Type 0 where
-  arrival-refused : (given : Settings) (which : ℕ) (arrival : Arrival) (start words : ℕ)
+  arrival-left : (given : Settings) (which : ℕ) (arrival : Arrival) (start words : ℕ)
       (part : List ℕ) (answer : Observed)
       → ObserveSays given (recordAt (before .held) which) arrival
       (partOf (before .held) start words) part answer
-      → (answer .refusal ≡ noRefusal → ⊥)
+      → (answer .refusal ≡ noRefusal → isDraw arrival ≡ false)
       → Refuses before
       (holding before
       (afterSiteCall (before .held) which (answer .site)
@@ -176,10 +179,10 @@ pub data Refuses (before : State) : State → Type 0 where
       (holding before
       (afterCoordinatorCall (before .held) (answer .coordinator)
       (before .held .coordinatorMemory)))
-  batch-accepts-nothing : (given : Settings) (slices : Slices) (arrivals : List Arrival)
+  batch-takes-none : (given : Settings) (slices : Slices) (arrivals : List Arrival)
       (log : List ℕ) (answer : BatchHeld)
       → BatchSays (batchCall given (lending (before .held) slices) arrivals log) answer
-      → answer .accepted ≡ 0
+      → drawsOf (take (answer .accepted) arrivals) ≡ []
       → Refuses before
       (afterBatch before arrivals (putBack (before .held) slices answer))
 

@@ -9,6 +9,7 @@ pub mod Second
 pub mod Whole
 pub mod Third
 pub mod Dropped
+pub mod Touches
 pub mod Demands
 pub mod Example
 pub mod OneBatch

@@ -1,5 +1,5 @@
 -- What the reading calls answer at rest (document 01, "Reading the desk" and "Within e"), of any
--- answer that keeps the call's contract. All of it is about the arrivals accepted so far.
+-- answer that keeps the call's contract. All of it is about the draws accepted so far.
 --
 --   FirmShare settings item arrivals                request N10's word on a listed item
 --   ListRight settings state before after answer    the list call on a list of so many places
@@ -10,6 +10,7 @@
 use mathlib.Core.Path.{_≡_}
 use mathlib.Core.Bool.{true, false}
 use mathlib.Core.List.{List}
+use lib.IntN.{pos}
 use Prim.Native.Nat.{ℕ, _+_, _-_, _*_, _≤_, _<_}
 use lib.ListN.{length, getD, take}
 use Rattle.model.specs.declared.Settings.{Settings}
@@ -18,7 +19,7 @@ use Rattle.model.specs.declared.Quantile.the-variants.{Nothing, Value}
 use Rattle.model.specs.Refusals.{noRefusal, unknownItem, listTooShort}
 use Rattle.model.specs.Coordinator.{Coordinator}
 use Rattle.model.specs.CoordinatorMemory.{coordinatorWords}
-use Rattle.model.specs.Limits.{topValue}
+use Rattle.model.specs.Limits.{topValue, leastDrawn}
 use Rattle.model.specs.Reading.{neededSide, heavyHitters, mostListed, margin, quantileOf}
 use Rattle.model.specs.Runs.{runOf}
 use Rattle.model.specs.Claims.{counted, countOf, below, above, contains}
@@ -77,6 +78,10 @@ pub record ListRight (settings : Settings) (state : State) (before after : List 
       → (item : ℕ)
       → contains item (listedIn answer after) ≡ true
       → FirmShare settings item (state .accepted)
+  -- request N2, "holds once there is one": before the first draw nothing is listed, whatever
+  -- touches there were
+  pub nothing-listed : counted (state .accepted) ≡ 0
+      → answer .count ≡ 0
   -- "The list is in rising code order."
   pub rising : answer .refusal ≡ noRefusal
       → (i : ℕ)
@@ -108,6 +113,10 @@ pub record MarginRight (settings : Settings) (state : State) (item : ℕ) (answe
   -- "the signed difference of those two sides"
   pub margin-is : answer .refusal ≡ noRefusal
       → answer .margin ≡ margin settings (rulesCoordinator settings state) item
+  -- before the first draw it is 0
+  pub margin-zero : answer .refusal ≡ noRefusal
+      → counted (state .accepted) ≡ 0
+      → answer .margin ≡ pos 0
 
 -- ---- The quantile
 
@@ -135,6 +144,10 @@ pub record QuantileRight (settings : Settings) (state : State) (answer : Quantil
   pub value-known : (value : ℕ)
       → answer .quantile ≡ Value value
       → value ≤ topValue
+  -- touches are no draws, so class 0 is never answered
+  pub value-drawn : (value : ℕ)
+      → answer .quantile ≡ Value value
+      → leastDrawn ≤ value
   -- firmer than "within e": two thirds of e do
   pub firm-below : (value : ℕ)
       → answer .quantile ≡ Value value

@@ -29,7 +29,8 @@ pub record State : Type 0 where
   -- messages that went out after a single arrival and are not yet handed over, in the order of
   -- going out
   pub waiting : List Message
-  -- all arrivals accepted so far, in order, those of a batch that a refusal stopped included
+  -- all draws accepted so far, in order, those of a batch that a refusal stopped included: the
+  -- accepted arrivals of class 1 or more (request N2)
   pub accepted : List Arrival
   -- all messages so far, in order, each once: written to a log, or handed out after single arrivals
   pub messages : List Message

@@ -1,5 +1,6 @@
 -- Demand 3 of every history: the bounds on messages, at rest and in mid-delivery, and after each of
--- the accepted arrivals. n is `counted (state .accepted)`: the arrivals accepted so far.
+-- the accepted arrivals. n is `counted (state .accepted)`: the draws accepted so far, of class 1 or
+-- more; touches are not among them.
 --
 --   FewFollow settings before after   the messages of one arrival more
 --   Third settings state              all of demand 3

@@ -1,11 +1,12 @@
 -- Document 01's instances hold of the definitions: each field by computation.
 use mathlib.Core.Path.{refl}
 use Rattle.model.specs.Limits.{valueCount}
+use Rattle.model.specs.Runs.{isTaken}
 use Rattle.model.specs.Decimal.{decimal}
 use Rattle.model.specs.Instances.{Instances}
 
 pub instances : Instances
-unfolding valueCount decimal
+unfolding valueCount decimal isTaken
 instances = record {
   p1-list = refl;
   p1-class = refl;

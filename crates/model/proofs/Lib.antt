@@ -9,6 +9,7 @@ pub mod Soundness
 pub mod Stages
 pub mod Numbers
 pub mod Dropped
+pub mod Touches
 pub mod Worklists
 pub mod Instances
 pub mod Edges

@@ -1,7 +1,7 @@
 -- What is claimed of every run: demands 2 and 3 over all lists of arrivals, and the bounds that
 -- later parts lean on. `DemandsOverRuns` is the whole of it; proofs/Theorem.antt proves it.
 --
---   counted arrivals                    n: the arrivals that shares, ranks and message bounds count
+--   counted arrivals                    n: the draws that shares, ranks and message bounds count
 --   countOf item arrivals               an item's arrivals; 0 of no arrival
 --   below value, above value            the arrivals of a smaller, of a larger value
 --   Tracks settings run                 list and quantile are right ("demand 2, after each draw")
@@ -12,10 +12,14 @@
 --   Estimates settings run              how far estimates and total lag behind
 --   QuantilePromise settings run        all that is promised of the quantile
 --   FirmQuantile settings run           the quantile is within 2e / 3, exact at first
+--   BeforeDraws settings run            what is read while there is no draw yet
 --   AfterEach settings arrivals n       the demands after the first n accepted arrivals
+-- In all of them `run .accepted` has the draws of a run: its accepted arrivals of class 1 or more
+-- (request N2; Cuts.antt `accepted-drawn`).
 use mathlib.Core.Path.{_≡_}
 use mathlib.Core.Bool.{Bool, true, false, _&&_, _||_}
 use mathlib.Core.List.{List, [], _∷_}
+use lib.IntN.{pos}
 use Prim.Native.Nat.{ℕ, _+_, _-_, _*_, _≤_, _<_}
 use lib.Dec.{eqb, ltb}
 use lib.ListN.{length, getD, take}
@@ -24,10 +28,10 @@ use Rattle.model.specs.declared.Arrival.{Arrival}
 use Rattle.model.specs.declared.Phase.the-variants.{Idle}
 use Rattle.model.specs.declared.Quantile.the-variants.{Nothing, Value}
 use Rattle.model.specs.Refusals.{noRefusal}
-use Rattle.model.specs.Limits.{topValue, messagesPerArrival, allowanceFactor, firmMessages, firmMessagesPerDigit}
+use Rattle.model.specs.Limits.{topValue, leastDrawn, messagesPerArrival, allowanceFactor, firmMessages, firmMessagesPerDigit}
 use Rattle.model.specs.Settings.{settingsRefusal, digits, allowance}
 use Rattle.model.specs.Coordinator.{Coordinator}
-use Rattle.model.specs.Reading.{neededSide, isListed, heavyHitters, mostListed, quantileOf}
+use Rattle.model.specs.Reading.{neededSide, isListed, heavyHitters, mostListed, margin, quantileOf}
 use Rattle.model.specs.Runs.{Run, runOf}
 use Rattle.model.specs.Cuts.{Cuts}
 
@@ -38,7 +42,8 @@ abbrev pub oneIf : Bool → ℕ
 oneIf true = 1
 oneIf false = 0
 
--- "n is the draws accepted".
+-- "n is the draws accepted", and "n .. mean draws of class 1 or more": touches are never among the
+-- accepted arrivals of a run or a history.
 abbrev pub counted : List Arrival → ℕ
 counted arrivals = length arrivals
 
@@ -83,6 +88,10 @@ pub record FirmQuantile (settings : Settings) (run : Run) : Type 0 where
   pub value-known : (value : ℕ)
       → quantileOf settings (run .network .coordinator) ≡ Value value
       → value ≤ topValue
+  -- and since touches are no draws, class 0 never comes out
+  pub value-drawn : (value : ℕ)
+      → quantileOf settings (run .network .coordinator) ≡ Value value
+      → leastDrawn ≤ value
   -- 1000 × (draws below it) ≤ (q + 2e / 3) × n, times 3
   pub few-below : (value : ℕ)
       → quantileOf settings (run .network .coordinator) ≡ Value value
@@ -205,6 +214,16 @@ pub record Estimates (settings : Settings) (run : Run) : Type 0 where
       → (6 * settings .phi - 5 * settings .epsilon) * counted (run .accepted)
       ≤ 6000 * countOf item (run .accepted)
 
+-- ---- Before the first draw
+
+-- Request N2: "what is said of list and class holds once there is one". Before, whatever touches
+-- there were, nothing is listed, there is no class, each margin is 0, and no message went out.
+pub record BeforeDraws (settings : Settings) (run : Run) : Type 0 where
+  pub nothing-listed : heavyHitters settings (run .network .coordinator) ≡ []
+  pub no-class : quantileOf settings (run .network .coordinator) ≡ Nothing
+  pub margins-zero : (item : ℕ) → margin settings (run .network .coordinator) item ≡ pos 0
+  pub no-message : run .messages ≡ []
+
 -- ---- The whole
 
 -- Demands 2 and 3 "after each draw": of the run over the first n accepted arrivals, which are
@@ -246,7 +265,12 @@ pub record DemandsOverRuns : Type 0 where
   pub list-size : (settings : Settings) (arrivals : List Arrival)
       → settingsRefusal settings ≡ noRefusal
       → ListSize settings (runOf settings arrivals)
-  -- parts of a list, and refused arrivals
+  -- while there is no draw
+  pub before-draws : (settings : Settings) (arrivals : List Arrival)
+      → settingsRefusal settings ≡ noRefusal
+      → counted (runOf settings arrivals .accepted) ≡ 0
+      → BeforeDraws settings (runOf settings arrivals)
+  -- parts of a list, touches, and refused arrivals
   pub cuts : (settings : Settings) (arrivals : List Arrival)
       → Cuts settings arrivals
   -- both demands after each of the accepted arrivals

@@ -7,6 +7,7 @@ use Prim.Native.Nat.{ℕ}
 use lib.ListN.{length, take}
 use Rattle.model.specs.declared.Settings.{Settings}
 use Rattle.model.specs.declared.Arrival.{Arrival}
+use Rattle.model.specs.Draws.{drawsOf}
 use Rattle.model.specs.Runs.{runFrom, runOf}
 
 -- How a run over a list hangs together with runs over its parts.
@@ -23,6 +24,12 @@ pub record Cuts (settings : Settings) (arrivals : List Arrival) : Type 0 where
       → take (length (runOf settings arrivals .messages))
       (runOf settings (arrivals ++ later) .messages)
       ≡ runOf settings arrivals .messages
+  -- request N2: touches leave no trace, so leaving them all out gives the same run, with its
+  -- network and its messages
+  pub touches-change-nothing : runOf settings (drawsOf arrivals) ≡ runOf settings arrivals
+  -- and no accepted arrival is a touch: n is over "draws of class 1 or more"
+  pub accepted-drawn : drawsOf (runOf settings arrivals .accepted)
+      ≡ runOf settings arrivals .accepted
   -- refused arrivals leave no trace: the run over the accepted ones is the same run
   pub refused-change-nothing : runOf settings (runOf settings arrivals .accepted)
       ≡ runOf settings arrivals

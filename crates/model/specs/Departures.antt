@@ -21,7 +21,7 @@ use Rattle.model.specs.declared.Message.{Message}
 use Rattle.model.specs.declared.Leaving.{Leaving}
 use Rattle.model.specs.declared.Leaving.the-variants.{Nobody, Left}
 use Rattle.model.specs.declared.SiteRecord.{SiteRecord}
-use Rattle.model.specs.Choice.{if_then_else_, isZero}
+use Rattle.model.specs.Choice.{if_then_else_}
 use Rattle.model.specs.Refusals.{noRefusal}
 use Rattle.model.specs.Settings.{settingsRefusal}
 use Rattle.model.specs.Messages.{isItemReport}
@@ -29,7 +29,7 @@ use Rattle.model.specs.Counters.{unreportedIn}
 use Rattle.model.specs.Site.{Site, SiteStep, arrivalRefusal, leavingFor, observed, siteReceives}
 use Rattle.model.specs.SiteMemory.{siteIn, siteMemoryRefusal}
 use Rattle.model.specs.Network.{Network, siteAt}
-use Rattle.model.specs.Runs.{refusalIn, Run, freshRun, runOne, runOf}
+use Rattle.model.specs.Runs.{isTaken, Run, freshRun, runOne, runOf}
 use Rattle.model.specs.Claims.{oneIf}
 
 -- ---- The history of replacements
@@ -51,11 +51,11 @@ departureOf settings network arrival =
     departureBy (arrival .site)
     (leavingFor settings (siteAt network (arrival .site)) arrival)
 
--- Arrival by arrival, as a run takes them; a refused one makes none.
+-- Arrival by arrival, as a run takes them; a touch or a refused one makes none.
 abbrev pub departuresFrom : Settings → Run → List Arrival → List Departure
 departuresFrom settings run [] = []
 departuresFrom settings run (arrival ∷ arrivals) =
-    (if isZero (refusalIn settings (run .network) arrival)
+    (if isTaken settings (run .network) arrival
     then departureOf settings (run .network) arrival
     else [])
     ++ departuresFrom settings (runOne settings run arrival) arrivals

@@ -54,7 +54,7 @@ forgedMemory =
 -- A draw of a seventh code there.
 abbrev pub forgedAfter : Site
 forgedAfter =
-    observed settingsA (siteIn settingsA forgedRecord forgedMemory) (arrivalWith 0 9 0) .site
+    observed settingsA (siteIn settingsA forgedRecord forgedMemory) (arrivalWith 0 9 3) .site
 
 -- ---- The table
 
@@ -83,7 +83,7 @@ pub record DroppedInstances : Type 0 where
   pub twice-unreported : unreportedIn (siteAfter seventeenDraws .counters) ≡ 5
   -- the sums go by site
   pub dropped-at : droppedAt 1 (left 0 4 ∷ record { site = 1; item = 3; unreported = 2 } ∷ []) ≡ 2
-  pub count-at : countAt 1 (arrivalWith 1 0 0 ∷ arrivalWith 0 1 1 ∷ arrivalWith 1 9 9 ∷ []) ≡ 2
+  pub count-at : countAt 1 (arrivalWith 1 0 1 ∷ arrivalWith 0 1 1 ∷ arrivalWith 1 9 9 ∷ []) ≡ 2
   -- memory that never arose: it passes, its draw is accepted, and then its sum is above its draws
   pub forged-passes : siteMemoryRefusal settingsA forgedRecord forgedMemory ≡ 0
   pub forged-record : siteRecord forgedAfter ≡ siteNumbers 10 1 6 6 14

@@ -8,6 +8,7 @@ pub mod Decimal
 pub mod Lines
 pub mod Messages
 pub mod Counters
+pub mod Draws
 pub mod Site
 pub mod Lent
 pub mod SiteMemory
@@ -31,3 +32,4 @@ pub mod NumberClaims
 pub mod Departures
 pub mod Edges
 pub mod DroppedInstances
+pub mod TouchInstances

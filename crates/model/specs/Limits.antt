@@ -22,6 +22,10 @@ topValue = 1023
 unfoldable pub valueCount : ℕ
 valueCount = 1024
 
+-- Request N2: "draws of class 1 or more".
+abbrev pub leastDrawn : ℕ
+leastDrawn = 1
+
 -- "for each slot a code, a count, an overcount and a sent number; then 1024 class counts": the most
 -- numbers of a site's memory.
 abbrev pub mostSiteWords : ℕ

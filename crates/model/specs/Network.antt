@@ -3,7 +3,8 @@
 --
 --   delivered fuel settings network waiting log   FIFO hand-over until nothing waits and the
 --                                                 coordinator does not announce
---   afterArrival settings network arrival         an accepted arrival with full delivery
+--   afterArrival settings network arrival         an accepted draw with full delivery
+--   afterLine settings network arrival            an accepted line: a touch changes nothing
 use mathlib.Core.Bool.{true, false}
 use mathlib.Core.List.{List, [], _∷_, _++_}
 use Prim.Native.Nat.{ℕ, zero, suc, _+_, _*_}
@@ -13,6 +14,7 @@ use Rattle.model.specs.declared.Arrival.{Arrival}
 use Rattle.model.specs.declared.Message.{Message}
 use Rattle.model.specs.Choice.{if_then_else_}
 use Rattle.model.specs.Messages.{toCoordinator}
+use Rattle.model.specs.Draws.{isDraw}
 use Rattle.model.specs.Site.{Site, freshSite, observed, siteReceives}
 use Rattle.model.specs.Coordinator.{Coordinator, freshCoordinator, coordinatorReceives, isAnnouncing, announced}
 
@@ -92,9 +94,18 @@ delivered (suc more) settings network (m ∷ waiting) log =
 abbrev pub deliveryFuel : Settings → ℕ
 deliveryFuel settings = 50 * settings .sites + 10
 
--- An accepted arrival with full delivery: the network then, and all its messages in order.
+-- An accepted draw with full delivery: the network then, and all its messages in order.
 abbrev pub afterArrival : Settings → Network → Arrival → Delivered
 afterArrival settings network arrival =
     let after = observed settings (siteAt network (arrival .site)) arrival in
     delivered (deliveryFuel settings) settings
     (withSite network (arrival .site) (after .site)) (after .messages) (after .messages)
+
+-- The network as it was: nothing went out.
+abbrev pub asItWas : Network → Delivered
+asItWas network = record { network = network; messages = [] }
+
+-- Request N2: a touch is "accepted with no change and no message".
+abbrev pub afterLine : Settings → Network → Arrival → Delivered
+afterLine settings network arrival =
+    if isDraw arrival then afterArrival settings network arrival else asItWas network

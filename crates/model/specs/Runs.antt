@@ -1,8 +1,12 @@
 -- Lists of arrivals taken in order, each with full delivery, and batches that stop at a refusal.
 --
---   runOf settings arrivals            from a fresh network; a refused arrival changes nothing
+--   refusalIn, lineRefusalIn           why a network refuses a draw; why it refuses a line
+--   isTaken settings network arrival   whether it takes it: a draw that is not refused
+--   runOf settings arrivals            from a fresh network; touches and refused arrivals change
+--                                      nothing
+--   logRefusal, batchRefusal           why a batch refuses a draw for its log, and any line
 --   batchOf settings room network arrivals   the batch call with a log of so many places
-use mathlib.Core.Bool.{true, false}
+use mathlib.Core.Bool.{Bool, true, false, _&&_}
 use mathlib.Core.List.{List, [], _∷_, _++_}
 use Prim.Native.Nat.{ℕ, _+_, _-_}
 use lib.Dec.{ltb}
@@ -13,16 +17,28 @@ use Rattle.model.specs.declared.Message.{Message}
 use Rattle.model.specs.Choice.{if_then_else_, isZero}
 use Rattle.model.specs.Refusals.{when, _orElse_, noRefusal, logTooShort}
 use Rattle.model.specs.Limits.{mostMessages}
-use Rattle.model.specs.Site.{arrivalRefusal}
-use Rattle.model.specs.Network.{Network, freshNetwork, siteAt, afterArrival}
+use Rattle.model.specs.Draws.{isDraw}
+use Rattle.model.specs.Site.{arrivalRefusal, lineRefusal}
+use Rattle.model.specs.Network.{Network, freshNetwork, siteAt, afterArrival, afterLine}
 
+-- Of a draw: 5, 6, 7, 8.
 abbrev pub refusalIn : Settings → Network → Arrival → ℕ
 refusalIn settings network arrival =
     arrivalRefusal settings (siteAt network (arrival .site)) arrival
 
+-- Of any line: a touch is tested for 5, 6 and 7 alone.
+abbrev pub lineRefusalIn : Settings → Network → Arrival → ℕ
+lineRefusalIn settings network arrival =
+    lineRefusal settings (siteAt network (arrival .site)) arrival
+
 -- ---- Runs
 
--- A run keeps the network, the arrivals accepted in order, and all messages in order.
+-- A draw that is not refused is taken. All else, a touch too, leaves the network as it was.
+unfoldable pub isTaken : Settings → Network → Arrival → Bool
+isTaken settings network arrival =
+    isDraw arrival && isZero (refusalIn settings network arrival)
+
+-- A run keeps the network, the draws accepted in order, and all messages in order.
 pub record Run : Type 0 where
   pub network : Network
   pub accepted : List Arrival
@@ -42,7 +58,7 @@ withArrival settings run arrival =
 
 abbrev pub runOne : Settings → Run → Arrival → Run
 runOne settings run arrival =
-    if isZero (refusalIn settings (run .network) arrival)
+    if isTaken settings (run .network) arrival
     then withArrival settings run arrival
     else run
 
@@ -56,19 +72,26 @@ runOf settings arrivals = runFrom settings (freshRun settings) arrivals
 
 -- ---- Batches
 
--- A batch: the network, "draws accepted, messages written and the refusal that stopped it".
+-- A batch: the network, "draws accepted, messages written and the refusal that stopped it". Among
+-- the accepted it counts touches: "the many-draw call still counts such a line".
 pub record Batch : Type 0 where
   pub network : Network
   pub accepted : ℕ
   pub messages : List Message
   pub refusal : ℕ
 
--- "for a draw 5, 6, 7, 8, 14": the log's free places are counted before each draw.
+-- "log lacks 23 × k + 2 free records before a draw": 14.
+abbrev pub logRefusal : Settings → ℕ → ℕ
+logRefusal settings free =
+    when (ltb free (mostMessages settings)) logTooShort
+    orElse noRefusal
+
+-- "for a draw 5, 6, 7, 8, 14": the log's free places are counted before each draw. A touch is
+-- accepted "even .. with a full log".
 abbrev pub batchRefusal : Settings → Network → ℕ → Arrival → ℕ
 batchRefusal settings network free arrival =
-    refusalIn settings network arrival
-    orElse when (ltb free (mostMessages settings)) logTooShort
-    orElse noRefusal
+    lineRefusalIn settings network arrival
+    orElse (if isDraw arrival then logRefusal settings free else noRefusal)
 
 abbrev pub batchFrom : Settings → ℕ → Batch → List Arrival → Batch
 batchFrom settings room batch [] = batch
@@ -77,7 +100,7 @@ batchFrom settings room batch (arrival ∷ arrivals) =
     let refusal = batchRefusal settings (batch .network) free arrival in
     elim (isZero refusal) [
       | true ↦
-          (let after = afterArrival settings (batch .network) arrival in
+          (let after = afterLine settings (batch .network) arrival in
           batchFrom settings room
           (record {
             network = after .network;

@@ -3,14 +3,15 @@
 --
 --   addressRefusal settings arrival                5, 6, 7 in that order, or accepted
 --   roomRefusal site                               8, or accepted
---   arrivalRefusal settings site arrival           5, 6, 7; then 8
+--   arrivalRefusal settings site arrival           of a draw: 5, 6, 7; then 8
+--   lineRefusal settings site arrival              of a line: a touch is not tested for 8
 --   observed settings site arrival                 the site and its messages after an arrival
 --   siteDueRefusal site which m                    9, 7, 10 in that order, or accepted
 --   siteMessageRefusal settings site which m       5; then 9, 7, 10
 --   siteReceives site m                            the site and its answer after a message
 use mathlib.Core.Bool.{Bool, _&&_, _||_, not}
 use mathlib.Core.List.{List, [], _∷_, _++_}
-use Prim.Native.Nat.{ℕ, zero, suc, _+_, _-_}
+use Prim.Native.Nat.{ℕ, zero, suc, _+_}
 use lib.Dec.{eqb, ltb, leb}
 use lib.ListN.{getD, set, replicate}
 use Rattle.model.specs.declared.Settings.{Settings}
@@ -20,6 +21,7 @@ use Rattle.model.specs.Choice.{if_then_else_, isZero}
 use Rattle.model.specs.Refusals.{when, _orElse_, noRefusal, unknownSite, unknownItem, valueTooLarge, siteFull, messageNotDue, amountNotDue}
 use Rattle.model.specs.Limits.{topValue, valueCount, siteLimit}
 use Rattle.model.specs.Messages.{itemReport, countReport, pollAnswer, probeAnswer, isPoll, isProbe, isAnnouncement}
+use Rattle.model.specs.Draws.{isDraw}
 use Rattle.model.specs.declared.Leaving.{Leaving}
 use Rattle.model.specs.Counters.{Counter, counterAt, unreported, Placement, placementFor, placeOf, countersAfter, leavingBy, goneWith, afterReport}
 
@@ -65,6 +67,14 @@ abbrev pub arrivalRefusal : Settings → Site → Arrival → ℕ
 arrivalRefusal settings site arrival =
     addressRefusal settings arrival
     orElse roomRefusal site
+
+-- Request N2: a touch "is tested for deck, code and class as before, then accepted .., even on a
+-- full deck".
+abbrev pub lineRefusal : Settings → Site → Arrival → ℕ
+lineRefusal settings site arrival =
+    if isDraw arrival
+    then arrivalRefusal settings site arrival
+    else addressRefusal settings arrival
 
 -- One more at a place of a list of numbers.
 abbrev pub oneMoreAt : List ℕ → ℕ → List ℕ

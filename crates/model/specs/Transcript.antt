@@ -17,7 +17,7 @@ use Rattle.model.specs.Settings.{settingsRefusal}
 use Rattle.model.specs.Decimal.{decimal}
 use Rattle.model.specs.Lines.{Fields, malformed, fields, lineFeed, readFields, settingsOf, Worklist, ended, malformedAt, next, readWorklist}
 use Rattle.model.specs.Reading.{heavyHitters, quantileOf}
-use Rattle.model.specs.Runs.{Run, freshRun, withArrival, refusalIn}
+use Rattle.model.specs.Runs.{Run, freshRun, runOne, lineRefusalIn}
 
 -- ---- Words and lines of the output
 
@@ -94,15 +94,16 @@ programRefusal settings worklist =
     orElse when (beyondProgram settings (length worklist)) memoryTooShort
     orElse noRefusal
 
--- "It takes each line's draw before it reads the next line": the arrivals one by one, from a run.
+-- "It takes each line's draw before it reads the next line": the arrivals one by one, from a run. A
+-- touch is a good line and writes nothing.
 abbrev pub transcriptFrom : Settings → Run → Worklist → List ℕ
 transcriptFrom settings run ended = messageLines (run .messages) ++ resultLines settings run
 transcriptFrom settings run (malformedAt line) =
     messageLines (run .messages) ++ refusedLine malformedLine
 transcriptFrom settings run (next arrival others) =
-    let refusal = refusalIn settings (run .network) arrival in
+    let refusal = lineRefusalIn settings (run .network) arrival in
     elim (isZero refusal) [
-      | true ↦ transcriptFrom settings (withArrival settings run arrival) others
+      | true ↦ transcriptFrom settings (runOne settings run arrival) others
       | false ↦ messageLines (run .messages) ++ refusedLine refusal
     ]
 

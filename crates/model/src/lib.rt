@@ -66,6 +66,9 @@ pub const TOP_VALUE: u32 = 1023;
 
 pub const VALUE_COUNT: usize = 1024;
 
+// The least value of a draw: an arrival of a smaller one is a touch.
+pub const LEAST_DRAWN: u32 = 1;
+
 pub const SITE_LIMIT: u64 = 1000000000;
 
 pub const COORDINATOR_LIMIT: u64 = 100000000000;

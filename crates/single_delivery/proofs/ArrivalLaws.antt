@@ -1,23 +1,28 @@
 -- An arrival with full delivery by the public calls: the promise, from what its parts promise.
 --
---   refused-says       the arrival is refused
+--   takes, not-taken   whether the arrival is taken
+--   left-says          the arrival is refused, or a touch
 --   Delivers-it        what the parts of the code did
---   accepted-says      the arrival is accepted, and delivered
+--   taken-says         the draw is accepted, and delivered
 use mathlib.Core.Path.{_≡_, refl, sym, ap, _∙_, subst}
+use mathlib.Core.Bool.{Bool, true, false, false≢true, _&&_}
 use mathlib.Core.List.{List, [], _++_}
 use Prim.Native.Nat.{ℕ, _+_}
 use native.Mathlib.Omega.{arith}
 use lib.ListN.{length, length-append}
+use borrow.Author.Tests.{eq-eqb, ne-eqb}
 use Rattle.model.specs.declared.Settings.{Settings}
 use Rattle.model.specs.declared.Arrival.{Arrival}
 use Rattle.model.specs.declared.Sites.{Sites}
 use Rattle.model.specs.declared.CoordinatorRecord.{CoordinatorRecord}
 use Rattle.model.specs.Refusals.{_orElse_, noRefusal}
+use Rattle.model.specs.Choice.{isZero}
+use Rattle.model.specs.Draws.{isDraw}
 use Rattle.model.specs.Network.{Network}
-use Rattle.model.specs.Runs.{refusalIn, runOf}
+use Rattle.model.specs.Runs.{lineRefusalIn, runOf}
 use Rattle.history.specs.State.{heldRefusal, Held, State, AtRest, networkOf, networkWritten, heldBy}
 use Rattle.history.specs.Histories.{afterSingle, Reachable, stepped, arrives, single}
-use Rattle.history.proofs.Answers.{accepted-choice, refused-choice}
+use Rattle.history.proofs.Answers.{taken-choice, left-choice}
 use Rattle.history.proofs.SingleState.{begins}
 use Rattle.history.proofs.Theorem.{demands}
 use Rattle.history.proofs.Underway.{SoundRest}
@@ -25,7 +30,7 @@ use Rattle.single_delivery.specs.declared.Progress.{Progress}
 use Rattle.single_delivery.specs.declared.DeliveryAnswer.{DeliveryAnswer}
 use Rattle.single_delivery.specs.Steps.{Came, DeliverByCallsSays}
 use Rattle.single_delivery.specs.Arriving.{DeliveryBegun, BeginDeliverySays}
-use Rattle.single_delivery.specs.Delivery.{deliveryRefusal, deliveryIn, HistoryGoesOn, ArrivalDelivered, DeliverySays}
+use Rattle.single_delivery.specs.Delivery.{deliveryRefusal, deliveryTakes, deliveryIn, HistoryGoesOn, ArrivalDelivered, DeliverySays}
 use Rattle.single_delivery.proofs.EndLaws.{AtEnd, at-end}
 use Rattle.single_delivery.proofs.RestLaws.{Ended}
 use Rattle.single_delivery.proofs.OutcomeLaws.{outcome-of}
@@ -42,33 +47,62 @@ by-rules-of : {settings : Settings} (arrival : Arrival) (given : Held) (refusal 
     → before .held ≡ given
     → AtRest before
     → Reachable settings before
-    → refusal ≡ refusalIn settings (networkOf settings given) arrival
+    → refusal ≡ lineRefusalIn settings (networkOf settings given) arrival
 by-rules-of {settings} arrival given refusal refusal-is before held-is at-rest reachable =
     let none : heldRefusal settings given ≡ noRefusal =
     subst (λ (held : Held). heldRefusal settings held ≡ noRefusal) held-is
     (start-accepted before reachable at-rest) in
     refusal-is
-    ∙ ap (λ (start : ℕ). start orElse refusalIn settings (networkOf settings given) arrival) none
+    ∙ ap (λ (start : ℕ). start orElse lineRefusalIn settings (networkOf settings given) arrival)
+    none
 
--- ---- Refused
+-- ---- Whether it is taken
 
-pub refused-says : {settings : Settings} {arrival : Arrival} (given left : Held)
+takes : (settings : Settings) (given : Held) (arrival : Arrival)
+    → isDraw arrival ≡ true
+    → deliveryRefusal settings given arrival ≡ noRefusal
+    → deliveryTakes settings given arrival ≡ true
+unfolding deliveryTakes
+takes settings given arrival is-draw none = both (isDraw arrival) is-draw
+  where
+    both : (drawn : Bool) → drawn ≡ true
+        → (drawn && isZero (deliveryRefusal settings given arrival)) ≡ true
+    both true is = eq-eqb (deliveryRefusal settings given arrival) 0 none
+    both false is = is
+
+-- Refused, or a touch, it is not.
+not-taken : (settings : Settings) (given : Held) (arrival : Arrival)
+    → (deliveryRefusal settings given arrival ≡ noRefusal → isDraw arrival ≡ false)
+    → deliveryTakes settings given arrival ≡ false
+unfolding deliveryTakes
+not-taken settings given arrival touches = by-draw (isDraw arrival) touches
+  where
+    by-draw : (drawn : Bool)
+        → (deliveryRefusal settings given arrival ≡ noRefusal → drawn ≡ false)
+        → (drawn && isZero (deliveryRefusal settings given arrival)) ≡ false
+    by-draw true touch =
+        ne-eqb (deliveryRefusal settings given arrival) 0
+        (λ none. false≢true (sym (touch none)))
+    by-draw false touch = refl
+
+-- ---- Refused, or a touch
+
+pub left-says : {settings : Settings} {arrival : Arrival} (given left : Held)
     (answer : DeliveryAnswer)
     → answer .refusal ≡ deliveryRefusal settings given arrival
-    → (answer .refusal ≡ noRefusal → ⊥)
+    → (answer .refusal ≡ noRefusal → isDraw arrival ≡ false)
     → answer .carried ≡ 0
     → answer .stopped ≡ noRefusal
     → left ≡ given
     → DeliverySays settings arrival given left answer
-refused-says {settings} {arrival} given left answer refusal-is refused nothing none same =
-    let number = deliveryRefusal settings given arrival in
-    let not-accepted : number ≡ noRefusal → ⊥ = λ accepts. refused (refusal-is ∙ accepts) in
+left-says {settings} {arrival} given left answer refusal-is touches nothing none same =
+    let test = not-taken settings given arrival (λ accepts. touches (refusal-is ∙ accepts)) in
     record {
       refusal = refusal-is;
-      carried = nothing ∙ sym (refused-choice number _ _ not-accepted);
-      stopped = none ∙ sym (refused-choice number _ _ not-accepted);
-      held = same ∙ sym (refused-choice number _ _ not-accepted);
-      delivered = λ accepts. absurd (refused accepts);
+      carried = nothing ∙ sym (left-choice _ _ _ test);
+      stopped = none ∙ sym (left-choice _ _ _ test);
+      held = same ∙ sym (left-choice _ _ _ test);
+      delivered = λ accepts is-draw. absurd (false≢true (sym (touches accepts) ∙ is-draw));
       by-rules = by-rules-of arrival given (answer .refusal) refusal-is;
     }
 
@@ -79,6 +113,7 @@ module _ {settings : Settings} {arrival : Arrival} {sites : Sites}
     {first ended : Progress}
     (ok : Passed settings (heldBy sites coordinator siteBefore before))
     (begin-says : BeginDeliverySays settings arrival sites coordinator siteBefore siteAfter first)
+    (is-draw : isDraw arrival ≡ true)
     (accepts : first .refusal ≡ noRefusal)
     (deliver-says : DeliverByCallsSays settings siteAfter before after first ended) where
   abbrev given : Held
@@ -117,7 +152,7 @@ module _ {settings : Settings} {arrival : Arrival} {sites : Sites}
           here
           (at-end (ok .passes)
           (begins (ok .passes) state rest arrival (begun .words) (begun .part) (begun .observed)
-          (begun .says) (begun .accepts))
+          (begun .says) is-draw (begun .accepts))
           came (begin-says .left-is) (deliver-says .none-due))
 
       ends : Ended settings network arrival (state .messages) (came .after) (ended .refusal)
@@ -130,7 +165,7 @@ module _ {settings : Settings} {arrival : Arrival} {sites : Sites}
       left-is =
           sym (came .stands .held-is)
           ∙ held-after (ok .passes) state rest arrival (begun .words) (begun .part)
-          (begun .observed) (begun .says) (begun .accepts) (came .taken) (came .after)
+          (begun .observed) (begun .says) is-draw (begun .accepts) (came .taken) (came .after)
           (came .deliveries)
           ∙ (λ i. networkWritten settings (held-is i) (ends .network-is i)
           (held-is i .sites .messages))
@@ -151,7 +186,7 @@ module _ {settings : Settings} {arrival : Arrival} {sites : Sites}
         reachable-then =
             stepped state then reachable
             (arrives (single arrival (begun .words) (begun .part) (begun .observed) at-rest
-            (begun .says) (begun .accepts)))
+            is-draw (begun .says) (begun .accepts)))
 
         there : Reachable settings (came .after)
         there =
@@ -164,7 +199,7 @@ module _ {settings : Settings} {arrival : Arrival} {sites : Sites}
         goes-on =
             let passes = passes-of-reachable state reachable in
             let kept = kept-after (ok .passes) state rest arrival (begun .words) (begun .part)
-            (begun .observed) (begun .says) (begun .accepts) (came .taken) (came .after)
+            (begun .observed) (begun .says) is-draw (begun .accepts) (came .taken) (came .after)
             (came .deliveries) .holds in
             let rested = ends .rests completes in
             let as-rules = demands .second settings (came .after) passes there .at-rest rested in
@@ -209,26 +244,26 @@ module _ {settings : Settings} {arrival : Arrival} {sites : Sites}
   abbrev fresh : State
   fresh = record { held = given; waiting = []; accepted = []; messages = []; logged = 0 }
 
-  pub accepted-says : (answer : DeliveryAnswer)
+  pub taken-says : (answer : DeliveryAnswer)
       → answer .refusal ≡ noRefusal
       → noRefusal ≡ deliveryRefusal settings given arrival
       → answer .carried ≡ ended .carried
       → answer .stopped ≡ ended .refusal
       → DeliverySays settings arrival given left answer
-  accepted-says answer none number-is carried-same stopped-same =
-      let number = deliveryRefusal settings given arrival in
+  taken-says answer none number-is carried-same stopped-same =
+      let test = takes settings given arrival is-draw (sym number-is) in
       record {
         refusal = none ∙ number-is;
         carried =
             carried-same
             ∙ carried-is fresh refl refl
-            ∙ sym (accepted-choice number _ _ (sym number-is));
+            ∙ sym (taken-choice _ _ _ test);
         stopped =
             stopped-same
             ∙ ends fresh refl refl .stopped-is
-            ∙ sym (accepted-choice number _ _ (sym number-is));
-        held = left-is fresh refl refl ∙ sym (accepted-choice number _ _ (sym number-is));
-        delivered = λ _ state held-is nothing-waits.
+            ∙ sym (taken-choice _ _ _ test);
+        held = left-is fresh refl refl ∙ sym (taken-choice _ _ _ test);
+        delivered = λ _ _ state held-is nothing-waits.
             delivered-it state held-is nothing-waits answer stopped-same;
         by-rules = by-rules-of arrival given (answer .refusal) (none ∙ number-is);
       }

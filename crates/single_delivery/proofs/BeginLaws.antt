@@ -4,6 +4,7 @@
 --   begin-says     what the call answers and leaves, as the code names it
 -- Letter: j the site that the arrival names.
 use mathlib.Core.Path.{_≡_, sym, ap, _∙_, subst}
+use mathlib.Core.Bool.{false}
 use mathlib.Core.List.{List, _++_}
 use Prim.Native.Nat.{ℕ, _+_, _-_, _*_}
 use native.Mathlib.Omega.{arith}
@@ -16,14 +17,15 @@ use Rattle.model.specs.declared.SiteRecord.{SiteRecord}
 use Rattle.model.specs.declared.Sites.{Sites}
 use Rattle.model.specs.declared.CoordinatorRecord.{CoordinatorRecord}
 use Rattle.model.specs.Refusals.{noRefusal}
+use Rattle.model.specs.Draws.{isDraw}
 use Rattle.model.specs.SiteMemory.{siteWords}
 use Rattle.tracker_queue.specs.declared.Queue.{Queue}
 use Rattle.site_steps.specs.declared.Observed.{Observed}
-use Rattle.site.specs.Calls.{ObserveSays, observeRefusal}
+use Rattle.site.specs.Calls.{ObserveSays}
 use Rattle.history.specs.State.{Held, State, recordAt, siteStart, sitePart, withPart, withRecord, afterSiteCall, recordIn, heldBy}
 use Rattle.history.specs.Histories.{observedOut}
-use Rattle.history.proofs.Answers.{refused-choice}
-use Rattle.history.proofs.Refused.{part-same}
+use Rattle.history.proofs.Answers.{left-choice}
+use Rattle.history.proofs.Refused.{part-same, not-taken}
 use Rattle.single_delivery.specs.declared.Progress.{Progress}
 use Rattle.single_delivery.specs.Progress.{QueueSays}
 use Rattle.single_delivery.specs.Arriving.{restFrom, mostCalls, BeginDeliverySays}
@@ -67,15 +69,15 @@ module _ {settings : Settings} (memory : List ℕ) (arrival : Arrival) (sites : 
       ∙ ap (λ (tail : List ℕ). take (siteStart settings j) memory ++ (part ++ tail))
       (drop-drop rest (siteStart settings j) memory)
 
-  -- A refused call leaves the memory as it was.
-  refused-leaves : (answer .refusal ≡ noRefusal → ⊥) → memory-after ≡ memory
-  refused-leaves refused =
+  -- A refused call leaves the memory as it was, and so does a touch.
+  leaves : (answer .refusal ≡ noRefusal → isDraw arrival ≡ false) → memory-after ≡ memory
+  leaves touches =
       memory-is
       ∙ ap (withPart memory (siteStart settings j) rest)
       (says-here .memory
-      ∙ refused-choice
-      (observeRefusal settings (recordIn sites j) arrival (restFrom settings memory j)) _ _
-      (λ none. refused (says-here .refusal ∙ none)))
+      ∙ left-choice _ _ _
+      (not-taken settings (recordIn sites j) arrival (restFrom settings memory j)
+      (says-here .refusal) touches))
       ∙ part-same memory (siteStart settings j) rest
 
   module _ (sites-then : Sites) (waiting : Queue) (carried left : ℕ)
@@ -125,7 +127,7 @@ module _ {settings : Settings} (memory : List ℕ) (arrival : Arrival) (sites : 
     pub begin-says : BeginDeliverySays settings arrival sites coordinator memory memory-after begun
     begin-says = record {
       refusal = says-here .refusal;
-      refused = refused-leaves;
+      left = leaves;
       few = waits .few;
       few-carried = omega (arith, waits .few, carried-is);
       left-is = left-is;

@@ -4,12 +4,14 @@
 --   Keeping, kept-after     after so many steps
 --   held-after              all that is held: the network, written over what was there
 use mathlib.Core.Path.{_≡_, refl, ap, _∙_}
+use mathlib.Core.Bool.{true}
 use mathlib.Core.List.{List}
 use Prim.Native.Nat.{ℕ, suc}
 use Rattle.model.specs.declared.Settings.{Settings}
 use Rattle.model.specs.declared.Arrival.{Arrival}
 use Rattle.model.specs.Refusals.{noRefusal}
 use Rattle.model.specs.Settings.{settingsRefusal}
+use Rattle.model.specs.Draws.{isDraw}
 use Rattle.site_steps.specs.declared.Observed.{Observed}
 use Rattle.site.specs.Calls.{ObserveSays}
 use Rattle.history.specs.State.{State, networkOf, networkWritten, recordAt, sitePart}
@@ -25,6 +27,7 @@ module _ {settings : Settings} (passes : settingsRefusal settings ≡ noRefusal)
     (observed : Observed)
     (says : ObserveSays settings (recordAt (state .held) (arrival .site)) arrival
     (sitePart settings (state .held) (arrival .site) words) part observed)
+    (is-draw : isDraw arrival ≡ true)
     (accepts : observed .refusal ≡ noRefusal) where
   abbrev then : State
   then = afterSingle settings state arrival words part observed
@@ -38,11 +41,11 @@ module _ {settings : Settings} (passes : settingsRefusal settings ≡ noRefusal)
 
   at-first : Keeping 0 then
   at-first = record {
-    mid = begins passes state rest arrival words part observed says accepts;
+    mid = begins passes state rest arrival words part observed says is-draw accepts;
     from =
         from-single passes state (state .held)
         (from-self passes (state .held) (rest .lengths) (rest .sound .sites-sound))
-        rest arrival words part observed says accepts;
+        rest arrival words part observed says is-draw accepts;
     same-accepted = refl;
     same-count = refl;
   }

@@ -18,9 +18,10 @@ use Rattle.model.specs.Refusals.{noRefusal, unknownSite}
 use Rattle.model.specs.Limits.{mostSites}
 use Rattle.model.specs.Settings.{settingsRefusal}
 use Rattle.model.specs.SiteMemory.{siteWords}
-use Rattle.model.specs.Runs.{refusalIn}
+use Rattle.model.specs.Runs.{lineRefusalIn}
 use Rattle.model.specs.Network.{siteAt}
 use Rattle.model.specs.SoundNetwork.{DroppedWithin, Sound}
+use Rattle.model.proofs.Touches.DrawLaws.{line-by-address}
 use Rattle.model.proofs.Thresholds.RefusalLaws.{begin, pass-part, refuse-part, end}
 use Rattle.model.proofs.Soundness.ConsistentCoordinator.{CoordinatorWithin}
 use Rattle.model.proofs.Soundness.ConsistentNetwork.{passes-of}
@@ -93,7 +94,7 @@ refused-start settings held arrival refusal is refused =
 module _ (settings : Settings) (held : Held) (arrival : Arrival)
     (none : heldRefusal settings held ≡ noRefusal) where
   -- Past the start test, the rules' number.
-  by-rules : refusalIn settings (networkOf settings held) arrival
+  by-rules : lineRefusalIn settings (networkOf settings held) arrival
       ≡ deliveryRefusal settings held arrival
   by-rules = end (pass-part _ _ (begin _) refl none) refl
 
@@ -101,7 +102,9 @@ module _ (settings : Settings) (held : Held) (arrival : Arrival)
   pub refused-unknown : settings .sites ≤ arrival .site
       → unknownSite ≡ deliveryRefusal settings held arrival
   refused-unknown unknown =
-      (rw (le-leb (settings .sites) (arrival .site) unknown) refl) ∙ by-rules
+      line-by-address settings (siteAt (networkOf settings held) (arrival .site)) arrival
+      unknownSite (rw (le-leb (settings .sites) (arrival .site) unknown) refl) (omega arith)
+      ∙ by-rules
 
   -- 6, 7, 8, or accepted: what the site says is what the rules say.
   pub refused-arrival : Passed settings held

@@ -4,6 +4,7 @@
 --   mostCalls settings               one call more than any delivery has
 --   DeliveryBegun, BeginDeliveryAsks, BeginDeliverySays      the arrival at its site
 use mathlib.Core.Path.{_≡_}
+use mathlib.Core.Bool.{false}
 use mathlib.Core.List.{List, []}
 use Prim.Native.Nat.{ℕ, _+_, _-_, _*_, _≤_, _<_}
 use lib.ListN.{length, take, drop}
@@ -13,6 +14,7 @@ use Rattle.model.specs.declared.Sites.{Sites}
 use Rattle.model.specs.declared.CoordinatorRecord.{CoordinatorRecord}
 use Rattle.model.specs.Refusals.{noRefusal}
 use Rattle.model.specs.Limits.{mostSteps}
+use Rattle.model.specs.Draws.{isDraw}
 use Rattle.model.specs.SiteMemory.{siteWords}
 use Rattle.tracker_memory.specs.Contracts.{SitesFit}
 use Rattle.site_steps.specs.declared.Observed.{Observed}
@@ -64,7 +66,8 @@ pub record BeginDeliverySays
   pub refusal : begun .refusal
       ≡ observeRefusal settings (recordIn sites (arrival .site)) arrival
       (restFrom settings before (arrival .site))
-  pub refused : (begun .refusal ≡ noRefusal → ⊥) → after ≡ before
+  -- refused, or a touch
+  pub left : (begun .refusal ≡ noRefusal → isDraw arrival ≡ false) → after ≡ before
   pub few : begun .waiting .count ≤ 2
   pub few-carried : begun .carried ≤ 2
   pub left-is : begun .left ≡ mostCalls settings

@@ -3,17 +3,17 @@
 -- definition; what it does are steps of a history; and where a history left what it is given at
 -- rest, the history goes on by this arrival and comes to rest.
 --
---   deliveryRefusal ..             why the arrival is refused
+--   deliveryRefusal, deliveryTakes   why the arrival is refused, and whether it is taken
 --   meetsLimit, meetsForgotten     whether a call is refused in mid-delivery: none for records and
 --   stepsBeforePoll, stopOf        memory that arose; after how many steps, and by what number
 --   deliveryIn ..                  the network that it comes to, and the messages that went out
---   heldAfter, carriedBy, stoppedBy   what is left, and what is answered, refused or not
---   refusedBy refusal ..           the answer that refuses the arrival
+--   heldAfter, carriedBy, stoppedBy   what is left, and what is answered, taken or not
+--   leftBy refusal ..              the answer that leaves all as it was
 --   HistoryGoesOn                  a history with one arrival more
 --   ArrivalDelivered               the arrival and its delivery, as steps of a history
 --   DeliverySays                   the promise
 use mathlib.Core.Path.{_≡_}
-use mathlib.Core.Bool.{Bool, _&&_, _||_}
+use mathlib.Core.Bool.{Bool, true, _&&_, _||_}
 use mathlib.Core.List.{List, [], _∷_, _++_}
 use Prim.Native.Nat.{ℕ, _+_, _*_}
 use lib.Dec.{ltb}
@@ -25,10 +25,11 @@ use Rattle.model.specs.declared.CoordinatorRecord.{CoordinatorRecord}
 use Rattle.model.specs.Choice.{if_then_else_, isZero}
 use Rattle.model.specs.Refusals.{when, _orElse_, noRefusal, memoryInconsistent}
 use Rattle.model.specs.Limits.{coordinatorLimit}
+use Rattle.model.specs.Draws.{isDraw}
 use Rattle.model.specs.Site.{reportsItem, reportsCount, observed}
 use Rattle.model.specs.Coordinator.{closesRound}
 use Rattle.model.specs.Network.{Network, Delivered, siteAt, afterArrival}
-use Rattle.model.specs.Runs.{refusalIn, runOf}
+use Rattle.model.specs.Runs.{lineRefusalIn, runOf}
 use Rattle.model.specs.SoundNetwork.{estimateOf}
 use Rattle.model.specs.Claims.{oneIf}
 use Rattle.model.specs.DeliveryClaims.{deliveryOf, deliverySteps, outcome}
@@ -42,10 +43,16 @@ use Rattle.single_delivery.specs.declared.DeliveryAnswer.{DeliveryAnswer
 -- ---- Refusals
 
 -- "Order: 1, 2, 3; then 4, 11; for a draw 5, 6, 7, 8": 1 to 4 and 11 of the whole network at rest,
--- as the batch call tests it when it starts.
+-- as the batch call tests it when it starts. A touch is not tested for 8.
 abbrev pub deliveryRefusal : Settings → Held → Arrival → ℕ
 deliveryRefusal settings held arrival =
-    heldRefusal settings held orElse refusalIn settings (networkOf settings held) arrival
+    heldRefusal settings held orElse lineRefusalIn settings (networkOf settings held) arrival
+
+-- A draw that is not refused is taken. All else is "accepted with no change and no message", or
+-- refused.
+unfoldable pub deliveryTakes : Settings → Held → Arrival → Bool
+deliveryTakes settings held arrival =
+    isDraw arrival && isZero (deliveryRefusal settings held arrival)
 
 -- ---- What the delivery comes to
 
@@ -97,12 +104,12 @@ deliveryIn settings network arrival =
     then stoppedAfter (stepsBeforePoll settings network arrival) settings network arrival
     else afterArrival settings network arrival
 
--- Refused, all is "left as it was". Otherwise it is the network that the delivery comes to, written
--- over what was given: unused counters, records k to 31 and what lies past the network stay, and so
--- does the network's own count of messages, "to which the many-draw call alone adds".
+-- Not taken, all is "left as it was". Otherwise it is the network that the delivery comes to,
+-- written over what was given: unused counters, records k to 31 and what lies past the network stay,
+-- and so does the network's own count of messages, "to which the many-draw call alone adds".
 abbrev pub heldAfter : Settings → Held → Arrival → Held
 heldAfter settings given arrival =
-    if isZero (deliveryRefusal settings given arrival)
+    if deliveryTakes settings given arrival
     then networkWritten settings given
     (deliveryIn settings (networkOf settings given) arrival .network) (given .sites .messages)
     else given
@@ -110,21 +117,21 @@ heldAfter settings given arrival =
 -- Each message that went out, once.
 abbrev pub carriedBy : Settings → Held → Arrival → ℕ
 carriedBy settings given arrival =
-    if isZero (deliveryRefusal settings given arrival)
+    if deliveryTakes settings given arrival
     then length (deliveryIn settings (networkOf settings given) arrival .messages)
     else 0
 
 abbrev pub stoppedBy : Settings → Held → Arrival → ℕ
 stoppedBy settings given arrival =
-    if isZero (deliveryRefusal settings given arrival)
+    if deliveryTakes settings given arrival
     then stopOf settings (networkOf settings given) arrival
     else noRefusal
 
--- ---- Refused
+-- ---- Refused, or a touch
 
 -- Nothing went out, and the records are as they were.
-abbrev pub refusedBy : ℕ → Sites → CoordinatorRecord → DeliveryAnswer
-refusedBy refusal sites coordinator = record {
+abbrev pub leftBy : ℕ → Sites → CoordinatorRecord → DeliveryAnswer
+leftBy refusal sites coordinator = record {
   refusal = refusal;
   carried = 0;
   stopped = noRefusal;
@@ -194,15 +201,17 @@ pub record DeliverySays
   pub stopped : answer .stopped ≡ stoppedBy settings given arrival
   -- both records and both memories
   pub held : left ≡ heldAfter settings given arrival
-  -- accepted, it is the arrival's call and then calls that deliver
+  -- a draw that is accepted is the arrival's call and then calls that deliver
   pub delivered : answer .refusal ≡ noRefusal
+      → isDraw arrival ≡ true
       → (before : State)
       → before .held ≡ given
       → before .waiting ≡ []
       → ArrivalDelivered settings before arrival answer left
-  -- in a history at rest an arrival is refused by the rules' number alone: 5, 6, 7, 8
+  -- in a history at rest an arrival is refused by the rules' number alone: 5, 6, 7, and a draw
+  -- also by 8
   pub by-rules : (before : State)
       → before .held ≡ given
       → AtRest before
       → Reachable settings before
-      → answer .refusal ≡ refusalIn settings (networkOf settings given) arrival
+      → answer .refusal ≡ lineRefusalIn settings (networkOf settings given) arrival

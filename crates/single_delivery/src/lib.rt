@@ -12,7 +12,7 @@ ghost use Rattle.model.specs.Coordinator.{isAnnouncing};
 ghost use Rattle.model.specs.Held.{heldBy};
 ghost use Rattle.single_delivery.specs.Progress.{isDue};
 ghost use Rattle.single_delivery.specs.Steps.{DeliverByCallsAsks, DeliverByCallsSays};
-ghost use Rattle.single_delivery.specs.Delivery.{refusedBy, DeliverySays};
+ghost use Rattle.single_delivery.specs.Delivery.{leftBy, DeliverySays};
 use crate::arrivals::begin;
 use crate::calls::take_step;
 use model::Arrival;
@@ -41,8 +41,9 @@ pub struct DeliveryAnswer {
 }
 
 // One arrival with full delivery. Refused, it changes nothing: 1, 2, 3; then 4 and 11 of the whole
-// network, coordinator and all; then 5, 6, 7, 8. Accepted at records and memory that a history left
-// at rest, it leaves them at rest, one arrival later.
+// network, coordinator and all; then 5, 6, 7, 8. Nor does a touch, which is not tested for 8.
+// A draw that is accepted at records and memory that a history left at rest leaves them at rest,
+// one draw later.
 pub fn deliver_arrival(
     settings: Settings,
     sites: Sites,
@@ -65,15 +66,19 @@ pub fn deliver_arrival(
         coordinator_memory,
     );
     if refusal != NO_REFUSAL {
-        return refuse(refusal, sites, coordinator);
+        return leave(refusal, sites, coordinator);
     }
     // 5, since the site's record and memory are looked up by its number; then 6, 7, 8.
     if settings.sites <= arrival.site {
-        return refuse(UNKNOWN_SITE, sites, coordinator);
+        return leave(UNKNOWN_SITE, sites, coordinator);
     }
     let begun = begin(settings, sites, coordinator, arrival, site_memory);
     if begun.refusal != NO_REFUSAL {
-        return refuse(begun.refusal, sites, coordinator);
+        return leave(begun.refusal, sites, coordinator);
+    }
+    // A touch: its site has left all as it was.
+    if !site_refusals::is_draw(arrival) {
+        return leave(NO_REFUSAL, sites, coordinator);
     }
     // Every message handed over, answers included, and kind 7 asked for until all is at rest.
     let ended = deliver(settings, begun, site_memory, coordinator_memory);
@@ -88,9 +93,9 @@ pub fn deliver_arrival(
     }
 }
 
-// The arrival is refused: nothing went out, and the records are as they were.
-fn refuse(refusal: u32, sites: Sites, coordinator: CoordinatorRecord) -> DeliveryAnswer
-    ensures { λ r. ⌜ r ≡ refusedBy refusal sites coordinator ⌝ }
+// The arrival is refused, or a touch: nothing went out, and the records are as they were.
+fn leave(refusal: u32, sites: Sites, coordinator: CoordinatorRecord) -> DeliveryAnswer
+    ensures { λ r. ⌜ r ≡ leftBy refusal sites coordinator ⌝ }
 {
     DeliveryAnswer {
         refusal: refusal,

@@ -1,10 +1,12 @@
 -- What the calls on sites answer when they are refused and when they are not: the contracts of
 -- Calls from the refusal and, where there is none, from the step's promise.
 --
---   observe-asks, observe-accepted, observe-refused     an arrival
+--   observe-takes, touch-left, refused-left     whether an arrival is taken
+--   observe-asks, observe-taken, observe-touch, observe-refused     an arrival
 --   receive-asks, receive-accepted, receive-refused     a message
 use Prim.Native.Nat.{ℕ}
-use mathlib.Core.Path.{_≡_, sym, _∙_}
+use mathlib.Core.Path.{_≡_, refl, sym, _∙_, subst⁻¹}
+use mathlib.Core.Bool.{Bool, true, false, _&&_}
 use mathlib.Core.List.{List}
 use native.Mathlib.Omega.{arith}
 use lib.Dec.{leb}
@@ -13,16 +15,19 @@ use Rattle.model.specs.declared.Settings.{Settings}
 use Rattle.model.specs.declared.Arrival.{Arrival}
 use Rattle.model.specs.declared.Message.{Message}
 use Rattle.model.specs.declared.SiteRecord.{SiteRecord}
+use Rattle.model.specs.Choice.{isZero}
 use Rattle.model.specs.Refusals.{noRefusal}
+use Rattle.model.specs.Draws.{isDraw}
 use Rattle.model.specs.Messages.{noMessage}
 use Rattle.model.specs.SiteMemory.{siteIn, siteMemoryRefusal}
 use Rattle.model.proofs.Thresholds.RefusalLaws.{both-accepted, passed}
+use Rattle.model.proofs.Touches.DrawLaws.{line-draw}
 use Rattle.site_memory.proofs.ReadyLaws.{step-ready}
 use Rattle.site_steps.specs.declared.Observed.{Observed}
 use Rattle.site_steps.specs.declared.Replied.{Replied}
 use Rattle.site_steps.specs.Steps.{ObserveAsks, ObserveStepSays, ReceiveAsks, ReceiveStepSays}
 use Rattle.site_steps.proofs.ReceiveLaws.{message-due}
-use Rattle.site.specs.Calls.{observeRefusal, ObserveSays, receiveRefusal, SiteReceiveSays}
+use Rattle.site.specs.Calls.{observeRefusal, observeTakes, unchangedBy, ObserveSays, receiveRefusal, SiteReceiveSays}
 
 -- ---- An arrival
 
@@ -31,21 +36,55 @@ module _
     (numbers : SiteRecord)
     (arrival : Arrival)
     (before : List ℕ) where
-  pub observe-asks : observeRefusal settings numbers arrival before ≡ noRefusal
+  -- ---- Whether it is taken
+
+  pub observe-takes : isDraw arrival ≡ true
+      → observeRefusal settings numbers arrival before ≡ noRefusal
+      → observeTakes settings numbers arrival before ≡ true
+  unfolding observeTakes
+  observe-takes is-draw none = both (isDraw arrival) is-draw
+    where
+      both : (drawn : Bool) → drawn ≡ true
+          → (drawn && isZero (observeRefusal settings numbers arrival before)) ≡ true
+      both true is = eq-eqb (observeRefusal settings numbers arrival before) 0 none
+      both false is = is
+
+  pub touch-left : isDraw arrival ≡ false
+      → observeTakes settings numbers arrival before ≡ false
+  unfolding observeTakes
+  touch-left no-draw = rw no-draw
+
+  pub refused-left : (observeRefusal settings numbers arrival before ≡ noRefusal → ⊥)
+      → observeTakes settings numbers arrival before ≡ false
+  unfolding observeTakes
+  refused-left refused = by-draw (isDraw arrival)
+    where
+      by-draw : (drawn : Bool)
+          → (drawn && isZero (observeRefusal settings numbers arrival before)) ≡ false
+      by-draw true = ne-eqb (observeRefusal settings numbers arrival before) 0 refused
+      by-draw false = refl
+
+  -- ---- The answers
+
+  pub observe-asks : isDraw arrival ≡ true
+      → observeRefusal settings numbers arrival before ≡ noRefusal
       → ObserveAsks settings numbers arrival before
-  observe-asks none =
+  observe-asks is-draw none =
       let parts = both-accepted (siteMemoryRefusal settings numbers before) _ none in
       record {
         ready = step-ready settings numbers before (parts .first-accepted);
-        not-refused = parts .later-accepted;
+        not-refused =
+            sym (line-draw settings (siteIn settings numbers before) arrival is-draw)
+            ∙ parts .later-accepted;
       }
 
-  pub observe-accepted : (after : List ℕ) (answer : Observed)
+  pub observe-taken : (after : List ℕ) (answer : Observed)
+      → isDraw arrival ≡ true
       → observeRefusal settings numbers arrival before ≡ noRefusal
       → ObserveStepSays settings numbers arrival before after answer
       → ObserveSays settings numbers arrival before after answer
-  observe-accepted after answer none says =
-      let test = eq-eqb (observeRefusal settings numbers arrival before) 0 none in
+  observe-taken after answer is-draw none says =
+      let test = observe-takes is-draw none in
       record {
         refusal = says .gathered .refusal ∙ sym none;
         site = rw test (says .gathered .site);
@@ -55,23 +94,37 @@ module _
         memory = rw test (says .memory);
       }
 
-  pub observe-refused : (refusal : ℕ) (none : Message)
+  -- Nothing is changed where the arrival is not taken.
+  observe-left : (refusal : ℕ) (answer : Observed)
+      → observeTakes settings numbers arrival before ≡ false
       → refusal ≡ observeRefusal settings numbers arrival before
-      → (refusal ≡ noRefusal → ⊥)
-      → none ≡ noMessage
-      → ObserveSays settings numbers arrival before before
-      (record { refusal = refusal; site = numbers; count = 0; first = none; second = none })
-  observe-refused refusal none same refused absent =
-      let test = ne-eqb (observeRefusal settings numbers arrival before) 0
-      (λ zero-is. refused (same ∙ zero-is)) in
-      record {
+      → answer ≡ unchangedBy refusal numbers
+      → ObserveSays settings numbers arrival before before answer
+  observe-left refusal answer test same answer-is =
+      subst⁻¹ (ObserveSays settings numbers arrival before before) answer-is (record {
         refusal = same;
         site = rw test;
         count = rw test;
-        first = rw test absent;
-        second = rw test absent;
+        first = rw test;
+        second = rw test;
         memory = rw test;
-      }
+      })
+
+  pub observe-refused : (refusal : ℕ) (answer : Observed)
+      → refusal ≡ observeRefusal settings numbers arrival before
+      → (refusal ≡ noRefusal → ⊥)
+      → answer ≡ unchangedBy refusal numbers
+      → ObserveSays settings numbers arrival before before answer
+  observe-refused refusal answer same refused answer-is =
+      observe-left refusal answer (refused-left (λ none. refused (same ∙ none))) same answer-is
+
+  pub observe-touch : (refusal : ℕ) (answer : Observed)
+      → refusal ≡ observeRefusal settings numbers arrival before
+      → isDraw arrival ≡ false
+      → answer ≡ unchangedBy refusal numbers
+      → ObserveSays settings numbers arrival before before answer
+  observe-touch refusal answer same no-draw answer-is =
+      observe-left refusal answer (touch-left no-draw) same answer-is
 
 -- ---- A message
 

@@ -2,9 +2,10 @@
 use mathlib.Core.Path.{refl}
 use Rattle.model.specs.Limits.{valueCount}
 use Rattle.site.specs.Edges.{SiteCallEdges}
+use Rattle.site.specs.Calls.{observeTakes}
 
 pub site-call-edges : SiteCallEdges
-unfolding valueCount
+unfolding valueCount observeTakes
 site-call-edges = record {
   start-enough = refl;
   start-short = refl;
@@ -14,6 +15,13 @@ site-call-edges = record {
   draw-unknown-site = refl;
   draw-four-before-eleven = refl;
   draw-eleven-before-five = refl;
+  touch-accepted = refl;
+  touch-unknown-site = refl;
+  touch-four-before-eleven = refl;
+  touch-eleven-before-five = refl;
+  touch-not-taken = refl;
+  class-1-taken = refl;
+  refused-not-taken = refl;
   message-accepted = refl;
   message-own-number = refl;
   message-four-before-eleven = refl;

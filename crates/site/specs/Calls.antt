@@ -4,9 +4,10 @@
 --   ObserveSays     an arrival at a site
 --   SiteReceiveSays     a message at a site
 --
--- A refused call leaves record and memory as they were and hands out no message; a start hands back
--- fresh records all the same.
+-- A refused call leaves record and memory as they were and hands out no message; so does an
+-- accepted touch. A start hands back fresh records all the same.
 use mathlib.Core.Path.{_≡_}
+use mathlib.Core.Bool.{Bool, _&&_}
 use mathlib.Core.List.{List, []}
 use Prim.Native.Nat.{ℕ}
 use lib.Dec.{leb, ltb}
@@ -17,9 +18,10 @@ use Rattle.model.specs.declared.Message.{Message}
 use Rattle.model.specs.declared.SiteRecord.{SiteRecord}
 use Rattle.model.specs.Choice.{if_then_else_, isZero}
 use Rattle.model.specs.Refusals.{when, _orElse_, noRefusal, memoryTooShort, unknownSite}
+use Rattle.model.specs.Draws.{isDraw}
 use Rattle.model.specs.Messages.{noMessage}
 use Rattle.model.specs.Settings.{settingsRefusal}
-use Rattle.model.specs.Site.{SiteStep, arrivalRefusal, observed, siteMessageRefusal, siteReceives}
+use Rattle.model.specs.Site.{SiteStep, lineRefusal, observed, siteMessageRefusal, siteReceives}
 use Rattle.model.specs.SiteMemory.{siteIn, siteRecord, siteMemory, siteMemoryRefusal, overwrite}
 use Rattle.model.specs.NetworkMemory.{sitesWords, freshSites}
 use Rattle.site_steps.specs.declared.Observed.{Observed}
@@ -50,13 +52,29 @@ pub record StartSitesSays
 
 -- ---- An arrival at a site
 
--- 1, 2, 3, 4, 11; then 5, 6, 7, 8.
+-- 1, 2, 3, 4, 11; then 5, 6, 7, 8; 8 not of a touch.
 abbrev pub observeRefusal : Settings → SiteRecord → Arrival → List ℕ → ℕ
 observeRefusal settings numbers arrival memory =
     siteMemoryRefusal settings numbers memory
-    orElse arrivalRefusal settings (siteIn settings numbers memory) arrival
+    orElse lineRefusal settings (siteIn settings numbers memory) arrival
 
--- The model's step; a refused arrival is no step.
+-- A draw that is not refused is taken. All else leaves the site as it was: request N2, a touch is
+-- "accepted with no change and no message".
+unfoldable pub observeTakes : Settings → SiteRecord → Arrival → List ℕ → Bool
+observeTakes settings numbers arrival memory =
+    isDraw arrival && isZero (observeRefusal settings numbers arrival memory)
+
+-- The answer that leaves a site as it was.
+abbrev pub unchangedBy : ℕ → SiteRecord → Observed
+unchangedBy refusal numbers = record {
+  refusal = refusal;
+  site = numbers;
+  count = 0;
+  first = noMessage;
+  second = noMessage;
+}
+
+-- The model's step of a draw that is taken.
 abbrev pub observedStep : Settings → SiteRecord → Arrival → List ℕ → SiteStep
 observedStep settings numbers arrival memory =
     observed settings (siteIn settings numbers memory) arrival
@@ -64,7 +82,7 @@ observedStep settings numbers arrival memory =
 -- The messages that go out.
 abbrev pub observedMessages : Settings → SiteRecord → Arrival → List ℕ → List Message
 observedMessages settings numbers arrival memory =
-    if isZero (observeRefusal settings numbers arrival memory)
+    if observeTakes settings numbers arrival memory
     then observedStep settings numbers arrival memory .messages
     else []
 
@@ -76,14 +94,14 @@ pub record ObserveSays
     (answer : Observed) : Type 0 where
   pub refusal : answer .refusal ≡ observeRefusal settings numbers arrival before
   pub site : answer .site
-      ≡ (if isZero (observeRefusal settings numbers arrival before)
+      ≡ (if observeTakes settings numbers arrival before
       then siteRecord (observedStep settings numbers arrival before .site)
       else numbers)
   pub count : answer .count ≡ length (observedMessages settings numbers arrival before)
   pub first : answer .first ≡ getD (observedMessages settings numbers arrival before) 0 noMessage
   pub second : answer .second ≡ getD (observedMessages settings numbers arrival before) 1 noMessage
   pub memory : after
-      ≡ (if isZero (observeRefusal settings numbers arrival before)
+      ≡ (if observeTakes settings numbers arrival before
       then siteMemory settings (observedStep settings numbers arrival before .site) before
       else before)
 

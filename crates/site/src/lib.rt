@@ -8,7 +8,7 @@ ghost use lib.ListN.{length, replicate};
 ghost use Rattle.model.specs.Lent.{before, after};
 ghost use Rattle.model.specs.SiteMemory.{overwrite};
 ghost use Rattle.model.specs.NetworkMemory.{freshSites};
-ghost use Rattle.site.specs.Calls.{observeRefusal, receiveRefusal, StartSitesSays, ObserveSays, SiteReceiveSays};
+ghost use Rattle.site.specs.Calls.{observeRefusal, unchangedBy, receiveRefusal, StartSitesSays, ObserveSays, SiteReceiveSays};
 use messages::no_message;
 use model::Arrival;
 use model::MEMORY_TOO_SHORT;
@@ -29,7 +29,7 @@ pub struct StartedSites {
     pub sites: Sites,
 }
 
-// Why an arrival is refused: 1, 2, 3, 4, 11; then 5, 6, 7, 8.
+// Why an arrival is refused: 1, 2, 3, 4, 11; then 5, 6, 7; then 8, unless it is a touch.
 fn observe_refusal(settings: Settings, site: SiteRecord, arrival: Arrival, memory: &[Word]) -> u32
     ensures { λ r. ⌜ r ≡ observeRefusal settings site arrival (before memory) ⌝ }
 {
@@ -37,7 +37,21 @@ fn observe_refusal(settings: Settings, site: SiteRecord, arrival: Arrival, memor
     if refusal != NO_REFUSAL {
         return refusal;
     }
-    site_refusals::arrival_refusal(settings, site, arrival)
+    site_refusals::line_refusal(settings, site, arrival)
+}
+
+// The answer of an arrival that changes nothing: refused with this number, or a touch.
+fn unchanged(refusal: u32, site: SiteRecord) -> Observed
+    ensures { λ r. ⌜ r ≡ unchangedBy refusal site ⌝ }
+{
+    let none = no_message();
+    Observed {
+        refusal: refusal,
+        site: site,
+        count: 0,
+        first: none,
+        second: none,
+    }
 }
 
 // An arrival at a site, with its messages. The memory is the site's own, and may be longer.
@@ -51,16 +65,12 @@ pub fn observe(
 {
     let refusal = observe_refusal(settings, site, arrival, memory);
     if refusal != NO_REFUSAL {
-        let none = no_message();
-        return Observed {
-            refusal: refusal,
-            site: site,
-            count: 0,
-            first: none,
-            second: none,
-        };
+        return unchanged(refusal, site);
     }
-    site_steps::observe_step(settings, site, arrival, memory)
+    if site_refusals::is_draw(arrival) {
+        return site_steps::observe_step(settings, site, arrival, memory);
+    }
+    unchanged(refusal, site)
 }
 
 // Why a message is refused: 1, 2, 3, 4, 11; 5 for the site's own number; then 5, 9, 7, 10.

@@ -5,12 +5,14 @@ ghost use mathlib.Core.Path.{_≡_};
 ghost use mathlib.Core.Bool.{not, _&&_};
 ghost use lib.Dec.{ltb};
 ghost use Rattle.model.specs.Limits.{topValue};
+ghost use Rattle.model.specs.Draws.{isDraw};
 ghost use Rattle.model.specs.Messages.{isProbe};
-ghost use Rattle.model.specs.Site.{addressRefusal, roomRefusal, arrivalRefusal, dueAtSite, wrongAtSite, siteDueRefusal, siteMessageRefusal};
+ghost use Rattle.model.specs.Site.{addressRefusal, roomRefusal, lineRefusal, dueAtSite, wrongAtSite, siteDueRefusal, siteMessageRefusal};
 ghost use Rattle.site_refusals.specs.Bare.{bareSite};
 use model::AMOUNT_NOT_DUE;
 use model::ANNOUNCEMENT;
 use model::Arrival;
+use model::LEAST_DRAWN;
 use model::MESSAGE_NOT_DUE;
 use model::Message;
 use model::NO_REFUSAL;
@@ -51,15 +53,25 @@ fn room_refusal(site: SiteRecord) -> u32
     NO_REFUSAL
 }
 
-// Why an arrival is refused at a site that is consistent: 5, 6, 7; then 8.
-pub fn arrival_refusal(settings: Settings, site: SiteRecord, arrival: Arrival) -> u32
-    ensures { λ r. ⌜ r ≡ arrivalRefusal settings (bareSite site) arrival ⌝ }
+// Whether an arrival is a draw; if not, it is a touch.
+pub fn is_draw(arrival: Arrival) -> bool
+    ensures { λ r. ⌜ r ≡ isDraw arrival ⌝ }
+{
+    LEAST_DRAWN <= arrival.value
+}
+
+// Why an arrival is refused at a site that is consistent: 5, 6, 7; then 8, unless it is a touch.
+pub fn line_refusal(settings: Settings, site: SiteRecord, arrival: Arrival) -> u32
+    ensures { λ r. ⌜ r ≡ lineRefusal settings (bareSite site) arrival ⌝ }
 {
     let refusal = address_refusal(settings, arrival);
     if refusal != NO_REFUSAL {
         return refusal;
     }
-    room_refusal(site)
+    if is_draw(arrival) {
+        return room_refusal(site);
+    }
+    NO_REFUSAL
 }
 
 // Whether a message is not due at a site: of another kind, or with another site's number.

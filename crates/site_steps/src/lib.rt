@@ -171,9 +171,9 @@ fn store_arrival(
     }
 }
 
-// An arrival at a site: stored, and then the messages that go out. Internal: what it requires is
-// decided by `site_memory::site_memory_refusal` and `site_refusals::arrival_refusal`, or by the
-// tests of the batch call.
+// A draw at a site: stored, and then the messages that go out. Internal: what it requires is
+// decided by `site_memory::site_memory_refusal`, `site_refusals::line_refusal` and
+// `site_refusals::is_draw`, or by the tests of the batch call.
 pub fn observe_step(
     settings: Settings,
     site: SiteRecord,

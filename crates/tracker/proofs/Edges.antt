@@ -15,6 +15,11 @@ batch-call-edges = record {
   counted = refl;
   stopped = refl;
   stopped-accepted = refl;
+  touches = refl;
+  touches-accepted = refl;
+  touches-unlogged = refl;
+  between = refl;
+  between-accepted = refl;
   four-first = refl;
   none-accepted = refl;
 }

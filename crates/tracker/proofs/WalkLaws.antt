@@ -10,7 +10,7 @@
 use mathlib.Core.Path.{_≡_, refl, sym, ap, _∙_, subst⁻¹}
 use mathlib.Core.Bool.{Bool, true, false}
 use mathlib.Core.List.{List, [], _∷_, _++_, append-nil}
-use Prim.Native.Nat.{ℕ, _+_}
+use Prim.Native.Nat.{ℕ, _+_, _≤_, _<_}
 use native.Mathlib.Omega.{arith}
 use native.Mathlib.Decide.{ℕ-discrete}
 use lib.ListN.{length}
@@ -29,7 +29,7 @@ use Rattle.tracker_delivery.specs.Holding.{WithLog}
 use Rattle.tracker_memory.proofs.SoundLaws.{Passing, passing}
 use Rattle.tracker_steps.specs.declared.BatchAnswer.{BatchAnswer}
 use Rattle.tracker.specs.Batch.{BatchCall, BatchHeld, batchHeld, startRefusal, batchIn, BatchSays}
-use Rattle.tracker_steps.specs.Steps.{opened, OpenBatchSays, oneRefusal, batchOne, BatchHolds, BatchReady, OneAsks, OneSays}
+use Rattle.tracker_steps.specs.Steps.{opened, OpenBatchSays, runLimit, oneRefusal, batchOne, BatchHolds, BatchReady, OneAsks, OneSays}
 use Rattle.tracker_steps.proofs.BatchLaws.{ready-next}
 
 -- ---- The batch with the arrivals still to come
@@ -71,6 +71,8 @@ pub record Goes (call : BatchCall) (rest : List Arrival) (now : BatchHeld) : Typ
   pub batch : Batch
   pub holds : BatchHolds (call .settings) (givenOf call) batch now
   pub ready : batch .refusal ≡ noRefusal → BatchReady (call .settings) (givenOf call) batch
+  -- no more are accepted than were there
+  pub accepted-few : batch .accepted + length rest ≤ length (call .arrivals)
   pub comes-to : batchRest (call .settings) (logRoom (call .log)) batch rest ≡ batchIn call
 
 pub record Refused (call : BatchCall) (now : BatchHeld) : Type 0 where
@@ -129,7 +131,6 @@ module _ (call : BatchCall) (none : startRefusal call ≡ noRefusal) where
     };
     sound = passes .sound;
     bounded = passes .bounded;
-    accepted-within = omega arith;
     messages-within = omega arith;
   }
 
@@ -146,6 +147,7 @@ walked-start call = by-refusal (ℕ-discrete (startRefusal call) 0)
           BatchHolds (call .settings) (givenOf call) (freshBatch (network call none))
           (openedIn call n)) none (holds-first call none);
       ready = λ _. ready-first call none;
+      accepted-few = omega arith;
       comes-to = refl;
     })
     by-refusal (no some) = refused (record { start-refused = some; now-is = refl })
@@ -160,24 +162,26 @@ walked-open call answer siteMemory coordinatorMemory says =
 
 -- ---- Arrival by arrival
 
-module _ {call : BatchCall} {now : BatchHeld} where
+module _ {call : BatchCall} {now : BatchHeld} (in-run : length (call .arrivals) < runLimit) where
   -- A call that was refused when it started has that refusal.
   not-refused : Refused call now → now .refusal ≡ noRefusal → ⊥
   not-refused failed none =
       failed .start-refused
       (sym (ap (λ (n : BatchHeld). n .refusal) (failed .now-is)) ∙ none)
 
-  abbrev asks-of : {rest : List Arrival} (on : Goes call rest now)
+  abbrev asks-of : {arrival : Arrival} {rest : List Arrival} (on : Goes call (arrival ∷ rest) now)
       → now .refusal ≡ noRefusal
       → OneAsks (call .settings) now
   asks-of on none = record {
     given = givenOf call;
     batch = on .batch;
     ready = on .ready (sym (on .holds .refusal) ∙ none);
+    accepted-within = omega (arith, on .accepted-few, in-run);
     holds = on .holds;
   }
 
-  pub walked-asks : {rest : List Arrival} → Walked call rest now
+  pub walked-asks : {arrival : Arrival} {rest : List Arrival}
+      → Walked call (arrival ∷ rest) now
       → now .refusal ≡ noRefusal
       → OneAsks (call .settings) now
   walked-asks (refused failed) none = absurd (not-refused failed none)
@@ -200,10 +204,25 @@ module _ {call : BatchCall} {now : BatchHeld} where
         ready = λ none-then.
             ready-next u arrival
             (none-of-next (call .settings) room (on .batch) arrival none-then);
+        accepted-few =
+            omega (
+              arith,
+              one-more (call .settings) room (on .batch) arrival,
+              on .accepted-few,
+            );
         comes-to =
             sym (batchRest-on (call .settings) room (on .batch) arrival rest was) ∙ on .comes-to;
       })
     where
+      one-more : (settings : Settings) (room : ℕ) (batch : Batch) (x : Arrival)
+          → batchOne settings room batch x .accepted ≤ batch .accepted + 1
+      one-more settings room batch x = by-test (isZero (oneRefusal settings room batch x)) refl
+        where
+          by-test : (none : Bool) → isZero (oneRefusal settings room batch x) ≡ none
+              → batchOne settings room batch x .accepted ≤ batch .accepted + 1
+          by-test true none = rw none (omega arith)
+          by-test false some = rw some (omega arith)
+
       -- A batch that goes on after an arrival has accepted it.
       none-of-next : (settings : Settings) (room : ℕ) (batch : Batch) (x : Arrival)
           → batchOne settings room batch x .refusal ≡ noRefusal

@@ -1,16 +1,15 @@
 -- The batch call at the edge: what it hands back where a log is too short or a draw is refused, and
 -- where it is refused when it starts. (What it is made of stands in crate `model`'s specs/Edges.)
 use mathlib.Core.Path.{_≡_}
-use mathlib.Core.List.{List}
+use mathlib.Core.List.{List, [], _∷_}
 use Prim.Native.Nat.{ℕ}
-use lib.ListN.{replicate, length}
+use lib.ListN.{replicate}
 use Rattle.model.specs.declared.Arrival.{Arrival}
-use Rattle.model.specs.declared.Phase.the-variants.{Announcing}
-use Rattle.model.specs.Settings.{settingsWith}
 use Rattle.model.specs.NetworkMemory.{freshSites}
 use Rattle.model.specs.Held.{heldBy}
-use Rattle.model.specs.Instances.{settingsA, draws}
-use Rattle.model.specs.Edges.Inputs.{coordinatorNumbers, freshNumbers}
+use Rattle.model.specs.Instances.{settingsA, draw, draws}
+use Rattle.model.specs.TouchInstances.{touch}
+use Rattle.model.specs.Edges.Inputs.{freshNumbers}
 use Rattle.model.specs.Edges.Networks.{stoppedDraws}
 use Rattle.tracker.specs.Batch.{BatchCall, logRoom, startRefusal, batchIn, unlessRefused, sitesAfter}
 
@@ -46,6 +45,13 @@ pub record BatchCallEdges : Type 0 where
   -- a refused draw after an accepted one
   pub stopped : refusalOf (callWith stoppedDraws 1048 400) ≡ 6
   pub stopped-accepted : acceptedOf (callWith stoppedDraws 1048 400) ≡ 1
+  -- request N2: touches are accepted and counted with no log, and change nothing
+  pub touches : refusalOf (callWith (touch ∷ touch ∷ []) 1048 0) ≡ 0
+  pub touches-accepted : acceptedOf (callWith (touch ∷ touch ∷ []) 1048 0) ≡ 2
+  pub touches-unlogged : sitesAfter (callWith (touch ∷ touch ∷ []) 1048 0) .messages ≡ 7
+  -- between two draws with a log for one: 14 before the second draw
+  pub between : refusalOf (callWith (draw ∷ touch ∷ draw ∷ []) 1048 100) ≡ 14
+  pub between-accepted : acceptedOf (callWith (draw ∷ touch ∷ draw ∷ []) 1048 100) ≡ 2
   -- refused when it starts, with draws that would be refused as well
   pub four-first : refusalOf (callWith stoppedDraws 1047 0) ≡ 4
   pub none-accepted : acceptedOf (callWith (draws 1) 1047 400) ≡ 0

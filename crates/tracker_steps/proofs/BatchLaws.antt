@@ -2,55 +2,55 @@
 -- take another.
 --
 --   one-places, refusal-is      what the refusal's test asks, and that it is the model's
---   one-asks                    what an accepted arrival asks
---   holds-stopped, holds-delivered   what is held then
+--   one-asks                    what an accepted draw asks
+--   holds-stopped, holds-touched, holds-delivered   what is held then
 --   ready-next                  a batch that took an arrival may take another
-use mathlib.Core.Path.{_≡_, refl, sym, ap, _∙_, subst}
-use mathlib.Core.List.{List, append-nil}
-use Prim.Native.Nat.{ℕ, _+_, _-_, _*_, _≤_, _<_}
-use native.Mathlib.Nat.{mul-le-mul-right}
+use mathlib.Core.Path.{_≡_, refl, sym, ap, _∙_, subst, subst⁻¹}
+use mathlib.Core.Bool.{Bool, true, false}
+use mathlib.Core.List.{append-nil}
+use Prim.Native.Nat.{ℕ, _+_, _-_, _<_}
 use native.Mathlib.Omega.{arith}
-use lib.Dec.{ltb}
 use lib.ListN.{length, length-append}
-use borrow.Author.Tests.{eq-eqb, ne-eqb, ltb-false}
+use borrow.Author.Tests.{eq-eqb, ne-eqb}
 use Rattle.model.specs.declared.Settings.{Settings}
 use Rattle.model.specs.declared.Arrival.{Arrival}
 use Rattle.model.specs.declared.SiteRecord.{SiteRecord}
-use Rattle.model.specs.Refusals.{noRefusal, logTooShort}
-use Rattle.model.specs.Limits.{mostSites, siteLimit, mostMessages}
-use Rattle.model.specs.Network.{Network, afterArrival}
-use Rattle.model.specs.Runs.{Batch, refusalIn}
-use Rattle.model.proofs.Thresholds.RefusalLaws.{both-accepted, passed}
+use Rattle.model.specs.Refusals.{noRefusal}
+use Rattle.model.specs.Draws.{isDraw}
+use Rattle.model.specs.Network.{Network, Delivered, asItWas, afterArrival}
+use Rattle.model.specs.Runs.{Batch}
+use Rattle.model.proofs.Touches.DrawLaws.{after-draw, after-touch, batch-takes}
 use Rattle.model.proofs.Thresholds.SettingsLaws.{settled}
 use Rattle.model.proofs.Deliveries.DeliveryTheorem.{delivery-claims}
-use Rattle.model.proofs.BetweenArrivals.SitesInvariant.{arrivalsAt}
-use Rattle.model.proofs.Deliveries.ClosedSites.{sumBelow-allArrivals}
-use Rattle.laws.proofs.Sums.{sumBelow-le, sumBelow-const}
 use Rattle.model.specs.Held.{recordAt}
 use Rattle.tracker_queue.specs.Log.{logRoom}
 use Rattle.tracker_delivery.specs.Holding.{WithLog, Carrying, Holds, Accepting, rested}
 use Rattle.tracker_delivery.specs.Arriving.{ArrivalAsks}
 use Rattle.tracker_delivery.proofs.HoldingLaws.{Stored, record-read, log-length}
 use Rattle.tracker_delivery.proofs.GoingLaws.{stored-of-sound}
-use Rattle.tracker_delivery.proofs.RestLaws.{sound-then, bounded-then, arrivals-then, holds-rested}
-use Rattle.tracker_steps.specs.Steps.{BatchHeld, placesRefusal, PlacesAsk, withOne, stoppedBy, oneRefusal, batchOne, restingOn, restingIn, BatchHolds, BatchReady, OneAsks}
+use Rattle.tracker_delivery.proofs.RestLaws.{sound-then, bounded-then, holds-rested}
+use Rattle.tracker_steps.specs.Steps.{BatchHeld, placesRefusal, PlacesAsk, withDelivered, withOne, stoppedBy, oneRefusal, batchOne, restingOn, restingIn, BatchHolds, BatchReady, OneAsks}
 use Rattle.tracker_steps.specs.Turns.{ownOf}
 use Rattle.tracker_steps.proofs.RefusalLaws.{place-known, placesRefusal-is}
 
--- ---- An arrival with full delivery
+-- ---- A draw with full delivery
 
 pub holds-delivered : {settings : Settings} {given : WithLog} (batch : Batch) (arrival : Arrival)
     (next : BatchHeld) (after : Carrying)
     → Holds settings given (batch .messages)
     (rested (afterArrival settings (batch .network) arrival)) after
+    → isDraw arrival ≡ true
     → next .refusal ≡ noRefusal
     → next .accepted ≡ batch .accepted + 1
     → restingIn next ≡ restingOn (after .held) (after .log) (after .written)
     → BatchHolds settings given (withOne settings batch arrival) next
-holds-delivered {settings} batch arrival next after holds refusal-none accepted-more same =
+holds-delivered {settings} {given} batch arrival next after holds is-draw refusal-none
+    accepted-more same =
     let done = afterArrival settings (batch .network) arrival in
     let held = holds-rested (done .network) (done .messages) holds in
-    record {
+    subst⁻¹ (λ (d : Delivered). BatchHolds settings given (withDelivered batch d) next)
+    (after-draw settings (batch .network) arrival is-draw)
+    (record {
       refusal = refusal-none;
       accepted = accepted-more;
       holds = rw same (record {
@@ -63,7 +63,7 @@ holds-delivered {settings} batch arrival next after holds refusal-none accepted-
         coordinator-memory = held .coordinator-memory;
         log = held .log;
       });
-    }
+    })
 
 -- ---- A batch that is held
 
@@ -114,40 +114,27 @@ module _ {settings : Settings} {now : BatchHeld} (u : OneAsks settings now) wher
       ∙ record-read (u .ready .fits) stored (u .holds .holds) (arrival .site) known))
       (rw (written-is, log-same))
 
-  -- All arrivals fit a machine number, so the accepted ones do.
-  pub accepted-small : u .batch .accepted ≤ mostSites * siteLimit
-  accepted-small =
-      let sound = u .ready .sound in
-      let few : settings .sites * siteLimit ≤ mostSites * siteLimit =
-      mul-le-mul-right siteLimit
-      (settled settings (u .ready .fits .settings-accepted) .sites .at-most) in
-      omega (
-        arith,
-        u .ready .accepted-within,
-        sumBelow-allArrivals settings (network .sites) (sound .all-sites),
-        sumBelow-le (arrivalsAt (network .sites)) (λ j. siteLimit) (settings .sites)
-            (λ j j<. sound .sites-sound j j< .arrivals-within),
-        sumBelow-const siteLimit (settings .sites),
-      )
-
   -- ---- An accepted arrival
 
   module _ (arrival : Arrival)
       (none : oneRefusal settings room (u .batch) arrival ≡ noRefusal) where
+    pub taken-is : batchOne settings room (u .batch) arrival ≡ withOne settings (u .batch) arrival
+    taken-is = rw (eq-eqb (oneRefusal settings room (u .batch) arrival) 0 none)
+
+  -- ---- An accepted draw
+
+  module _ (arrival : Arrival) (is-draw : isDraw arrival ≡ true)
+      (none : oneRefusal settings room (u .batch) arrival ≡ noRefusal) where
     pub one-accepting : Accepting settings (u .given) (u .batch .messages) network arrival
     one-accepting =
-        let chain = both-accepted (refusalIn settings network arrival) _ none in
-        let places = passed
-        (ltb (room - length (u .batch .messages)) (mostMessages settings))
-        logTooShort _ (omega arith) (chain .later-accepted) in
-        let enough : mostMessages settings ≤ room - length (u .batch .messages) =
-        ltb-false _ _ (places .test-failed) in
+        let takes = batch-takes settings network arrival (room - length (u .batch .messages))
+        is-draw none in
         record {
           fits = u .ready .fits;
-          room = omega (arith, enough, u .ready .messages-within);
+          room = omega (arith, takes .enough, u .ready .messages-within);
           sound = u .ready .sound;
           bounded = u .ready .bounded;
-          taken = chain .first-accepted;
+          taken = takes .accepted;
         }
 
     abbrev pub one-asks : ArrivalAsks settings arrival (restingIn now)
@@ -159,20 +146,15 @@ module _ {settings : Settings} {now : BatchHeld} (u : OneAsks settings now) wher
       holds = u .holds .holds;
     }
 
-    pub taken-is : batchOne settings room (u .batch) arrival ≡ withOne settings (u .batch) arrival
-    taken-is = rw (eq-eqb (oneRefusal settings room (u .batch) arrival) 0 none)
-
-    pub ready-next : BatchReady settings (u .given) (batchOne settings room (u .batch) arrival)
-    ready-next =
+    ready-drawn : BatchReady settings (u .given)
+        (withDelivered (u .batch) (afterArrival settings network arrival))
+    ready-drawn =
         let done = afterArrival settings network arrival in
         let few = delivery-claims .few-messages settings network arrival (u .ready .sound .idle) in
-        subst (BatchReady settings (u .given)) (sym taken-is)
-        (record {
+        record {
           fits = u .ready .fits;
           sound = sound-then one-accepting;
           bounded = bounded-then one-accepting;
-          accepted-within =
-              omega (arith, arrivals-then one-accepting, u .ready .accepted-within);
           messages-within =
               omega (
                 arith,
@@ -180,7 +162,53 @@ module _ {settings : Settings} {now : BatchHeld} (u : OneAsks settings now) wher
                 few,
                 one-accepting .room,
               );
-        })
+        }
+
+  -- ---- An accepted touch
+
+  -- It leaves the network as it was, and sends nothing.
+  ready-touched : BatchReady settings (u .given) (withDelivered (u .batch) (asItWas network))
+  ready-touched = record {
+    fits = u .ready .fits;
+    sound = u .ready .sound;
+    bounded = u .ready .bounded;
+    messages-within = rw (append-nil (u .batch .messages)) (u .ready .messages-within);
+  }
+
+  pub holds-touched : (arrival : Arrival) (next : BatchHeld)
+      → isDraw arrival ≡ false
+      → oneRefusal settings room (u .batch) arrival ≡ noRefusal
+      → next .refusal ≡ noRefusal
+      → next .accepted ≡ now .accepted + 1
+      → restingIn next ≡ restingIn now
+      → BatchHolds settings (u .given) (batchOne settings room (u .batch) arrival) next
+  holds-touched arrival next no-draw none refusal-none accepted-more same =
+      subst⁻¹ (λ (b : Batch). BatchHolds settings (u .given) b next)
+      (taken-is arrival none
+      ∙ ap (withDelivered (u .batch)) (after-touch settings network arrival no-draw))
+      (record {
+        refusal = refusal-none;
+        accepted = accepted-more ∙ ap (λ (n : ℕ). n + 1) (u .holds .accepted);
+        holds = rw (same, append-nil (u .batch .messages)) (u .holds .holds);
+      })
+
+  -- ---- The next arrival
+
+  pub ready-next : (arrival : Arrival)
+      → oneRefusal settings room (u .batch) arrival ≡ noRefusal
+      → BatchReady settings (u .given) (batchOne settings room (u .batch) arrival)
+  ready-next arrival none =
+      subst⁻¹ (BatchReady settings (u .given)) (taken-is arrival none)
+      (by-draw (isDraw arrival) refl)
+    where
+      by-draw : (drawn : Bool) → isDraw arrival ≡ drawn
+          → BatchReady settings (u .given) (withOne settings (u .batch) arrival)
+      by-draw true is-draw =
+          subst⁻¹ (λ (d : Delivered). BatchReady settings (u .given) (withDelivered (u .batch) d))
+          (after-draw settings network arrival is-draw) (ready-drawn arrival is-draw none)
+      by-draw false no-draw =
+          subst⁻¹ (λ (d : Delivered). BatchReady settings (u .given) (withDelivered (u .batch) d))
+          (after-touch settings network arrival no-draw) ready-touched
 
   -- ---- A refused arrival
 

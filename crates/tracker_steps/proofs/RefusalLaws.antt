@@ -13,7 +13,7 @@ use Rattle.model.specs.declared.Arrival.{Arrival}
 use Rattle.model.specs.declared.SiteRecord.{SiteRecord}
 use Rattle.model.specs.Limits.{mostSites}
 use Rattle.model.specs.Messages.{messageWidth}
-use Rattle.model.specs.Site.{Site, arrivalRefusal}
+use Rattle.model.specs.Site.{Site, lineRefusal}
 use Rattle.model.specs.Network.{Network, siteAt}
 use Rattle.model.specs.Runs.{batchRefusal}
 use Rattle.site_refusals.specs.Bare.{bareSite}
@@ -34,12 +34,12 @@ place-within arrival = by-site (decLt (arrival .site) mostSites)
 -- A site's own number is all that is looked at, and only where the site is known.
 same-refusal : (settings : Settings) (own site : Site) (arrival : Arrival)
     → (arrival .site < settings .sites → own .arrivals ≡ site .arrivals)
-    → arrivalRefusal settings own arrival ≡ arrivalRefusal settings site arrival
+    → lineRefusal settings own arrival ≡ lineRefusal settings site arrival
 same-refusal settings own site arrival same =
     by-site (decLt (arrival .site) (settings .sites))
   where
     by-site : Dec (arrival .site < settings .sites)
-        → arrivalRefusal settings own arrival ≡ arrivalRefusal settings site arrival
+        → lineRefusal settings own arrival ≡ lineRefusal settings site arrival
     by-site (yes known) = rw (same known)
     by-site (no past) = rw (le-leb (settings .sites) (arrival .site) (omega arith))
 

@@ -1,9 +1,10 @@
 -- The three parts of one arrival, one after another, are one arrival of the model's batch.
 --
---   turn-places, turn-refused, turn-taken   the turn, as the code takes it
+--   turn-places, turn-refused, turn-touched, turn-taken   the turn, as the code takes it
 --   turn-asks, count-asks, deliver-asks     what each part asks, from a batch that is held
 --   quiet-says, loud-says                   the arrival without messages, and with them
 use mathlib.Core.Path.{_≡_, refl, sym, ap, _∙_, subst⁻¹}
+use mathlib.Core.Bool.{true, false}
 use mathlib.Core.List.{List}
 use Prim.Native.Nat.{ℕ, _+_, _≤_}
 use native.Mathlib.Omega.{arith}
@@ -14,6 +15,7 @@ use Rattle.model.specs.declared.Settings.{Settings}
 use Rattle.model.specs.declared.Arrival.{Arrival}
 use Rattle.model.specs.declared.SiteRecord.{SiteRecord}
 use Rattle.model.specs.Refusals.{noRefusal}
+use Rattle.model.specs.Draws.{isDraw}
 use Rattle.model.specs.Runs.{Batch}
 use Rattle.site_steps.specs.declared.Observed.{Observed}
 use Rattle.model.specs.Held.{noRecord, recordAt}
@@ -25,9 +27,9 @@ use Rattle.tracker_delivery.proofs.TakenLaws.{quiet-rests}
 use Rattle.tracker_steps.specs.declared.BatchAnswer.{BatchAnswer}
 use Rattle.tracker_steps.specs.declared.Turn.{Turn}
 use Rattle.tracker_steps.specs.Steps.{BatchHeld, batchHeld, batchAnswer, placesRefusal, PlacesAsk, oneRefusal, batchOne, restingIn, BatchHolds, OneAsks, OneSays}
-use Rattle.tracker_steps.specs.Turns.{placeOf, ownOf, refusedTurn, withSiteMemory, takenIn, TurnAsks, RefusedTurn, TakenTurn, TurnTold, refused, taken, TurnSays, counted, CountTurnAsks, DeliverTurnAsks, DeliverTurnSays}
+use Rattle.tracker_steps.specs.Turns.{placeOf, ownOf, leftTurn, withSiteMemory, takenIn, TurnAsks, TakenTurn, TurnTold, refused, touched, taken, TurnSays, counted, CountTurnAsks, DeliverTurnAsks, DeliverTurnSays}
 use Rattle.tracker_steps.proofs.RefusalLaws.{place-known, place-within}
-use Rattle.tracker_steps.proofs.BatchLaws.{one-places, refusal-is, accepted-small, one-asks, taken-is, holds-delivered, holds-stopped}
+use Rattle.tracker_steps.proofs.BatchLaws.{one-places, refusal-is, one-asks, taken-is, holds-delivered, holds-stopped, holds-touched}
 
 -- ---- The turn
 
@@ -62,14 +64,14 @@ module _ {settings : Settings} {own : SiteRecord} {written : ℕ} (arrival : Arr
 
     pub turn-refused : (refusal ≡ noRefusal → ⊥)
         → (turn : Turn)
-        → turn ≡ refusedTurn refusal own
+        → turn ≡ leftTurn refusal 0 own
         → TurnSays settings own written arrival numbers memory turn memory
     turn-refused some turn turn-is = record {
       told = λ now own-is written-is numbers-are u.
           let found = found-is now own-is written-is numbers-are u in
           refused (record {
             due = λ none. some (found ∙ none);
-            turn-is = turn-is ∙ (λ j. refusedTurn (found j) (own-is j));
+            turn-is = turn-is ∙ (λ j. leftTurn (found j) 0 (own-is j));
             memory-kept = refl;
           });
     }
@@ -77,14 +79,35 @@ module _ {settings : Settings} {own : SiteRecord} {written : ℕ} (arrival : Arr
     -- ---- An arrival that is not refused
 
     module _ (none : refusal ≡ noRefusal) where
+      none-due : (now : BatchHeld) → own ≡ ownOf (now .held .sites) arrival
+          → written ≡ now .written
+          → numbers ≡ length (now .log)
+          → (u : OneAsks settings (withSiteMemory now memory))
+          → oneRefusal settings (logRoom (u .given .log)) (u .batch) arrival ≡ noRefusal
+      none-due now own-is written-is numbers-are u =
+          sym (found-is now own-is written-is numbers-are u) ∙ none
+
+      pub turn-touched : isDraw arrival ≡ false
+          → (turn : Turn)
+          → turn ≡ leftTurn noRefusal 1 own
+          → TurnSays settings own written arrival numbers memory turn memory
+      turn-touched no-draw turn turn-is = record {
+        told = λ now own-is written-is numbers-are u.
+            touched (record {
+              no-draw = no-draw;
+              none-due = none-due now own-is written-is numbers-are u;
+              turn-is = turn-is ∙ ap (leftTurn noRefusal 1) own-is;
+              memory-kept = refl;
+            });
+      }
+
+    module _ (none : refusal ≡ noRefusal) (is-draw : isDraw arrival ≡ true) where
       module _ (now : BatchHeld) (own-is : own ≡ ownOf (now .held .sites) arrival)
           (written-is : written ≡ now .written) (numbers-are : numbers ≡ length (now .log))
           (u : OneAsks settings (withSiteMemory now memory)) where
-        none-due : oneRefusal settings (logRoom (u .given .log)) (u .batch) arrival ≡ noRefusal
-        none-due = sym (found-is now own-is written-is numbers-are u) ∙ none
-
         abbrev arrival-asks : ArrivalAsks settings arrival (restingIn (withSiteMemory now memory))
-        arrival-asks = one-asks u arrival none-due
+        arrival-asks =
+            one-asks u arrival is-draw (none-due none now own-is written-is numbers-are u)
 
         place-own : placeOf arrival ≡ arrival .site
         place-own = place-known arrival (site-few arrival-asks)
@@ -108,7 +131,8 @@ module _ {settings : Settings} {own : SiteRecord} {written : ℕ} (arrival : Arr
       turn-taken observed after says = record {
         told = λ now own-is written-is numbers-are u.
             taken (record {
-              none-due = none-due now own-is written-is numbers-are u;
+              is-draw = is-draw;
+              none-due = none-due none now own-is written-is numbers-are u;
               refusal-none = refl;
               taken-one = refl;
               place-is = place-own now own-is written-is numbers-are u;
@@ -160,12 +184,13 @@ module _ (now : BatchHeld) {settings : Settings} (arrival : Arrival) {own : Site
   pub count-asks : OneAsks settings now → CountTurnAsks (batchAnswer now) (placeOf arrival) turn
   count-asks u = record {
     which-within = place-within arrival;
-    accepted-within = rw (u .holds .accepted) (accepted-small u);
+    accepted-within = rw (u .holds .accepted) (u .accepted-within);
     taken-within = by-told (told-of u);
   }
     where
       by-told : Told u → turn .taken ≤ 1
       by-told (refused r) = rw (r .turn-is) (omega arith)
+      by-told (touched t) = rw (t .turn-is) (omega arith)
       by-told (taken t) = rw (t .taken-one) (omega arith)
 
   -- The answer with the turn in it.
@@ -199,26 +224,29 @@ module _ (now : BatchHeld) {settings : Settings} (arrival : Arrival) {own : Site
         given = u .given;
         batch = u .batch;
         arrival = arrival;
+        is-draw = t .is-draw;
         accepted-more = accepted-more;
         taken = rw put-back (t .taken);
       }
 
-    -- A refused arrival sends nothing, and its site's record is stored as it was.
-    module _ (u : OneAsks settings now)
-        (r : RefusedTurn settings (u .given) (u .batch) arrival now turn (now .held .siteMemory)
-        after) where
+    -- A touch or a refused arrival sends nothing, and its site's record is stored as it was.
+    module _ (number taken-then : ℕ)
+        (turn-is : turn ≡ leftTurn number taken-then (ownOf (now .held .sites) arrival))
+        (memory-kept : after ≡ now .held .siteMemory) where
       no-messages : turn .out .count ≡ 0
-      no-messages = ap (λ (t : Turn). t .out .count) (r .turn-is)
+      no-messages = ap (λ (t : Turn). t .out .count) turn-is
 
-      none-taken : next .accepted ≡ now .accepted
-      none-taken =
-          ap (λ (a : BatchAnswer). a .accepted) next-is
-          ∙ rw (r .turn-is) (add-zero (now .accepted))
+      refusal-then : next .refusal ≡ number
+      refusal-then =
+          ap (λ (a : BatchAnswer). a .refusal) next-is ∙ ap (λ (t : Turn). t .refusal) turn-is
+
+      accepted-then : next .accepted ≡ now .accepted + taken-then
+      accepted-then = ap (λ (a : BatchAnswer). a .accepted) next-is ∙ rw turn-is
 
       stored-same : restingIn then ≡ restingIn now
       stored-same =
           let stored = set-getD (now .held .sites .records) (placeOf arrival) noRecord in
-          ap restingIn then-is ∙ rw (r .turn-is, r .memory-kept, stored)
+          ap restingIn then-is ∙ rw (turn-is, memory-kept, stored)
 
     pub deliver-asks : OneAsks settings now
         → (turn .out .count ≡ 0 → ⊥)
@@ -226,7 +254,8 @@ module _ (now : BatchHeld) {settings : Settings} (arrival : Arrival) {own : Site
     deliver-asks u some = by-told (told-of u)
       where
         by-told : Told u → DeliverTurnAsks settings turn then
-        by-told (refused r) = absurd (some (no-messages u r))
+        by-told (refused r) = absurd (some (no-messages _ _ (r .turn-is) (r .memory-kept)))
+        by-told (touched t) = absurd (some (no-messages _ _ (t .turn-is) (t .memory-kept)))
         by-told (taken t) = then-asks u t
 
     pub loud-says : {last : BatchHeld}
@@ -238,7 +267,8 @@ module _ (now : BatchHeld) {settings : Settings} (arrival : Arrival) {own : Site
         by-told : (u : OneAsks settings now) → Told u
             → BatchHolds settings (u .given)
             (batchOne settings (logRoom (u .given .log)) (u .batch) arrival) last
-        by-told u (refused r) = absurd (some (no-messages u r))
+        by-told u (refused r) = absurd (some (no-messages _ _ (r .turn-is) (r .memory-kept)))
+        by-told u (touched t) = absurd (some (no-messages _ _ (t .turn-is) (t .memory-kept)))
         by-told u (taken t) =
             subst⁻¹ (λ (b : Batch). BatchHolds settings (u .given) b last)
             (taken-is u arrival (t .none-due)) (delivered .next (then-asks u t))
@@ -251,11 +281,16 @@ module _ (now : BatchHeld) {settings : Settings} (arrival : Arrival) {own : Site
             (batchOne settings (logRoom (u .given .log)) (u .batch) arrival) then
         by-told u (refused r) =
             holds-stopped u arrival then (r .due)
-            (ap (λ (a : BatchAnswer). a .refusal) next-is
-            ∙ ap (λ (t : Turn). t .refusal) (r .turn-is))
-            (none-taken u r) (stored-same u r)
+            (refusal-then _ _ (r .turn-is) (r .memory-kept))
+            (accepted-then _ _ (r .turn-is) (r .memory-kept) ∙ add-zero (now .accepted))
+            (stored-same _ _ (r .turn-is) (r .memory-kept))
+        by-told u (touched t) =
+            holds-touched u arrival then (t .no-draw) (t .none-due)
+            (refusal-then _ _ (t .turn-is) (t .memory-kept))
+            (accepted-then _ _ (t .turn-is) (t .memory-kept))
+            (stored-same _ _ (t .turn-is) (t .memory-kept))
         by-told u (taken t) =
             subst⁻¹ (λ (b : Batch). BatchHolds settings (u .given) b then)
             (taken-is u arrival (t .none-due))
             (holds-delivered (u .batch) arrival then _ (quiet-rests (t .taken) quiet)
-            (refusal-none u t) (accepted-more u t) (put-back u t))
+            (t .is-draw) (refusal-none u t) (accepted-more u t) (put-back u t))

@@ -5,15 +5,16 @@
 --   opened refusal sites coordinator   the answer before the first arrival
 --   OpenBatchSays                           the start's promise
 --   placesRefusal ..                   5, 6, 7, 8, 14 from a record and the log's length
+--   withDelivered, withOne             a batch with one arrival more
 --   batchOne settings room batch a     one arrival of the model's batch
+--   runLimit                           what a count of arrivals stays below
 --   restingOn .., restingIn now        a delivery at rest; what is held as such
 --   BatchHolds                         a batch is held
 --   BatchReady                         a batch that may take another arrival
 --   OneAsks, OneSays                   one arrival of the call
 use mathlib.Core.Path.{_≡_}
 use mathlib.Core.List.{List, [], _++_}
-use Prim.Native.Nat.{ℕ, _+_, _-_, _/_, _≤_}
-use lib.Dec.{ltb}
+use Prim.Native.Nat.{ℕ, _+_, _-_, _/_, _^_, _≤_, _<_}
 use lib.ListN.{length}
 use Rattle.model.specs.declared.Settings.{Settings}
 use Rattle.model.specs.declared.Arrival.{Arrival}
@@ -21,14 +22,15 @@ use Rattle.model.specs.declared.SiteRecord.{SiteRecord}
 use Rattle.model.specs.declared.Sites.{Sites}
 use Rattle.model.specs.declared.CoordinatorRecord.{CoordinatorRecord}
 use Rattle.model.specs.Choice.{if_then_else_, isZero}
-use Rattle.model.specs.Refusals.{when, _orElse_, noRefusal, logTooShort}
-use Rattle.model.specs.Limits.{mostSites, mostMessages}
+use Rattle.model.specs.Refusals.{_orElse_, noRefusal}
+use Rattle.model.specs.Limits.{mostSites}
 use Rattle.model.specs.Messages.{messageWidth}
-use Rattle.model.specs.Site.{arrivalRefusal}
-use Rattle.model.specs.Network.{afterArrival}
-use Rattle.model.specs.NetworkMemory.{allArrivals, networkRefusal}
+use Rattle.model.specs.Draws.{isDraw}
+use Rattle.model.specs.Site.{lineRefusal}
+use Rattle.model.specs.Network.{Delivered, afterLine}
+use Rattle.model.specs.NetworkMemory.{networkRefusal}
 use Rattle.model.specs.Held.{Held, heldBy}
-use Rattle.model.specs.Runs.{Batch, batchRefusal}
+use Rattle.model.specs.Runs.{Batch, logRefusal, batchRefusal}
 use Rattle.model.specs.SoundNetwork.{Sound}
 use Rattle.model.specs.NumberClaims.{Bounded}
 use Rattle.model.specs.DeliveryClaims.{delivery}
@@ -96,28 +98,33 @@ pub record OpenBatchSays
 
 -- ---- One arrival
 
--- "for a draw 5, 6, 7, 8, 14", from its site's record and so many numbers of log.
+-- "for a draw 5, 6, 7, 8, 14", from its site's record and so many numbers of log; a touch is not
+-- tested for 8 and 14.
 abbrev pub placesRefusal : Settings → SiteRecord → Arrival → ℕ → ℕ → ℕ
 placesRefusal settings own arrival numbers written =
-    arrivalRefusal settings (bareSite own) arrival
-    orElse when (ltb (numbers / messageWidth - written) (mostMessages settings)) logTooShort
-    orElse noRefusal
+    lineRefusal settings (bareSite own) arrival
+    orElse (if isDraw arrival
+    then logRefusal settings (numbers / messageWidth - written)
+    else noRefusal)
 
 -- The records written fit the log, and the network has no more sites than records.
 pub record PlacesAsk (settings : Settings) (written numbers : ℕ) : Type 0 where
   pub few-sites : settings .sites ≤ mostSites
   pub written-within : written ≤ numbers / messageWidth
 
--- The batch with one arrival more, taken with full delivery.
+-- The batch with one arrival more, which came to this.
+abbrev pub withDelivered : Batch → Delivered → Batch
+withDelivered batch after = record {
+  network = after .network;
+  accepted = batch .accepted + 1;
+  messages = batch .messages ++ after .messages;
+  refusal = noRefusal;
+}
+
+-- The batch with one arrival more: a draw is taken with full delivery, a touch changes nothing.
 abbrev pub withOne : Settings → Batch → Arrival → Batch
 withOne settings batch arrival =
-    let after = afterArrival settings (batch .network) arrival in
-    record {
-      network = after .network;
-      accepted = batch .accepted + 1;
-      messages = batch .messages ++ after .messages;
-      refusal = noRefusal;
-    }
+    withDelivered batch (afterLine settings (batch .network) arrival)
 
 -- The batch as it was, stopped by a refusal.
 abbrev pub stoppedBy : Batch → ℕ → Batch
@@ -163,12 +170,15 @@ pub record BatchHolds (settings : Settings) (given : WithLog) (batch : Batch) (n
   pub holds : Holds settings given (batch .messages) (delivery (batch .network) [] [])
       (restingIn now)
 
--- The network is sound and within the bounds, and counts are below what a machine number holds.
+-- The arrivals of a lent run are fewer than these, so a count of them is a machine number.
+abbrev pub runLimit : ℕ
+runLimit = 2 ^ 64
+
+-- The network is sound and within the bounds, and the log holds what was sent.
 pub record BatchReady (settings : Settings) (given : WithLog) (batch : Batch) : Type 0 where
   pub fits : Fits settings given
   pub sound : Sound settings (batch .network)
   pub bounded : Bounded (batch .network)
-  pub accepted-within : batch .accepted ≤ allArrivals (batch .network .sites)
   pub messages-within : length (batch .messages) ≤ logRoom (given .log)
 
 -- Some batch is held that may take another arrival.
@@ -176,6 +186,8 @@ pub record OneAsks (settings : Settings) (now : BatchHeld) : Type 0 where
   pub given : WithLog
   pub batch : Batch
   pub ready : BatchReady settings given batch
+  -- touches are accepted beyond all limits but that of the run
+  pub accepted-within : batch .accepted + 1 < runLimit
   pub holds : BatchHolds settings given batch now
 
 -- One arrival of the model's batch, whatever batch is held.

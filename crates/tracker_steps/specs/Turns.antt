@@ -3,15 +3,16 @@
 --
 --   placeOf arrival            the place of its site among the records
 --   ownOf sites arrival        the record that stands there
---   refusedTurn number own     the turn of a refused arrival
+--   leftTurn number taken own  the turn of an arrival that leaves its site as it was
 --   takenIn now ..             what is held when the arrival's site has taken it
 --   counted answer which turn  the answer with a turn in it
---   TurnAsks, TurnSays         an arrival is refused, or its site takes it
+--   TurnAsks, TurnSays         an arrival is refused, or a touch, or its site takes it
 --   CountTurnAsks                  a turn that can be counted
 --   DeliverTurnAsks, DeliverTurnSays   the messages of a turn
 use mathlib.Core.Path.{_≡_}
+use mathlib.Core.Bool.{true, false}
 use mathlib.Core.List.{List}
-use Prim.Native.Nat.{ℕ, _+_, _*_, _≤_, _<_}
+use Prim.Native.Nat.{ℕ, _+_, _≤_, _<_}
 use lib.Dec.{ltb}
 use lib.ListN.{length}
 use Rattle.model.specs.declared.Settings.{Settings}
@@ -20,7 +21,8 @@ use Rattle.model.specs.declared.SiteRecord.{SiteRecord}
 use Rattle.model.specs.declared.Sites.{Sites}
 use Rattle.model.specs.Choice.{if_then_else_}
 use Rattle.model.specs.Refusals.{noRefusal}
-use Rattle.model.specs.Limits.{mostSites, siteLimit}
+use Rattle.model.specs.Limits.{mostSites}
+use Rattle.model.specs.Draws.{isDraw}
 use Rattle.model.specs.Runs.{Batch}
 use Rattle.model.specs.Held.{recordIn, withRecord, afterSiteCall}
 use Rattle.tracker_queue.specs.Log.{logRoom}
@@ -29,7 +31,7 @@ use Rattle.tracker_delivery.specs.Holding.{WithLog}
 use Rattle.tracker_delivery.specs.Arriving.{Taken}
 use Rattle.tracker_steps.specs.declared.BatchAnswer.{BatchAnswer}
 use Rattle.tracker_steps.specs.declared.Turn.{Turn}
-use Rattle.tracker_steps.specs.Steps.{BatchHeld, batchHeld, batchAnswer, oneRefusal, withOne, restingIn, BatchHolds, OneAsks}
+use Rattle.tracker_steps.specs.Steps.{BatchHeld, batchHeld, batchAnswer, runLimit, oneRefusal, withOne, restingIn, BatchHolds, OneAsks}
 
 -- ---- The turn
 
@@ -42,11 +44,11 @@ placeOf arrival = if ltb (arrival .site) mostSites then arrival .site else 0
 abbrev pub ownOf : Sites → Arrival → SiteRecord
 ownOf sites arrival = recordIn sites (placeOf arrival)
 
--- A refused arrival leaves its site's record as it was.
-abbrev pub refusedTurn : ℕ → SiteRecord → Turn
-refusedTurn number own = record {
+-- A refused arrival leaves its site's record as it was, and so does a touch, which is accepted.
+abbrev pub leftTurn : ℕ → ℕ → SiteRecord → Turn
+leftTurn number taken own = record {
   refusal = number;
-  taken = 0;
+  taken = taken;
   site = own;
   out = nothingWaits;
 }
@@ -91,11 +93,26 @@ pub record RefusedTurn
     (siteBefore siteAfter : List ℕ) : Type 0 where
   pub due : oneRefusal settings (logRoom (given .log)) batch arrival ≡ noRefusal → ⊥
   pub turn-is : turn
-      ≡ refusedTurn (oneRefusal settings (logRoom (given .log)) batch arrival)
+      ≡ leftTurn (oneRefusal settings (logRoom (given .log)) batch arrival) 0
       (ownOf (now .held .sites) arrival)
   pub memory-kept : siteAfter ≡ siteBefore
 
--- The arrival's site has taken it, and that site's record and memory hold so.
+-- Request N2: "accepted with no change and no message", and "the many-draw call still counts such a
+-- line among the draws accepted".
+pub record TouchTurn
+    (settings : Settings)
+    (given : WithLog)
+    (batch : Batch)
+    (arrival : Arrival)
+    (now : BatchHeld)
+    (turn : Turn)
+    (siteBefore siteAfter : List ℕ) : Type 0 where
+  pub no-draw : isDraw arrival ≡ false
+  pub none-due : oneRefusal settings (logRoom (given .log)) batch arrival ≡ noRefusal
+  pub turn-is : turn ≡ leftTurn noRefusal 1 (ownOf (now .held .sites) arrival)
+  pub memory-kept : siteAfter ≡ siteBefore
+
+-- The draw's site has taken it, and that site's record and memory hold so.
 pub record TakenTurn
     (settings : Settings)
     (given : WithLog)
@@ -104,6 +121,7 @@ pub record TakenTurn
     (now : BatchHeld)
     (turn : Turn)
     (siteAfter : List ℕ) : Type 0 where
+  pub is-draw : isDraw arrival ≡ true
   pub none-due : oneRefusal settings (logRoom (given .log)) batch arrival ≡ noRefusal
   pub refusal-none : turn .refusal ≡ noRefusal
   pub taken-one : turn .taken ≡ 1
@@ -120,6 +138,8 @@ pub data TurnTold
     (turn : Turn)
     (siteBefore siteAfter : List ℕ) : Type 0 where
   refused : RefusedTurn settings given batch arrival now turn siteBefore siteAfter
+      → TurnTold settings given batch arrival now turn siteBefore siteAfter
+  touched : TouchTurn settings given batch arrival now turn siteBefore siteAfter
       → TurnTold settings given batch arrival now turn siteBefore siteAfter
   taken : TakenTurn settings given batch arrival now turn siteAfter
       → TurnTold settings given batch arrival now turn siteBefore siteAfter
@@ -143,8 +163,8 @@ pub record TurnSays
 
 -- ---- The answer with a turn in it
 
--- The refusal, the arrivals accepted, and the record of the site at this place. A refused turn
--- brings the record that stands there.
+-- The refusal, the arrivals accepted, and the record of the site at this place. The turn of a touch
+-- or of a refused arrival brings the record that stands there.
 abbrev pub counted : BatchAnswer → ℕ → Turn → BatchAnswer
 counted answer which turn = record {
   refusal = turn .refusal;
@@ -156,7 +176,7 @@ counted answer which turn = record {
 
 pub record CountTurnAsks (answer : BatchAnswer) (which : ℕ) (turn : Turn) : Type 0 where
   pub which-within : which < mostSites
-  pub accepted-within : answer .accepted ≤ mostSites * siteLimit
+  pub accepted-within : answer .accepted + 1 < runLimit
   pub taken-within : turn .taken ≤ 1
 
 -- ---- The messages of a turn
@@ -165,6 +185,7 @@ pub record DeliverTurnAsks (settings : Settings) (turn : Turn) (now : BatchHeld)
   pub given : WithLog
   pub batch : Batch
   pub arrival : Arrival
+  pub is-draw : isDraw arrival ≡ true
   pub accepted-more : now .accepted ≡ batch .accepted + 1
   pub taken : Taken settings given (batch .messages) (batch .network) arrival (turn .out)
       (restingIn now)

@@ -4,8 +4,11 @@
 
 ghost use Rattle.model.specs.Lent.{before, after};
 ghost use mathlib.Core.Path.{_≡_};
+ghost use Prim.Native.Nat.{_-_, _/_};
+ghost use Rattle.model.specs.Messages.{messageWidth};
+ghost use Rattle.model.specs.Runs.{logRefusal};
 ghost use Rattle.tracker_steps.specs.Steps.{OpenBatchSays, OneAsks, OneSays, placesRefusal, PlacesAsk, batchHeld};
-ghost use Rattle.tracker_steps.specs.Turns.{placeOf, refusedTurn, counted, TurnAsks, TurnSays, CountTurnAsks, DeliverTurnAsks, DeliverTurnSays};
+ghost use Rattle.tracker_steps.specs.Turns.{placeOf, leftTurn, counted, TurnAsks, TurnSays, CountTurnAsks, DeliverTurnAsks, DeliverTurnSays};
 use model::Arrival;
 use model::CoordinatorRecord;
 use model::LOG_TOO_SHORT;
@@ -18,8 +21,8 @@ use model::Sites;
 use model::Word;
 use tracker_queue::Queue;
 
-// What the batch call answers: the refusal that stopped it or 0, the arrivals accepted, the
-// messages written to the log, and both records as they are then.
+// What the batch call answers: the refusal that stopped it or 0, the arrivals accepted, touches
+// among them, the messages written to the log, and both records as they are then.
 pub struct BatchAnswer {
     pub refusal: u32,
     pub accepted: u64,
@@ -29,8 +32,8 @@ pub struct BatchAnswer {
 }
 
 // The turn of an arrival: why it is refused, or the record of the site that took it, and the
-// messages that are to go out. `taken` is 1 if it is accepted. A refused one has the record as it
-// was, and no messages.
+// messages that are to go out. `taken` is 1 if it is accepted. A touch or a refused one has the
+// record as it was, and no messages.
 pub struct Turn {
     pub refusal: u32,
     pub taken: u64,
@@ -78,7 +81,20 @@ pub fn place_of(arrival: Arrival) -> usize
     0
 }
 
-// Why an arrival of a batch is refused: 5, 6, 7, 8, 14. `own` is its site's record.
+// Why a draw is refused for the log, of which `written` messages are in use: 14.
+fn log_refusal(settings: Settings, numbers: usize, written: u64) -> u32
+    requires { ⌜ PlacesAsk settings written numbers ⌝ }
+    ensures { λ r. ⌜ r ≡ logRefusal settings (numbers / messageWidth - written) ⌝ }
+{
+    let free = ((numbers / MESSAGE_WIDTH) as u64) - written;
+    if free < settings::most_messages(settings) {
+        return LOG_TOO_SHORT;
+    }
+    NO_REFUSAL
+}
+
+// Why an arrival of a batch is refused: 5, 6, 7, 8, 14; a touch not for 8 or 14. `own` is its
+// site's record.
 fn one_refusal(
     settings: Settings,
     own: SiteRecord,
@@ -89,34 +105,33 @@ fn one_refusal(
     requires { ⌜ PlacesAsk settings written numbers ⌝ }
     ensures { λ r. ⌜ r ≡ placesRefusal settings own arrival numbers written ⌝ }
 {
-    let of_site = site_refusals::arrival_refusal(settings, own, arrival);
-    if of_site != NO_REFUSAL {
-        return of_site;
+    let of_line = site_refusals::line_refusal(settings, own, arrival);
+    if of_line != NO_REFUSAL {
+        return of_line;
     }
-    let free = ((numbers / MESSAGE_WIDTH) as u64) - written;
-    if free < settings::most_messages(settings) {
-        return LOG_TOO_SHORT;
+    if site_refusals::is_draw(arrival) {
+        return log_refusal(settings, numbers, written);
     }
     NO_REFUSAL
 }
 
-// The turn of an arrival that is refused with this number.
-fn refused_turn(number: u32, own: SiteRecord) -> Turn
-    ensures { λ r. ⌜ r ≡ refusedTurn number own ⌝ }
+// The turn of an arrival that leaves its site as it was: refused with this number, or a touch.
+fn left_turn(number: u32, taken: u64, own: SiteRecord) -> Turn
+    ensures { λ r. ⌜ r ≡ leftTurn number taken own ⌝ }
 {
     let out = tracker_queue::empty_queue();
     Turn {
         refusal: number,
-        taken: 0,
+        taken: taken,
         site: own,
         out: out,
     }
 }
 
-// An arrival is refused, or its site takes it. It is handed the one record that changes and hands
-// it back: the records of 32 sites are not copied for an arrival. `own` is that record, `written`
-// the messages written so far, and `numbers` the log's length. Internal: `take_arrival` and
-// `tracker::run_batch` alone call it, after `open_batch` has accepted.
+// An arrival is refused, or its site takes it, or it is a touch and accepted. It is handed the one
+// record that changes and hands it back: the records of 32 sites are not copied for an arrival.
+// `own` is that record, `written` the messages written so far, and `numbers` the log's length.
+// Internal: `take_arrival` and `tracker::run_batch` alone call it, after `open_batch` has accepted.
 pub fn take_turn(
     settings: Settings,
     own: SiteRecord,
@@ -131,23 +146,26 @@ pub fn take_turn(
 {
     let refusal = one_refusal(settings, own, arrival, numbers, written);
     if refusal != NO_REFUSAL {
-        return refused_turn(refusal, own);
+        return left_turn(refusal, 0, own);
     }
-    let observed = tracker_delivery::observe(settings, own, arrival, site_memory);
-    let site = observed.site;
-    let first = observed.first;
-    let second = observed.second;
-    let out = Queue {
-        count: observed.count,
-        first: first,
-        second: second,
-    };
-    Turn {
-        refusal: NO_REFUSAL,
-        taken: 1,
-        site: site,
-        out: out,
+    if site_refusals::is_draw(arrival) {
+        let observed = tracker_delivery::observe(settings, own, arrival, site_memory);
+        let site = observed.site;
+        let first = observed.first;
+        let second = observed.second;
+        let out = Queue {
+            count: observed.count,
+            first: first,
+            second: second,
+        };
+        return Turn {
+            refusal: NO_REFUSAL,
+            taken: 1,
+            site: site,
+            out: out,
+        };
     }
+    left_turn(NO_REFUSAL, 1, own)
 }
 
 // The answer with a turn in it, of the site at this place.

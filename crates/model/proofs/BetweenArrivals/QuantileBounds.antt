@@ -14,7 +14,7 @@ use Rattle.laws.proofs.Arithmetic.{mul-gap}
 use Rattle.model.specs.declared.Settings.{Settings}
 use Rattle.model.specs.declared.Quantile.{Quantile}
 use Rattle.model.specs.declared.Quantile.the-variants.{Nothing, Value}
-use Rattle.model.specs.Limits.{topValue}
+use Rattle.model.specs.Limits.{topValue, leastDrawn}
 use Rattle.model.specs.Reading.{quantileOf}
 use Rattle.model.specs.Runs.{Run}
 use Rattle.model.specs.Claims.{counted, below, above, QuantilePromise, FirmQuantile}
@@ -96,13 +96,13 @@ module _ {settings : Settings} {run : Run} (fit : Settled settings) (ok : RunOk 
         mul-le-mul-right t (ok .few-signals),
       )
 
-  some-arrival : 2 ≤ t → 1 ≤ n
-  some-arrival two = by-count (decLt 0 n)
+  some-base : 2 ≤ t → 1 ≤ base
+  some-base two = by-base (decLt 0 base)
     where
-      by-count : Dec (0 < n) → 1 ≤ n
-      by-count (yes some) = some
-      by-count (no none) =
-          let no-base : base ≡ 0 = omega (arith, base-le) in
+      by-base : Dec (0 < base) → 1 ≤ base
+      by-base (yes some) = some
+      by-base (no none) =
+          let no-base : base ≡ 0 = omega arith in
           absurd (omega (
             arith,
             ap (λ (z : ℕ). e * z) no-base,
@@ -110,11 +110,15 @@ module _ {settings : Settings} {run : Run} (fit : Settled settings) (ok : RunOk 
             mul-le-mul (fit .sites .at-least) two,
           ))
 
+  some-arrival : 2 ≤ t → 1 ≤ n
+  some-arrival two = omega (arith, some-base two, base-le)
+
   -- ---- Both
 
   -- What a value that is answered is worth.
   record ValueOk (value : ℕ) : Type 0 where
     value-known : value ≤ topValue
+    value-drawn : above 0 (run .accepted) ≡ n → leastDrawn ≤ value
     few-below : 3000 * below value (run .accepted) ≤ (3 * q + 2 * e) * n
     few-above : 3000 * above value (run .accepted) ≤ (3000 - 3 * q + 2 * e) * n
     exact-below : t ≡ 1 → 1000 * below value (run .accepted) < q * n
@@ -152,6 +156,25 @@ module _ {settings : Settings} {run : Run} (fit : Settled settings) (ok : RunOk 
           ))
       by-value (no within) = omega arith
 
+  -- Where all arrivals are above 0, none is at or below it, so 0 has not enough of them.
+  positive : (value goal : ℕ) → 1 ≤ goal
+      → 1000 * above value (run .accepted) + goal ≤ 1000 * n
+      → above 0 (run .accepted) ≡ n
+      → leastDrawn ≤ value
+  positive value goal some few all-drawn = by-value (decLt 0 value)
+    where
+      by-value : Dec (0 < value) → leastDrawn ≤ value
+      by-value (yes more) = more
+      by-value (no none) =
+          let at-zero : value ≡ 0 = omega arith in
+          absurd (omega (
+            arith,
+            few,
+            some,
+            all-drawn,
+            ap (λ (v : ℕ). above v (run .accepted)) at-zero,
+          ))
+
   answer-ok : 1 ≤ n → AnswerOk
   answer-ok some = by-threshold (decLt t 2)
     where
@@ -169,6 +192,9 @@ module _ {settings : Settings} {run : Run} (fit : Settled settings) (ok : RunOk 
             is-value = found .is-value;
             value-ok = record {
               value-known = value-of-few-below (found .value) (found .below-low);
+              value-drawn =
+                  positive (found .value) (q * n) (mul-le-mul (fit .rank .at-least) some)
+                  (omega (arith, exact, complement));
               few-below = omega (arith, found .below-low);
               few-above = omega (arith, exact, thrice-complement);
               exact-below = λ one. found .below-low;
@@ -184,6 +210,9 @@ module _ {settings : Settings} {run : Run} (fit : Settled settings) (ok : RunOk 
         is-value = late-answer two;
         value-ok = record {
           value-known = right .value-known;
+          value-drawn =
+              positive (run .network .coordinator .quantile) (q * base)
+              (mul-le-mul (fit .rank .at-least) (some-base two)) (right .few-above);
           few-below =
               omega (
                 arith,
@@ -234,10 +263,11 @@ module _ {settings : Settings} {run : Run} (fit : Settled settings) (ok : RunOk 
       by-count (no none) =
           absurd (value-or-nothing answer value is-value (no-answer (omega arith)))
 
-  -- Firmer than the promise: two thirds of e, and exact at first.
-  pub firm-quantile-of-ok : FirmQuantile settings run
-  firm-quantile-of-ok = record {
+  -- Firmer than the promise: two thirds of e, and exact at first; above 0, where all arrivals are.
+  pub firm-quantile-of-ok : above 0 (run .accepted) ≡ n → FirmQuantile settings run
+  firm-quantile-of-ok all-drawn = record {
     value-known = λ value is-value. omega (arith, answered value is-value .value-known);
+    value-drawn = λ value is-value. answered value is-value .value-drawn all-drawn;
     few-below = λ value is-value. omega (arith, answered value is-value .few-below);
     few-above = λ value is-value. omega (arith, answered value is-value .few-above);
     exact-below = λ value is-value one. omega (arith, answered value is-value .exact-below one);

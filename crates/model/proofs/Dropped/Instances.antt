@@ -1,10 +1,11 @@
 -- The instances of request N1, each by computation.
 use mathlib.Core.Path.{refl}
 use Rattle.model.specs.Limits.{valueCount}
+use Rattle.model.specs.Runs.{isTaken}
 use Rattle.model.specs.DroppedInstances.{DroppedInstances}
 
 pub dropped-instances : DroppedInstances
-unfolding valueCount
+unfolding valueCount isTaken
 dropped-instances = record {
   p5-leaves = refl;
   p5-dropped = refl;

@@ -8,18 +8,17 @@ use mathlib.Core.Bool.{Bool, true, false}
 use mathlib.Core.List.{List, [], _∷_, _++_, append-assoc, append-nil}
 use Prim.Native.Nat.{ℕ, _<_}
 use native.Mathlib.Omega.{arith}
-use borrow.Author.Tests.{eqb-true}
 use Rattle.laws.proofs.Lists.{getD-replicate-default}
 use Rattle.model.specs.declared.Settings.{Settings}
 use Rattle.model.specs.declared.Arrival.{Arrival}
-use Rattle.model.specs.Choice.{isZero}
 use Rattle.model.specs.Refusals.{noRefusal}
 use Rattle.model.specs.Settings.{settingsRefusal}
 use Rattle.model.specs.Site.{Site, freshSite}
 use Rattle.model.specs.Network.{siteAt, afterArrival}
-use Rattle.model.specs.Runs.{refusalIn, Run, freshRun, withArrival, runFrom, runOf}
+use Rattle.model.specs.Runs.{refusalIn, isTaken, Run, freshRun, withArrival, runFrom, runOf}
 use Rattle.model.specs.SoundNetwork.{Sound}
 use Rattle.model.specs.Departures.{Departure, departureOf, departuresFrom, departures, Accounted}
+use Rattle.model.proofs.Touches.DrawLaws.{taken-accepted}
 use Rattle.model.proofs.Soundness.SoundTheorem.{sound-claims}
 use Rattle.model.proofs.Dropped.Reported.{reportedAt-append}
 use Rattle.model.proofs.Dropped.Accounting.{droppedAt-append, countAt-append, moves}
@@ -89,11 +88,11 @@ module _ (settings : Settings) (passes : settingsRefusal settings ≡ noRefusal)
       subst (λ (all : List Departure). RunAccounted settings all run)
       (sym (append-nil departed)) ok
   accounted-from run departed (arrival ∷ arrivals) ok =
-      by-test (isZero (refusalIn settings (run .network) arrival)) refl
+      by-test (isTaken settings (run .network) arrival) refl
       (λ after all then-ok. accounted-from after all arrivals then-ok)
     where
       by-test : (accepts : Bool)
-          → isZero (refusalIn settings (run .network) arrival) ≡ accepts
+          → isTaken settings (run .network) arrival ≡ accepts
           → ((after : Run) (all : List Departure)
           → RunAccounted settings all after
           → RunAccounted settings (all ++ departuresFrom settings after arrivals)
@@ -103,7 +102,7 @@ module _ (settings : Settings) (passes : settingsRefusal settings ≡ noRefusal)
           (runFrom settings run (arrival ∷ arrivals))
       by-test true accepts later =
           let one = departureOf settings (run .network) arrival in
-          let none = eqb-true (refusalIn settings (run .network) arrival) 0 accepts in
+          let none = taken-accepted settings (run .network) arrival accepts in
           rw accepts
           (subst
           (λ (all : List Departure).
@@ -113,7 +112,7 @@ module _ (settings : Settings) (passes : settingsRefusal settings ≡ noRefusal)
           (departuresFrom settings (withArrival settings run arrival) arrivals))
           (later (withArrival settings run arrival) (departed ++ one)
           (accounted-more run departed arrival none ok)))
-      by-test false refused later = rw refused (later run departed ok)
+      by-test false left later = rw left (later run departed ok)
 
   -- After every list of arrivals.
   pub accounted-run : (arrivals : List Arrival)

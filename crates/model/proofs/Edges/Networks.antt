@@ -1,10 +1,11 @@
 -- The network and batches at the edges: the rows of specs/Edges/Networks.antt, each by computation.
 use mathlib.Core.Path.{refl}
 use Rattle.model.specs.Limits.{valueCount}
+use Rattle.model.specs.Runs.{isTaken}
 use Rattle.model.specs.Edges.Networks.{NetworkEdges, BatchEdges}
 
 pub network-memory : NetworkEdges
-unfolding valueCount
+unfolding valueCount isTaken
 network-memory = record {
   at-rest = refl;
   first-site = refl;
@@ -28,7 +29,7 @@ network-memory = record {
 }
 
 pub batches : BatchEdges
-unfolding valueCount
+unfolding valueCount isTaken
 batches = record {
   room-25 = refl;
   room-24 = refl;

@@ -1,10 +1,11 @@
 -- Reading the coordinator at the edges: the rows of specs/Edges/Readings.antt, each by computation.
 use mathlib.Core.Path.{refl}
 use Rattle.model.specs.Limits.{valueCount}
+use Rattle.model.specs.Runs.{isTaken}
 use Rattle.model.specs.Edges.Readings.{ReadingEdges}
 
 pub readings : ReadingEdges
-unfolding valueCount
+unfolding valueCount isTaken
 readings = record {
   three-listed = refl;
   most-800 = refl;
@@ -27,6 +28,6 @@ readings = record {
   later-class = refl;
   later-record = refl;
   none-at-0 = refl;
-  class-0 = refl;
+  class-1 = refl;
   class-1023 = refl;
 }

@@ -1,11 +1,12 @@
 -- Lines and transcripts at the edges: the rows of specs/Edges/Worklists.antt, each by computation.
 use mathlib.Core.Path.{refl}
 use Rattle.model.specs.Limits.{valueCount}
+use Rattle.model.specs.Runs.{isTaken}
 use Rattle.model.specs.Decimal.{decimal}
 use Rattle.model.specs.Edges.Worklists.{LineEdges, ProgramEdges}
 
 pub lines : LineEdges
-unfolding valueCount decimal
+unfolding valueCount decimal isTaken
 lines = record {
   p2 = refl;
   zero-itself = refl;
@@ -36,7 +37,7 @@ lines = record {
 }
 
 pub program : ProgramEdges
-unfolding valueCount decimal
+unfolding valueCount decimal isTaken
 program = record {
   k-4 = refl;
   k-5 = refl;

@@ -1,6 +1,6 @@
 -- The coordinator's numbers stay small, from any sound network through any batch: the claims of
 -- specs/NumberClaims.antt. Growth is counted by all arrivals, and these are bounded.
-use mathlib.Core.Path.{_≡_, refl, ap}
+use mathlib.Core.Path.{_≡_, refl, ap, _∙_}
 use mathlib.Core.Bool.{Bool, true, false}
 use mathlib.Core.List.{List, [], _∷_}
 use Prim.Native.Nat.{ℕ, _+_, _-_}
@@ -12,12 +12,13 @@ use Rattle.model.specs.declared.Arrival.{Arrival}
 use Rattle.model.specs.Choice.{isZero}
 use Rattle.model.specs.Refusals.{noRefusal}
 use Rattle.model.specs.Settings.{settingsRefusal}
-use Rattle.model.specs.Network.{Network, siteAt, Delivered, afterArrival}
+use Rattle.model.specs.Network.{Network, siteAt, Delivered, afterArrival, afterLine}
+use Rattle.model.specs.Draws.{isDraw}
 use Rattle.model.specs.NetworkMemory.{allArrivals}
 use Rattle.model.specs.Runs.{refusalIn, batchRefusal, Batch, batchFrom, batchOf}
 use Rattle.model.specs.SoundNetwork.{Sound}
 use Rattle.model.specs.NumberClaims.{Grown, BatchNumbers, NumberClaims}
-use Rattle.model.proofs.Thresholds.RefusalLaws.{both-accepted}
+use Rattle.model.proofs.Touches.DrawLaws.{batch-takes}
 use Rattle.model.proofs.Thresholds.SettingsLaws.{Settled, settled}
 use Rattle.model.proofs.Deliveries.ArrivalParts.{ArrivalCase, arrival-case, networkThen}
 use Rattle.model.proofs.Deliveries.AfterArrival.{after-arrival}
@@ -98,21 +99,31 @@ module _ (settings : Settings) (room : ℕ) (network : Network)
       refusal =
           batchRefusal settings (batch .network) (room - length (batch .messages)) arrival
 
-      taken : isZero refusal ≡ true → refusalIn settings (batch .network) arrival ≡ noRefusal
-      taken none = both-accepted _ _ (eqb-true refusal 0 none) .first-accepted
+      -- A touch leaves the network as it was.
+      kept-line : refusal ≡ noRefusal → (drawn : Bool) → isDraw arrival ≡ drawn
+          → (next : Batch)
+          → next .network ≡ afterLine settings (batch .network) arrival .network
+          → Kept next
+      kept-line none true is-draw next next-is =
+          let taken = batch-takes settings (batch .network) arrival _ is-draw none .accepted in
+          let is : next .network ≡ afterArrival settings (batch .network) arrival .network =
+          next-is ∙ rw is-draw in
+          record {
+            sound = rw is (sound-claims .arrival-sound settings (batch .network) arrival
+                no-refusal (kept .sound) taken);
+            grown = rw is (grown-more (kept .grown)
+                (arrival-grows settings (batch .network) arrival no-refusal (kept .sound) taken));
+          }
+      kept-line none false no-draw next next-is =
+          let is : next .network ≡ batch .network = next-is ∙ rw no-draw in
+          record { sound = rw is (kept .sound); grown = rw is (kept .grown) }
 
       by-refusal : (none : Bool) → isZero refusal ≡ none
           → ((next : Batch) → Kept next → Kept (batchFrom settings room next arrivals))
           → Kept (batchFrom settings room batch (arrival ∷ arrivals))
       by-refusal true none later =
           rw (none, batchFrom)
-          (later _ (record {
-            sound = sound-claims .arrival-sound settings (batch .network) arrival no-refusal
-                (kept .sound) (taken none);
-            grown = grown-more (kept .grown)
-                (arrival-grows settings (batch .network) arrival no-refusal (kept .sound)
-                (taken none));
-          }))
+          (later _ (kept-line (eqb-true refusal 0 none) (isDraw arrival) refl _ refl))
       by-refusal false some later =
           rw (some, batchFrom) (record { sound = kept .sound; grown = kept .grown })
 

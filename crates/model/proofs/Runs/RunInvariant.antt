@@ -11,14 +11,12 @@ use Prim.Native.Nat.{_+_, _*_, _≤_}
 use native.Mathlib.Nat.{le-div-iff-mul-le}
 use native.Mathlib.Omega.{arith}
 use lib.ListN.{length}
-use borrow.Author.Tests.{eqb-true}
 use Rattle.model.specs.declared.Settings.{Settings}
 use Rattle.model.specs.declared.Arrival.{Arrival}
-use Rattle.model.specs.Choice.{isZero}
 use Rattle.model.specs.Limits.{allowanceFactor}
 use Rattle.model.specs.Settings.{digits}
 use Rattle.model.specs.Network.{siteAt}
-use Rattle.model.specs.Runs.{refusalIn, Run, freshRun, runOne, runFrom, runOf}
+use Rattle.model.specs.Runs.{isTaken, Run, freshRun, runOne, runFrom, runOf}
 use Rattle.model.specs.Claims.{counted, FewMessages, FirmMessages}
 use Rattle.model.proofs.Thresholds.SettingsLaws.{Settled}
 use Rattle.model.proofs.MessageCount.RoundBounds.{messages-firm, messages-few, messages-per-arrival}
@@ -26,21 +24,22 @@ use Rattle.model.proofs.BetweenArrivals.SitesInvariant.{few-pending}
 use Rattle.model.proofs.BetweenArrivals.NetworkInvariant.{network-fresh, known-of-no-refusal}
 use Rattle.model.proofs.BetweenArrivals.NetworkClose.{network-ok-arrival}
 use Rattle.model.proofs.BetweenArrivals.EstimateBounds.{RunOk}
+use Rattle.model.proofs.Touches.DrawLaws.{taken-accepted}
 
 module _ {settings : Settings} (fit : Settled settings) where
-  -- An arrival that is refused changes nothing.
+  -- An arrival that is not taken changes nothing.
   run-ok-one : (run : Run) (arrival : Arrival)
       → RunOk settings run
       → RunOk settings (runOne settings run arrival)
-  run-ok-one run arrival ok = by-refusal (isZero (refusalIn settings (run .network) arrival)) refl
+  run-ok-one run arrival ok = by-test (isTaken settings (run .network) arrival) refl
     where
-      by-refusal : (taken : Bool) → isZero (refusalIn settings (run .network) arrival) ≡ taken
+      by-test : (taken : Bool) → isTaken settings (run .network) arrival ≡ taken
           → RunOk settings (runOne settings run arrival)
-      by-refusal true taken =
+      by-test true taken =
           rw taken (network-ok-arrival fit ok arrival
           (known-of-no-refusal settings (siteAt (run .network) (arrival .site)) arrival
-          (eqb-true _ _ taken)))
-      by-refusal false refused = rw refused ok
+          (taken-accepted settings (run .network) arrival taken)))
+      by-test false left = rw left ok
 
   run-ok-from : (run : Run) (arrivals : List Arrival)
       → RunOk settings run

@@ -1,9 +1,10 @@
--- Runs cut into parts: a run goes on where its front ended, refused arrivals leave no trace, and
--- every front of the accepted arrivals is accepted whole.
+-- Runs cut into parts: a run goes on where its front ended, touches and refused arrivals leave no
+-- trace, and every front of the accepted arrivals is accepted whole.
 --
 --   newlyAccepted settings run arrivals   those of the arrivals that the run accepts, in order
 --   runFrom-append, runFrom-accepted      a run over two lists; a run over what it accepts
 --   Extends, runFrom-extends              what was accepted and sent stays
+--   runFrom-draws, run-drawn              a run over the draws alone; what it accepts are draws
 --   runs-cut                              the claims on cuts, of every list
 use mathlib.Core.Path.{_≡_, refl, sym, ap, _∙_}
 use mathlib.Core.Bool.{Bool, true, false}
@@ -14,20 +15,22 @@ use lib.Seq.{take-append-seam}
 use Rattle.model.specs.declared.Settings.{Settings}
 use Rattle.model.specs.declared.Arrival.{Arrival}
 use Rattle.model.specs.declared.Message.{Message}
-use Rattle.model.specs.Choice.{if_then_else_, isZero}
+use Rattle.model.specs.Choice.{if_then_else_}
+use Rattle.model.specs.Draws.{isDraw, drawsOf}
 use Rattle.model.specs.Network.{afterArrival}
-use Rattle.model.specs.Runs.{refusalIn, Run, freshRun, runOne, runFrom, runOf}
+use Rattle.model.specs.Runs.{isTaken, Run, freshRun, runOne, runFrom, runOf}
 use Rattle.model.specs.Cuts.{Cuts}
+use Rattle.model.proofs.Touches.DrawLaws.{taken-drawn, touch-left, drawsOf-draw, drawsOf-append}
 
--- Whether a run accepts an arrival.
+-- Whether a run accepts an arrival as a draw.
 abbrev accepts : Settings → Run → Arrival → Bool
-accepts settings run arrival = isZero (refusalIn settings (run .network) arrival)
+accepts settings run arrival = isTaken settings (run .network) arrival
 
 -- Those of the arrivals that the run accepts, one after another.
 pub newlyAccepted : Settings → Run → List Arrival → List Arrival
 newlyAccepted settings run [] = []
 newlyAccepted settings run (arrival ∷ arrivals) =
-    (if isZero (refusalIn settings (run .network) arrival) then arrival ∷ [] else [])
+    (if isTaken settings (run .network) arrival then arrival ∷ [] else [])
     ++ newlyAccepted settings (runOne settings run arrival) arrivals
 
 module _ (settings : Settings) where
@@ -175,6 +178,50 @@ module _ (settings : Settings) where
           ∙ ap {B = List Arrival} (λ xs. arrival ∷ xs) front
       by-test false refused front longer = rw refused (rw refused at longer)
 
+  -- ---- Touches
+
+  -- A run over the draws of a list is the run over the list.
+  pub runFrom-draws : (run : Run) (arrivals : List Arrival)
+      → runFrom settings run (drawsOf arrivals) ≡ runFrom settings run arrivals
+  runFrom-draws run [] = refl
+  runFrom-draws run (arrival ∷ arrivals) =
+      by-draw (isDraw arrival) refl (λ next. runFrom-draws next arrivals)
+    where
+      by-draw : (drawn : Bool) → isDraw arrival ≡ drawn
+          → ((next : Run)
+          → runFrom settings next (drawsOf arrivals) ≡ runFrom settings next arrivals)
+          → runFrom settings run (drawsOf (arrival ∷ arrivals))
+          ≡ runFrom settings (runOne settings run arrival) arrivals
+      by-draw true is-draw later = rw is-draw (later (runOne settings run arrival))
+      by-draw false no-draw later =
+          rw (no-draw, touch-left settings (run .network) arrival no-draw) (later run)
+
+  drawn-one : (run : Run) (arrival : Arrival)
+      → drawsOf (run .accepted) ≡ run .accepted
+      → drawsOf (runOne settings run arrival .accepted) ≡ runOne settings run arrival .accepted
+  drawn-one run arrival drawn = by-test (accepts settings run arrival) refl
+    where
+      by-test : (taken : Bool) → accepts settings run arrival ≡ taken
+          → drawsOf (runOne settings run arrival .accepted)
+          ≡ runOne settings run arrival .accepted
+      by-test true taken =
+          let one = drawsOf-draw arrival [] (taken-drawn settings (run .network) arrival taken) in
+          rw taken (drawsOf-append (run .accepted) (arrival ∷ []) ∙ rw (drawn, one))
+      by-test false left = rw left drawn
+
+  drawn-from : (run : Run) (arrivals : List Arrival)
+      → drawsOf (run .accepted) ≡ run .accepted
+      → drawsOf (runFrom settings run arrivals .accepted)
+      ≡ runFrom settings run arrivals .accepted
+  drawn-from run [] drawn = drawn
+  drawn-from run (arrival ∷ arrivals) drawn =
+      drawn-from (runOne settings run arrival) arrivals (drawn-one run arrival drawn)
+
+  -- Whatever a run accepts is a draw.
+  pub run-drawn : (arrivals : List Arrival)
+      → drawsOf (runOf settings arrivals .accepted) ≡ runOf settings arrivals .accepted
+  run-drawn arrivals = drawn-from (freshRun settings) arrivals refl
+
   -- ---- The claims
 
   -- The claims on cuts, of every list of arrivals.
@@ -189,6 +236,8 @@ module _ (settings : Settings) where
         let extends = runFrom-extends (runOf settings arrivals) later in
         rw (runFrom-append (freshRun settings) arrivals later, extends .messages-are)
         (take-append-seam (runOf settings arrivals .messages) (extends .later-messages));
+    touches-change-nothing = runFrom-draws (freshRun settings) arrivals;
+    accepted-drawn = run-drawn arrivals;
     refused-change-nothing =
         ap (runOf settings) (accepted-newly (freshRun settings) arrivals)
         ∙ runFrom-accepted (freshRun settings) arrivals;

@@ -8,7 +8,7 @@ use Rattle.model.specs.declared.Arrival.{Arrival}
 use Rattle.model.specs.Refusals.{noRefusal}
 use Rattle.model.specs.Settings.{settingsRefusal}
 use Rattle.model.specs.Runs.{runOf}
-use Rattle.model.specs.Claims.{Estimates, Tracks, FirmQuantile, ListSize, FewMessages, FirmMessages, AfterEach, DemandsOverRuns}
+use Rattle.model.specs.Claims.{counted, Estimates, Tracks, FirmQuantile, ListSize, FewMessages, FirmMessages, BeforeDraws, AfterEach, DemandsOverRuns}
 use Rattle.model.proofs.Thresholds.SettingsLaws.{Settled, settled}
 use Rattle.model.proofs.BetweenArrivals.EstimateBounds.{RunOk, estimates-of-ok}
 use Rattle.model.proofs.BetweenArrivals.HeavyHitters.{heavy-of-estimates, light-of-estimates}
@@ -17,6 +17,8 @@ use Rattle.model.proofs.Runs.RunInvariant.{run-ok, messages-of-ok, firm
 use Rattle.model.proofs.BetweenArrivals.ListLaws.{list-law}
 use Rattle.model.proofs.BetweenArrivals.ListSize.{list-size-of-estimates}
 use Rattle.model.proofs.Runs.RunLaws.{runs-cut}
+use Rattle.model.proofs.Touches.DrawLaws.{draws-above-zero}
+use Rattle.model.proofs.Touches.BeforeDraws.{before-draws-of}
 
 module _ (settings : Settings) (arrivals : List Arrival)
     (passes : settingsRefusal settings ≡ noRefusal) where
@@ -44,10 +46,18 @@ module _ (settings : Settings) (arrivals : List Arrival)
   firm-messages = firm-messages-of-ok fit holds
 
   firm-quantile : FirmQuantile settings (runOf settings arrivals)
-  firm-quantile = firm-quantile-of-ok fit holds
+  firm-quantile =
+      firm-quantile-of-ok fit holds
+      (draws-above-zero (runOf settings arrivals .accepted)
+      (runs-cut settings arrivals .accepted-drawn))
 
   list-size : ListSize settings (runOf settings arrivals)
   list-size = list-size-of-estimates fit near
+
+  before-draws : counted (runOf settings arrivals .accepted) ≡ 0
+      → BeforeDraws settings (runOf settings arrivals)
+  before-draws none =
+      before-draws-of settings none near few-messages (tracks .quantile-within)
 
 after-each : (settings : Settings) (arrivals : List Arrival) (n : ℕ)
     → settingsRefusal settings ≡ noRefusal
@@ -68,6 +78,7 @@ demands-over-runs = record {
   estimates-near = near;
   list-law = list-law;
   list-size = list-size;
+  before-draws = before-draws;
   cuts = runs-cut;
   after-each = after-each;
 }

@@ -16,13 +16,12 @@ use lib.ListN.{length, getD, set, length-set, length-append}
 use Rattle.model.specs.declared.Settings.{Settings}
 use Rattle.model.specs.declared.Arrival.{Arrival}
 use Rattle.model.specs.declared.Message.{Message}
-use Rattle.model.specs.Choice.{isZero}
 use Rattle.model.specs.Messages.{toCoordinator, isPoll, isProbe}
 use Rattle.model.specs.Counters.{Counter, counterAt, Placement, own, unused, replaced, oneMoreOf, firstOf, replacing, countersAfter, afterReport}
 use Rattle.model.specs.Site.{Site, SiteStep, freshSite, placementIn, placeFor, countersWith, reportsItem, observed, siteReceives}
 use Rattle.model.specs.Coordinator.{isAnnouncing}
 use Rattle.model.specs.Network.{Network, Delivered, siteAt, handToCoordinator, handToSite, deliveryFuel, afterArrival}
-use Rattle.model.specs.Runs.{refusalIn, Run, withArrival, runOne, runFrom}
+use Rattle.model.specs.Runs.{isTaken, Run, withArrival, runOne, runFrom}
 use Rattle.model.specs.DeliveryClaims.{Delivery, delivery, deliveryStep, deliverySteps, deliveryOf}
 use Rattle.model.proofs.Deliveries.DeliveryTheorem.{delivery-claims}
 use Rattle.model.proofs.Numbers.NeverFalls.{either}
@@ -181,7 +180,7 @@ module _ (settings : Settings) where
       → NoFewer (run .network .sites) (runOne settings run arrival .network .sites)
   one-no-fewer run arrival =
       either (λ (after : Run). NoFewer (run .network .sites) (after .network .sites))
-      (isZero (refusalIn settings (run .network) arrival)) (withArrival settings run arrival) run
+      (isTaken settings (run .network) arrival) (withArrival settings run arrival) run
       (arrival-no-fewer (run .network) arrival) (no-fewer-self (run .network .sites))
 
   -- After every list of arrivals, accepted or not.

@@ -64,7 +64,7 @@ pub record ReadingEdges : Type 0 where
   pub later-class : quantileOf settingsA (coordinatorAfter settingsA (draws 6)) ≡ Value 3
   pub later-record : quantileOf settingsP6 (coordinatorAt 2 Idle) ≡ Value 0
   pub none-at-0 : quantileOf settingsP6 (coordinatorAt 1 Idle) ≡ Nothing
-  -- class 0, and class 1023
-  pub class-0 : quantileOf settingsA (coordinatorAfter settingsA (arrivalWith 0 7 0 ∷ [])) ≡ Value 0
+  -- class 1, and class 1023
+  pub class-1 : quantileOf settingsA (coordinatorAfter settingsA (arrivalWith 0 7 1 ∷ [])) ≡ Value 1
   pub class-1023 :
       quantileOf settingsA (coordinatorAfter settingsA (arrivalWith 0 7 1023 ∷ [])) ≡ Value 1023

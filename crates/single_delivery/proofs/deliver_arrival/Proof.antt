@@ -1,18 +1,20 @@
 -- `single_delivery::deliver_arrival` meets its contract: refused by the start test, for a site that
--- there is not, or as an arrival; or delivered.
+-- there is not, or as an arrival; or a touch; or delivered.
 use mathlib.Core.Path.{_≡_, refl, sym, ap, _∙_}
 use mathlib.Core.List.{List}
 use Prim.Native.Nat.{ℕ}
 use native.Mathlib.Omega.{arith}
 use lib.ListN.{length, length-map}
+use borrow.Author.Tests.{not-true, not-false}
 use denote.Ref.{now}
-use Rattle.model.specs.Refusals.{noRefusal}
+use Rattle.model.specs.Refusals.{noRefusal, unknownSite}
 use Rattle.model.proofs.Thresholds.SettingsLaws.{settled}
+use Rattle.model.proofs.Thresholds.RefusalLaws.{told}
 use Rattle.tracker_memory.specs.Contracts.{SitesFit}
 use Rattle.history.specs.State.{heldRefusal, Held, heldBy}
 use Rattle.single_delivery.specs.Delivery.{deliveryRefusal}
 use Rattle.single_delivery.proofs.PassedLaws.{Passed, passed-of, refused-start, refused-unknown, refused-arrival}
-use Rattle.single_delivery.proofs.ArrivalLaws.{refused-says, accepted-says}
+use Rattle.single_delivery.proofs.ArrivalLaws.{left-says, taken-says}
 use borrow.Author.Needs.{needs}
 use Rattle.single_delivery.proofs.deliver_arrival.Statement.{statement}
 use Rattle.single_delivery.proofs.deliver_arrival.Tie as tie
@@ -51,11 +53,14 @@ returns c =
     let start = tested .before .before .before .before .before in
     let test = tested .network-refusal in
     let refused = c .before .if1 .taken in
-    rw (c .refuse .ensures)
-    (refused-says (given start) (given start) _
+    rw (c .leave .ensures)
+    (left-says (given start) (given start) _
     (refused-start (start .args .settings) (given start) (start .args .arrival) (test .result)
     (test .ensures) refused)
-    refused refl refl refl)
+    (λ none. absurd (refused none)) refl refl refl)
+
+five : unknownSite ≡ noRefusal → ⊥
+five none = omega (arith, none)
 
 returns-2 : tie.Need-returns-2
 returns-2 c =
@@ -63,11 +68,11 @@ returns-2 c =
     let start = tested .before .before .before .before .before in
     let test = tested .network-refusal in
     let none = c .before .before .before .before .if1 .left in
-    rw (c .refuse2 .ensures)
-    (refused-says (given start) (given start) _
+    rw (c .leave2 .ensures)
+    (left-says (given start) (given start) _
     (refused-unknown (start .args .settings) (given start) (start .args .arrival)
     (sym (test .ensures) ∙ none) (c .before .if2 .taken))
-    (λ accepts. omega arith) refl refl refl)
+    (λ accepts. absurd (five accepts)) refl refl refl)
 
 begin-requires : tie.Need-begin-requires
 begin-requires c κs =
@@ -104,15 +109,32 @@ returns-3 c =
     let start = beginning .before .before .before .before .before .before .before .before
     .before .before .before in
     let refused = c .before .if3 .taken in
-    rw (c .refuse3 .ensures)
-    (refused-says (given start) _ _ (site-number beginning) refused refl refl
+    rw (c .leave3 .ensures)
+    (left-says (given start) _ _ (site-number beginning) (λ none. absurd (refused none)) refl refl
     (ap (λ (m : List ℕ). heldBy (start .args .sites) (start .args .coordinator) m
     (now (start .args .coordinator-memory)))
-    (beginning .begin .ensures .refused refused)))
+    (beginning .begin .ensures .left (λ none. absurd (refused none)))))
+
+returns-4 : tie.Need-returns-4
+returns-4 c =
+    let tells = c .before .before in
+    let accepting = tells .before in
+    let beginning = accepting .before .before .before .before in
+    let start = beginning .before .before .before .before .before .before .before .before
+    .before .before .before in
+    let no-draw = told (tells .is-draw .ensures)
+    (not-true (tells .is-draw .result) (c .before .if4 .taken)) in
+    rw (c .leave4 .ensures)
+    (left-says (given start) _ _ (sym (accepting .if3 .left) ∙ site-number beginning)
+    (λ _. no-draw) refl refl
+    (ap (λ (m : List ℕ). heldBy (start .args .sites) (start .args .coordinator) m
+    (now (start .args .coordinator-memory)))
+    (beginning .begin .ensures .left (λ _. no-draw))))
 
 deliver-requires : tie.Need-deliver-requires
 deliver-requires c κs =
-    let beginning = c .before .before .before .before .before .before in
+    let accepting = c .before .before .before .before in
+    let beginning = accepting .before .before .before .before in
     let known = beginning .before .before in
     let tested = known .before .before .before .before in
     let start = tested .before .before .before .before .before in
@@ -130,23 +152,27 @@ deliver-requires c κs =
             begun .ensures .left-is,
             settled (start .args .settings) (ok .passes) .sites .at-most,
           );
-      not-refused = c .before .before .if3 .left;
+      not-refused = accepting .if3 .left;
     }
 
-returns-4 : tie.Need-returns-4
-returns-4 c =
+returns-5 : tie.Need-returns-5
+returns-5 c =
     let delivered = c .before .before .before .before in
-    let accepting = delivered .before .before .before in
+    let drawing = delivered .before .before .before in
+    let accepting = drawing .before .before in
     let beginning = accepting .before .before .before .before in
     let known = beginning .before .before in
     let tested = known .before .before .before .before in
     let start = tested .before .before .before .before .before in
     let test = tested .network-refusal in
     let accepts = accepting .if3 .left in
-    accepted-says
+    taken-says
     (passed-start start (test .result) (test .ensures)
     (known .before .before .before .if1 .left))
-    (beginning .begin .ensures) accepts (delivered .deliver .ensures) _ refl
+    (beginning .begin .ensures)
+    (told (drawing .before .is-draw .ensures)
+    (not-false (drawing .before .is-draw .result) (drawing .if4 .left)))
+    accepts (delivered .deliver .ensures) _ refl
     (sym accepts ∙ site-number beginning) refl refl
 
 pub deliver-arrival-spec : {M : Type 1} → statement M
@@ -160,6 +186,8 @@ deliver-arrival-spec =
     begin-requires
     (λ c κs. search needs) (λ c. search needs) (λ c. search needs)
     returns-3
+    (λ c κs. search needs) (λ c κs. search needs) (λ c. search needs) (λ c. search needs)
+    returns-4
     deliver-requires
     (λ c. search needs) (λ c. search needs)
-    returns-4)
+    returns-5)

@@ -14,4 +14,4 @@ observe-refusal-spec =
     (λ c κs. search needs)
     (λ c. end (pass-part _ _ (begin _) refl
     (told (c .before .before .site-memory-refusal .ensures) (c .before .if1 .left)))
-    (c .arrival-refusal .ensures)))
+    (c .line-refusal .ensures)))

@@ -1,6 +1,7 @@
 -- `tracker::run_one` meets its contract: a batch of one arrival.
 use mathlib.Core.List.{List, [], _∷_}
 use Prim.Native.Nat.{ℕ}
+use native.Mathlib.Omega.{arith}
 use Rattle.model.specs.declared.Settings.{Settings}
 use Rattle.model.specs.declared.Arrival.{Arrival}
 use Rattle.model.specs.declared.Sites.{Sites}
@@ -47,7 +48,7 @@ take-arrival-requires c κs =
     let walked = opened-one (a .settings) (a .sites) (a .coordinator) (a .arrival)
     (a .site-memory .now) (a .coordinator-memory .now) (a .log .now) (opens .result) _ _
     (opens .ensures) in
-    walked-asks walked (tested .if1 .left)
+    walked-asks (omega arith) walked (tested .if1 .left)
 
 returns-2 : tie.Need-returns-2
 returns-2 c =
@@ -59,7 +60,8 @@ returns-2 c =
     let walked = opened-one (a .settings) (a .sites) (a .coordinator) (a .arrival)
     (a .site-memory .now) (a .coordinator-memory .now) (a .log .now) (opens .result) _ _
     (opens .ensures) in
-    walked-done (walked-step walked (tested .if1 .left) (takes .take-arrival .ensures))
+    walked-done
+    (walked-step (omega arith) walked (tested .if1 .left) (takes .take-arrival .ensures))
 
 pub run-one-spec : {M : Type 1} → statement M
 run-one-spec =

@@ -20,7 +20,7 @@ returns c =
     record {
       next = λ u.
           holds-delivered (u .batch) (u .arrival) _ _
-          (says .delivers (messages-ask u)) refl (u .accepted-more) refl;
+          (says .delivers (messages-ask u)) (u .is-draw) refl (u .accepted-more) refl;
     }
 
 pub deliver-turn-spec : {M : Type 1} → statement M

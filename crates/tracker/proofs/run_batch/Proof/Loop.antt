@@ -41,8 +41,9 @@ module _ {M : Type 1} (logic : Logic M) (f : Called) (ok : Typed f) (l : Places)
   loops [] i s t w = on i s (ends logic f ok l i s On (past-end t) (walked-done w))
   loops (x ∷ rest) i s t w = by-test (eqb (s .answer .refusal) 0)
       (λ y. let goes-on = eqb-true (s .answer .refusal) 0 y in
-      on i s (takes logic f ok l i s On (within t) y (walked-asks w goes-on)
-      (λ s′ e. loops rest (i + 1) s′ (after t) (walked-step w goes-on
+      on i s (takes logic f ok l i s On (within t) y
+      (walked-asks (ok .arrivals-room .0) w goes-on)
+      (λ s′ e. loops rest (i + 1) s′ (after t) (walked-step (ok .arrivals-room .0) w goes-on
       (subst
       (λ (a : Arrival). OneSays (f .settings) a (heldAt s) (heldAt s′))
       (is-head t) e)))))

@@ -1,0 +1,4 @@
+-- Class 0 is no draw (PROOF.md section 13).
+pub mod DrawLaws
+pub mod BeforeDraws
+pub mod Instances

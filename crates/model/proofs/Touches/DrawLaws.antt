@@ -1,0 +1,284 @@
+-- Draws and touches (request N2): which of the two an arrival is decides what it is refused for,
+-- whether a run takes it, and what a batch does with it.
+--
+--   line-draw, line-touch, line-known   why a line is refused, by which it is; what 5, 6, 7 leave
+--   line-by-address, line-by-room, line-of-touch   the same row by row
+--   taken-drawn, taken-accepted         a taken arrival is a draw that is not refused
+--   takes, touch-left, refused-left     when an arrival is taken, and when not
+--   after-draw, after-touch, line-few   an accepted line with full delivery
+--   BatchTakes, batch-takes             what a batch asks of a draw that it accepts
+--   batch-touch                         why a batch refuses a touch
+--   LineTaken, line-taken               what a run and an accepted line come to, of either kind
+--   drawsOf-append, drawsOf-draw, drawsOf-touch, drawsOf-twice   the draws of a list
+--   draws-above-zero                    all of a list of draws are above class 0
+use mathlib.Core.Path.{_≡_, refl, sym, ap, _∙_}
+use mathlib.Core.Bool.{Bool, true, false, _&&_}
+use mathlib.Core.List.{List, [], _∷_, _++_, append-nil}
+use Prim.Native.Nat.{ℕ, zero, suc, _≤_}
+use native.Mathlib.Omega.{arith}
+use lib.Dec.{ltb}
+use lib.ListN.{length, drop}
+use borrow.Author.Tests.{eqb-true, ne-eqb, ltb-false, lt-ltb, leb-true}
+use Rattle.model.specs.declared.Settings.{Settings}
+use Rattle.model.specs.declared.Arrival.{Arrival}
+use Rattle.model.specs.declared.Phase.the-variants.{Idle}
+use Rattle.model.specs.Refusals.{_orElse_, noRefusal, logTooShort}
+use Rattle.model.specs.Limits.{mostMessages, leastDrawn}
+use Rattle.model.specs.Draws.{isDraw, drawsOf}
+use Rattle.model.specs.Site.{Site, addressRefusal, roomRefusal, arrivalRefusal, lineRefusal}
+use Rattle.model.specs.Network.{Network, asItWas, afterArrival, afterLine}
+use Rattle.model.specs.Runs.{refusalIn, lineRefusalIn, isTaken, Run, runOne, batchRefusal}
+use Rattle.model.specs.Claims.{counted, above}
+use Rattle.model.proofs.Deliveries.DeliveryTheorem.{delivery-claims}
+use Rattle.model.proofs.Thresholds.RefusalLaws.{begin, pass-part, refuse-part, end, both-accepted, passed}
+
+-- ---- Why a line is refused
+
+module _ (settings : Settings) (site : Site) (arrival : Arrival) where
+  pub line-draw : isDraw arrival ≡ true
+      → lineRefusal settings site arrival ≡ arrivalRefusal settings site arrival
+  line-draw is-draw = rw is-draw
+
+  pub line-touch : isDraw arrival ≡ false
+      → lineRefusal settings site arrival ≡ addressRefusal settings arrival
+  line-touch no-draw = rw no-draw
+
+  -- Deck, code and class of an accepted line are known, of a touch too.
+  pub line-known : lineRefusal settings site arrival ≡ noRefusal
+      → addressRefusal settings arrival ≡ noRefusal
+  line-known none = by-draw (isDraw arrival) refl
+    where
+      by-draw : (drawn : Bool) → isDraw arrival ≡ drawn
+          → addressRefusal settings arrival ≡ noRefusal
+      by-draw true is-draw =
+          both-accepted (addressRefusal settings arrival) (roomRefusal site)
+          (rw is-draw at none) .first-accepted
+      by-draw false no-draw = rw no-draw at none
+
+  -- Row by row: 5, 6, 7 of any line, then 8 of a draw.
+  pub line-by-address : (refusal : ℕ)
+      → refusal ≡ addressRefusal settings arrival
+      → (refusal ≡ noRefusal → ⊥)
+      → refusal ≡ lineRefusal settings site arrival
+  line-by-address refusal is refused = by-draw (isDraw arrival) refl
+    where
+      by-draw : (drawn : Bool) → isDraw arrival ≡ drawn
+          → refusal ≡ lineRefusal settings site arrival
+      by-draw true is-draw =
+          refuse-part (addressRefusal settings arrival) (roomRefusal site)
+          (begin (arrivalRefusal settings site arrival)) refl is refused
+          ∙ sym (line-draw is-draw)
+      by-draw false no-draw = is ∙ sym (line-touch no-draw)
+
+  pub line-by-room : addressRefusal settings arrival ≡ noRefusal
+      → isDraw arrival ≡ true
+      → roomRefusal site ≡ lineRefusal settings site arrival
+  line-by-room none is-draw =
+      end (pass-part (addressRefusal settings arrival) (roomRefusal site)
+      (begin (arrivalRefusal settings site arrival)) refl none) refl
+      ∙ sym (line-draw is-draw)
+
+  pub line-of-touch : addressRefusal settings arrival ≡ noRefusal
+      → isDraw arrival ≡ false
+      → noRefusal ≡ lineRefusal settings site arrival
+  line-of-touch none no-draw = sym (line-touch no-draw ∙ none)
+
+-- ---- Whether an arrival is taken
+
+left-of-both : (first second : Bool) → (first && second) ≡ true → first ≡ true
+left-of-both true second both = refl
+left-of-both false second both = both
+
+right-of-both : (first second : Bool) → (first && second) ≡ true → second ≡ true
+right-of-both true second both = both
+right-of-both false true both = refl
+right-of-both false false both = both
+
+module _ (settings : Settings) (network : Network) (arrival : Arrival) where
+  pub taken-drawn : isTaken settings network arrival ≡ true → isDraw arrival ≡ true
+  unfolding isTaken
+  taken-drawn taken = left-of-both (isDraw arrival) _ taken
+
+  pub taken-accepted : isTaken settings network arrival ≡ true
+      → refusalIn settings network arrival ≡ noRefusal
+  unfolding isTaken
+  taken-accepted taken = eqb-true _ 0 (right-of-both (isDraw arrival) _ taken)
+
+  pub takes : isDraw arrival ≡ true
+      → refusalIn settings network arrival ≡ noRefusal
+      → isTaken settings network arrival ≡ true
+  unfolding isTaken
+  takes is-draw none = rw (is-draw, none)
+
+  pub touch-left : isDraw arrival ≡ false → isTaken settings network arrival ≡ false
+  unfolding isTaken
+  touch-left no-draw = rw no-draw
+
+  pub refused-left : (lineRefusalIn settings network arrival ≡ noRefusal → ⊥)
+      → isTaken settings network arrival ≡ false
+  unfolding isTaken
+  refused-left refused = by-draw (isDraw arrival) refl
+    where
+      by-draw : (drawn : Bool) → isDraw arrival ≡ drawn
+          → isTaken settings network arrival ≡ false
+      by-draw true is-draw =
+          rw is-draw (ne-eqb (refusalIn settings network arrival) 0
+          (λ none. refused (rw is-draw none)))
+      by-draw false no-draw = rw no-draw
+
+  -- ---- An accepted line
+
+  pub after-draw : isDraw arrival ≡ true
+      → afterLine settings network arrival ≡ afterArrival settings network arrival
+  after-draw is-draw = rw is-draw
+
+  pub after-touch : isDraw arrival ≡ false
+      → afterLine settings network arrival ≡ asItWas network
+  after-touch no-draw = rw no-draw
+
+  -- It sends no more than a draw does.
+  pub line-few : network .coordinator .phase ≡ Idle
+      → length (afterLine settings network arrival .messages) ≤ mostMessages settings
+  line-few idle = by-draw (isDraw arrival) refl
+    where
+      by-draw : (drawn : Bool) → isDraw arrival ≡ drawn
+          → length (afterLine settings network arrival .messages) ≤ mostMessages settings
+      by-draw true is-draw =
+          rw is-draw (delivery-claims .few-messages settings network arrival idle)
+      by-draw false no-draw = rw no-draw (omega arith)
+
+  -- ---- In a batch
+
+  -- A draw that a batch accepts is not refused, and the log has places for its messages.
+  pub record BatchTakes (free : ℕ) : Type 0 where
+    pub accepted : refusalIn settings network arrival ≡ noRefusal
+    pub enough : mostMessages settings ≤ free
+
+  pub batch-takes : (free : ℕ) → isDraw arrival ≡ true
+      → batchRefusal settings network free arrival ≡ noRefusal
+      → BatchTakes free
+  batch-takes free is-draw none =
+      let chain = both-accepted (refusalIn settings network arrival) _ (rw is-draw at none) in
+      let places = passed (ltb free (mostMessages settings)) logTooShort _ (omega arith)
+      (chain .later-accepted) in
+      record {
+        accepted = chain .first-accepted;
+        enough = ltb-false _ _ (places .test-failed);
+      }
+
+  -- A touch is refused for what it names alone.
+  pub batch-touch : (free : ℕ) → isDraw arrival ≡ false
+      → batchRefusal settings network free arrival ≡ addressRefusal settings arrival
+  batch-touch free no-draw = rw no-draw (nothing-more (addressRefusal settings arrival))
+    where
+      nothing-more : (refusal : ℕ) → (refusal orElse noRefusal) ≡ refusal
+      nothing-more zero = refl
+      nothing-more (suc refusal) = refl
+
+-- ---- An accepted line in a run
+
+-- The run with it has the network and the messages of the line, and the draw, if it is one.
+pub record LineTaken (settings : Settings) (run : Run) (arrival : Arrival) : Type 0 where
+  pub network-is : afterLine settings (run .network) arrival .network
+      ≡ runOne settings run arrival .network
+  pub messages-are : runOne settings run arrival .messages
+      ≡ run .messages ++ afterLine settings (run .network) arrival .messages
+  pub accepted-are : runOne settings run arrival .accepted
+      ≡ run .accepted ++ drawsOf (arrival ∷ [])
+
+pub line-taken : (settings : Settings) (run : Run) (arrival : Arrival)
+    → lineRefusalIn settings (run .network) arrival ≡ noRefusal
+    → LineTaken settings run arrival
+line-taken settings run arrival none = by-draw (isDraw arrival) refl
+  where
+    by-draw : (drawn : Bool) → isDraw arrival ≡ drawn → LineTaken settings run arrival
+    by-draw true is-draw =
+        let taken = takes settings (run .network) arrival is-draw (rw is-draw at none) in
+        record {
+          network-is = rw (is-draw, taken);
+          messages-are = rw (is-draw, taken);
+          accepted-are = rw (is-draw, taken);
+        }
+    by-draw false no-draw =
+        let left = touch-left settings (run .network) arrival no-draw in
+        record {
+          network-is = rw (no-draw, left);
+          messages-are = rw (no-draw, left) (sym (append-nil (run .messages)));
+          accepted-are = rw (no-draw, left) (sym (append-nil (run .accepted)));
+        }
+
+-- ---- The draws of a list
+
+pub drawsOf-draw : (arrival : Arrival) (arrivals : List Arrival)
+    → isDraw arrival ≡ true
+    → drawsOf (arrival ∷ arrivals) ≡ arrival ∷ drawsOf arrivals
+drawsOf-draw arrival arrivals is-draw = rw is-draw
+
+pub drawsOf-touch : (arrival : Arrival) (arrivals : List Arrival)
+    → isDraw arrival ≡ false
+    → drawsOf (arrival ∷ arrivals) ≡ drawsOf arrivals
+drawsOf-touch arrival arrivals no-draw = rw no-draw
+
+pub drawsOf-append : (front later : List Arrival)
+    → drawsOf (front ++ later) ≡ drawsOf front ++ drawsOf later
+drawsOf-append [] later = refl
+drawsOf-append (arrival ∷ front) later =
+    by-draw (isDraw arrival) refl (drawsOf-append front later)
+  where
+    by-draw : (drawn : Bool) → isDraw arrival ≡ drawn
+        → drawsOf (front ++ later) ≡ drawsOf front ++ drawsOf later
+        → drawsOf (arrival ∷ (front ++ later)) ≡ drawsOf (arrival ∷ front) ++ drawsOf later
+    by-draw true is-draw rest = rw is-draw (ap {B = List Arrival} (λ xs. arrival ∷ xs) rest)
+    by-draw false no-draw rest = rw no-draw rest
+
+-- Leaving touches out twice is leaving them out.
+pub drawsOf-twice : (arrivals : List Arrival) → drawsOf (drawsOf arrivals) ≡ drawsOf arrivals
+drawsOf-twice [] = refl
+drawsOf-twice (arrival ∷ arrivals) = by-draw (isDraw arrival) refl (drawsOf-twice arrivals)
+  where
+    by-draw : (drawn : Bool) → isDraw arrival ≡ drawn
+        → drawsOf (drawsOf arrivals) ≡ drawsOf arrivals
+        → drawsOf (drawsOf (arrival ∷ arrivals)) ≡ drawsOf (arrival ∷ arrivals)
+    by-draw true is-draw rest =
+        rw is-draw (drawsOf-draw arrival (drawsOf arrivals) is-draw
+        ∙ ap {B = List Arrival} (λ xs. arrival ∷ xs) rest)
+    by-draw false no-draw rest = rw no-draw rest
+
+tail-drawn : (arrival : Arrival) (arrivals : List Arrival)
+    → drawsOf (arrival ∷ arrivals) ≡ arrival ∷ arrivals
+    → isDraw arrival ≡ true
+    → drawsOf arrivals ≡ arrivals
+tail-drawn arrival arrivals drawn is-draw =
+    ap (λ (xs : List Arrival). drop 1 xs) (sym (drawsOf-draw arrival arrivals is-draw) ∙ drawn)
+
+drawsOf-shorter : (arrivals : List Arrival) → length (drawsOf arrivals) ≤ length arrivals
+drawsOf-shorter [] = omega arith
+drawsOf-shorter (arrival ∷ arrivals) =
+    by-draw (isDraw arrival) refl (drawsOf-shorter arrivals)
+  where
+    by-draw : (drawn : Bool) → isDraw arrival ≡ drawn
+        → length (drawsOf arrivals) ≤ length arrivals
+        → length (drawsOf (arrival ∷ arrivals)) ≤ length (arrival ∷ arrivals)
+    by-draw true is-draw rest = rw is-draw (omega (arith, rest))
+    by-draw false no-draw rest = rw no-draw (omega (arith, rest))
+
+pub draws-above-zero : (arrivals : List Arrival)
+    → drawsOf arrivals ≡ arrivals
+    → above 0 arrivals ≡ counted arrivals
+draws-above-zero [] drawn = refl
+draws-above-zero (arrival ∷ arrivals) drawn =
+    by-draw (isDraw arrival) refl (draws-above-zero arrivals)
+  where
+    by-draw : (is : Bool) → isDraw arrival ≡ is
+        → (drawsOf arrivals ≡ arrivals → above 0 arrivals ≡ counted arrivals)
+        → above 0 (arrival ∷ arrivals) ≡ counted (arrival ∷ arrivals)
+    by-draw true is-draw rest =
+        let more = rest (tail-drawn arrival arrivals drawn is-draw) in
+        rw (lt-ltb 0 (arrival .value) (leb-true leastDrawn (arrival .value) is-draw))
+        (omega (arith, more))
+    by-draw false no-draw rest =
+        absurd (omega (
+          arith,
+          drawsOf-shorter arrivals,
+          ap length (sym (drawsOf-touch arrival arrivals no-draw) ∙ drawn),
+        ))

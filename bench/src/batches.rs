@@ -1,10 +1,10 @@
 //! Arrivals through the batch call: several settings and streams, over whole streams and at several
-//! places of a stream.
+//! places of a stream; and batches of touches.
 
 use std::hint::black_box;
 use std::time::Instant;
 
-use reference::message::Arrival;
+use reference::message::{Arrival, TOUCH};
 
 use crate::networks::{lent, Proved, Reference};
 use crate::streams::{Source, Stream, ALL};
@@ -22,6 +22,8 @@ const SETTINGS: [[u32; 6]; 4] = [
 const BATCH: usize = 1000;
 /// Where in the stream a batch is timed: after so many arrivals.
 const PLACES: [u64; 4] = [0, 100_000, 1_000_000, 10_000_000];
+/// Where in the uniform stream a batch of touches is timed.
+const TOUCHES_AFTER: u64 = PLACES[1];
 /// How often a batch is timed: for about so long, but not less often than this.
 const NANOSECONDS: f64 = 400_000_000.0;
 const ROUNDS: (usize, usize) = (60, 800);
@@ -76,7 +78,7 @@ fn log_places(sites: u32) -> usize {
     30 * BATCH + 2 * (23 * sites as usize + 2)
 }
 
-/// The rows up to a place of the stream.
+/// The rows up to a place of the stream, and a row of touches for each settings.
 pub fn measure(last: u64) {
     println!("| k | c | e | stream | after | messages | proved, ns | reference, ns | ratio |");
     println!("|---|---|---|---|---|---|---|---|---|");
@@ -84,27 +86,52 @@ pub fn measure(last: u64) {
         for (name, stream) in &ALL[..3] {
             measure_stream(settings, name, *stream, last);
         }
+        measure_touches(settings);
     }
 }
 
 fn measure_stream(settings: [u32; 6], name: &str, stream: Stream, last: u64) {
-    let [k, e, _, _, c, _] = settings;
     let mut source = Source::new(stream, settings, 1);
-    let mut network = Reference::start(settings, log_places(k));
+    let mut network = Reference::start(settings, log_places(settings[0]));
     for after in PLACES.into_iter().filter(|&after| after <= last) {
-        while source.sent < after {
-            network.run(&source.take(BATCH));
-        }
+        run_up_to(after, &mut source, &mut network);
         let arrivals = source.take(BATCH);
-        let (times, messages) = measure_batch(&network, &arrivals);
-        let Times { proved, reference } = times;
-        let ratio = proved / reference;
-        println!(
-            "| {k} | {c} | {e} | {name} | {after} | {messages} | {proved:.0} | {reference:.0} \
-             | {ratio:.2} |"
-        );
+        print_row(settings, name, after, &network, &arrivals);
         network.run(&arrivals);
     }
+}
+
+/// A batch of touches, at the sites and of the items that come next in the uniform stream.
+fn measure_touches(settings: [u32; 6]) {
+    let mut source = Source::new(Stream::Uniform, settings, 1);
+    let mut network = Reference::start(settings, log_places(settings[0]));
+    run_up_to(TOUCHES_AFTER, &mut source, &mut network);
+    let mut touches = source.take(BATCH);
+    touches.iter_mut().for_each(|touch| touch.value = TOUCH);
+    print_row(settings, "touches", TOUCHES_AFTER, &network, &touches);
+}
+
+/// The network takes the stream's arrivals up to a place.
+fn run_up_to(place: u64, source: &mut Source, network: &mut Reference) {
+    while source.sent < place {
+        network.run(&source.take(BATCH));
+    }
+}
+
+/// The row of a batch that comes after so many arrivals.
+fn print_row(
+    [k, e, _, _, c, _]: [u32; 6],
+    name: &str,
+    after: u64,
+    network: &Reference,
+    arrivals: &[Arrival],
+) {
+    let (Times { proved, reference }, messages) = measure_batch(network, arrivals);
+    let ratio = proved / reference;
+    println!(
+        "| {k} | {c} | {e} | {name} | {after} | {messages} | {proved:.0} | {reference:.0} \
+         | {ratio:.2} |"
+    );
 }
 
 /// The least time of an arrival in this batch, which both sides take from the same state again and

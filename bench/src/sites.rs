@@ -55,7 +55,8 @@ impl Site {
         if meets == Meets::Unused {
             self.record.used = u64::from(capacity) - 1;
         }
-        Arrival { site: 1, item, value: self.taken % 1024 }
+        // Never a touch.
+        Arrival { site: 1, item, value: 1 + self.taken % 1023 }
     }
 
     /// The arrival on the separate implementation.

@@ -3,7 +3,7 @@
 
 use std::hint::black_box;
 
-use reference::message::Arrival;
+use reference::message::{Arrival, TOUCH};
 use reference::settings::threshold_of;
 use reference::site::SITE_NUMBERS;
 
@@ -24,6 +24,8 @@ enum Meets {
     Replaced,
     /// New items in no order, so that those counters stand anywhere.
     ReplacedAnywhere,
+    /// None: it is a touch.
+    Nothing,
 }
 
 /// Sites with all their counters in use: the items 0 to capacity - 1, with equal counts.
@@ -55,13 +57,16 @@ fn batches(meets: Meets, sites: u32, capacity: u32, count: u32) -> Vec<Vec<Arriv
     let replacing = (4 * capacity).next_multiple_of(count);
     let items: Vec<u32> = match meets {
         // All counters, in no simple order.
-        Meets::Counted => (0..count).map(|number| number.wrapping_mul(7919) % capacity).collect(),
+        Meets::Counted | Meets::Nothing => {
+            (0..count).map(|number| number.wrapping_mul(7919) % capacity).collect()
+        }
         Meets::Unused => (capacity - count..capacity).collect(),
         Meets::Replaced => (capacity..capacity + replacing).collect(),
         Meets::ReplacedAnywhere => shuffled((capacity..capacity + replacing).collect()),
     };
     let arrivals = |(number, &item): (usize, &u32)| {
-        let value = (number as u32).wrapping_mul(389) % 1024;
+        let of_draw = 1 + (number as u32).wrapping_mul(389) % 1023;
+        let value = if meets == Meets::Nothing { TOUCH } else { of_draw };
         (0..sites).map(move |site| Arrival { site, item, value })
     };
     let all: Vec<Arrival> = items.iter().enumerate().flat_map(arrivals).collect();
@@ -145,9 +150,11 @@ pub fn measure(capacity: u32, table: &mut Table) {
         ("unused", Meets::Unused),
         ("replaced, in order", Meets::Replaced),
         ("replaced, anywhere", Meets::ReplacedAnywhere),
+        ("touch", Meets::Nothing),
     ] {
         let count = match meets {
             Meets::Unused => capacity.min(100),
+            Meets::Nothing => 1000,
             _ if capacity > 1000 => 100,
             _ => 1000,
         };

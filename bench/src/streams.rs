@@ -1,11 +1,16 @@
-//! Streams of arrivals: uniform, Zipf, and two that replace a counter at nearly every arrival.
+//! Streams of draws: uniform, Zipf, and two that replace a counter at nearly every arrival. Values
+//! run from 1 to 1023, so that no arrival is a touch.
 
 use reference::message::Arrival;
+use reference::settings::MAX_VALUE;
+
+/// How many values a draw may have.
+const VALUES: u64 = MAX_VALUE as u64;
 
 #[derive(Clone, Copy, Debug, PartialEq)]
 pub enum Stream {
     Uniform,
-    /// Item i comes in proportion to 1 / (i + 1); so do the values.
+    /// Item i comes in proportion to 1 / (i + 1); value v in proportion to 1 / v.
     Zipf,
     /// The items in turn, so that with more items than counters each is a new one.
     EverNew,
@@ -43,7 +48,7 @@ impl Source {
             phi,
             universe,
             items: weights(universe),
-            values: weights(1024),
+            values: weights(VALUES),
             state: seed,
             sent: 0,
             of_item_0: 0,
@@ -58,25 +63,25 @@ impl Source {
     fn next(&mut self) -> Arrival {
         let turn = self.sent % self.sites;
         let in_turn = self.sent / self.sites % self.universe;
-        let (site, item, value) = match self.stream {
+        let (site, item, above_1) = match self.stream {
             Stream::Uniform => {
-                (self.below(self.sites), self.below(self.universe), self.below(1024))
+                (self.below(self.sites), self.below(self.universe), self.below(VALUES))
             }
             Stream::Zipf => {
                 let site = self.below(self.sites);
                 let item = self.below(self.items[self.items.len() - 1]);
-                let value = self.below(self.values[1023]);
+                let value = self.below(self.values[self.values.len() - 1]);
                 (site, place(&self.items, item), place(&self.values, value))
             }
-            Stream::EverNew => (turn, in_turn, self.sent % 1024),
+            Stream::EverNew => (turn, in_turn, self.sent % VALUES),
             Stream::Flood => {
                 let short = 1000 * self.of_item_0 < self.phi * self.sent;
-                (turn, if short { 0 } else { in_turn }, self.sent % 1024)
+                (turn, if short { 0 } else { in_turn }, self.sent % VALUES)
             }
         };
         self.sent += 1;
         self.of_item_0 += u64::from(item == 0);
-        Arrival { site: site as u32, item: item as u32, value: value as u32 }
+        Arrival { site: site as u32, item: item as u32, value: 1 + above_1 as u32 }
     }
 
     /// The generator splitmix64.

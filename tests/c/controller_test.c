@@ -117,6 +117,8 @@ static void line_checks(void) {
     size_t i;
     good_line("0;7;3\n", 0, 7, 3, 6);
     good_line("0;0;0\n", 0, 0, 0, 6);
+    /* Request N2: a line of class 0 is no draw, but a good line. */
+    good_line("0;7;0\n", 0, 7, 0, 6);
     good_line("31;65535;1023\n", 31, 65535, 1023, 14);
     good_line("9999999;9999999;9999999\n", 9999999, 9999999, 9999999, 24);
     good_line("0;7;3\nrubbish", 0, 7, 3, 6);

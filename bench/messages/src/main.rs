@@ -38,7 +38,7 @@ impl Random {
 /// The n-th draw of a stream: all codes alike; codes with frequencies falling as 1 / rank; or one
 /// code at all decks in turn, which makes every deck report it as often as it may.
 fn draw(stream: &str, random: &mut Random, sites: u32, n: u64) -> Arrival {
-    let value = random.below(1024) as u32;
+    let value = 1 + random.below(1023) as u32;
     let site = random.below(u64::from(sites)) as u32;
     let item = match stream {
         "uniform" => random.below(u64::from(UNIVERSE)) as u32,

@@ -1,7 +1,7 @@
 -- The list's chain at the edge: each row by computation.
 use mathlib.Core.Path.{refl}
 use Rattle.model.specs.Limits.{valueCount}
-use Rattle.model.specs.Runs.{isTaken}
+use Rattle.model.specs.Draws.{isTaken}
 use Rattle.coordinator_list.specs.Edges.{ListEdges}
 
 pub list-edges : ListEdges

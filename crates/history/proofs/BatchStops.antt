@@ -21,7 +21,7 @@ use Rattle.model.specs.Settings.{settingsRefusal}
 use Rattle.model.specs.Draws.{isDraw}
 use Rattle.model.specs.Network.{Network, afterLine}
 use Rattle.model.specs.NetworkMemory.{networkTooShort, networkConsistent}
-use Rattle.model.specs.Runs.{Run, lineRefusalIn, isTaken, runOne, runFrom, Batch, batchRefusal, batchFrom, batchOf}
+use Rattle.model.specs.Runs.{Run, lineRefusalIn, isTakenIn, runOne, runFrom, Batch, batchRefusal, batchFrom, batchOf}
 use Rattle.model.proofs.Thresholds.RefusalLaws.{both-accepted}
 use Rattle.model.proofs.Touches.DrawLaws.{refused-left, LineTaken, line-taken}
 use Rattle.tracker.specs.Batch.{BatchCall, startRefusal}
@@ -100,7 +100,7 @@ module _ (settings : Settings) (room : ℕ) where
             no-trace = λ of.
                 let own = rules-refuse (lineRefusalIn settings (batch .network) arrival) _
                 (not-of-log (isDraw arrival) (ltb free (mostMessages settings))) of in
-                let left : isTaken settings (run .network) arrival ≡ false =
+                let left : isTakenIn settings (run .network) arrival ≡ false =
                 refused-left settings (run .network) arrival
                 (λ none. own
                 (ap (λ (network : Network). lineRefusalIn settings network arrival) same

@@ -7,7 +7,7 @@ use mathlib.Core.Path.{refl}
 use native.Mathlib.Omega.{arith}
 use lib.ListN.{replicate}
 use Rattle.model.specs.Limits.{valueCount}
-use Rattle.model.specs.Runs.{isTaken}
+use Rattle.model.specs.Draws.{isTaken}
 use Rattle.model.specs.Instances.{settingsA}
 use Rattle.model.specs.DroppedInstances.{twelveDraws}
 use Rattle.history.specs.Histories.{Reachable}

@@ -15,12 +15,12 @@ use native.Mathlib.Omega.{arith}
 use lib.ListN.{take, replicate}
 use Rattle.model.specs.declared.Phase.the-variants.{Idle, Collecting, Announcing}
 use Rattle.model.specs.Limits.{valueCount}
+use Rattle.model.specs.Draws.{isTaken}
 use Rattle.model.specs.Messages.{noMessage, itemReport, countReport, poll, pollAnswer, announcement}
 use Rattle.model.specs.NetworkMemory.{freshSites}
 use Rattle.model.specs.Instances.{settingsA, arrivalWith, draw}
 use Rattle.model.specs.TouchInstances.{touch}
 use Rattle.site_steps.specs.declared.Observed.{Observed}
-use Rattle.site.specs.Calls.{observeTakes}
 use Rattle.tracker.specs.Batch.{messageNumbers}
 use Rattle.history.specs.Histories.{Arrives, batch, single, Delivers, to-coordinator, to-site, next-announcement, Refuses, arrival-left, coordinator-message-refused, batch-takes-none, Reachable, started}
 use Rattle.history.specs.State.{fronts, lending}
@@ -55,7 +55,7 @@ begins =
 -- ---- A refused draw: item 10 is none, 6
 
 unfoldable pub draw-refused : Refuses startedState startedState
-unfolding valueCount observeTakes
+unfolding valueCount isTaken
 draw-refused =
     arrival-left settingsA 0 (arrivalWith 0 10 3) 0 1050 (siteNumbers 0)
     (drawAnswer 6 0)
@@ -72,7 +72,7 @@ draw-refused =
 -- ---- The draw of P2, on a part that reaches past the site's own numbers
 
 unfoldable pub draw-accepted : Arrives settingsA startedState afterDraw
-unfolding valueCount observeTakes
+unfolding valueCount isTaken
 draw-accepted =
     single draw 1050 (siteNumbers 1)
     (record {
@@ -138,7 +138,7 @@ slice-refused =
 
 -- A draw that names no site, given to site 0: 5.
 unfoldable pub draw-refused-underway : Refuses afterItemReport afterItemReport
-unfolding valueCount observeTakes
+unfolding valueCount isTaken
 draw-refused-underway =
     arrival-left settingsA 0 (arrivalWith 1 7 3) 0 1048 (take 1048 (siteNumbers 1))
     (drawAnswer 5 1)
@@ -154,7 +154,7 @@ draw-refused-underway =
 
 -- A touch, which is accepted and changes nothing.
 unfoldable pub touch-underway : Refuses afterItemReport afterItemReport
-unfolding valueCount observeTakes
+unfolding valueCount isTaken
 touch-underway =
     arrival-left settingsA 0 touch 0 1048 (take 1048 (siteNumbers 1))
     (drawAnswer 0 1)

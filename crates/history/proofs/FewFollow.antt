@@ -13,7 +13,7 @@ use Rattle.model.specs.declared.Arrival.{Arrival}
 use Rattle.model.specs.Refusals.{noRefusal}
 use Rattle.model.specs.Settings.{settingsRefusal}
 use Rattle.model.specs.Network.{afterArrival}
-use Rattle.model.specs.Runs.{withArrival, isTaken, runOne, runOf}
+use Rattle.model.specs.Runs.{withArrival, isTakenIn, runOne, runOf}
 use Rattle.model.proofs.Deliveries.DeliveryTheorem.{delivery-claims}
 use Rattle.model.proofs.Runs.RunLaws.{runFrom-append}
 use Rattle.model.proofs.Numbers.NeverFalls.{either}
@@ -34,7 +34,7 @@ module _ (settings : Settings) (passes : settingsRefusal settings ≡ noRefusal)
       let sent = afterArrival settings (run .network) arrival .messages in
       let few = delivery-claims .few-messages settings (run .network) arrival
       (demands-over-runs .tracks settings arrivals passes .at-rest) in
-      either (FewFollow settings run) (isTaken settings (run .network) arrival)
+      either (FewFollow settings run) (isTakenIn settings (run .network) arrival)
       (withArrival settings run arrival) run
       (record {
         messages-stay = take-append-seam (run .messages) sent;

@@ -8,7 +8,7 @@ use Prim.Native.Nat.{ℕ, _+_, _-_, _*_}
 use native.Mathlib.Omega.{arith}
 use lib.ListN.{replicate}
 use Rattle.model.specs.Limits.{valueCount}
-use Rattle.model.specs.Runs.{isTaken}
+use Rattle.model.specs.Draws.{isTaken}
 use Rattle.model.specs.Claims.{counted}
 use Rattle.model.specs.Instances.{settingsA}
 use Rattle.model.proofs.Thresholds.SettingsLaws.{settled}

@@ -117,9 +117,7 @@ module _ {settings : Settings} (passes : settingsRefusal settings ≡ noRefusal)
       run-then =
           ap (runOf settings) (mid .accepted-are)
           ∙ runFrom-append settings _ (mid .front) (mid .arrival ∷ [])
-          ∙ rw
-          (takes settings (before .network) (mid .arrival) (mid .is-draw)
-          (mid .underway .taken))
+          ∙ rw (takes (mid .arrival) _ (mid .is-draw) (mid .underway .taken))
 
       accepted-then : runOf settings (state .accepted) .accepted ≡ state .accepted
       accepted-then =

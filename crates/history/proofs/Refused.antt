@@ -3,23 +3,18 @@
 -- not.
 --
 --   part-same        a part of a memory put back as it was
---   not-taken        an arrival that is refused or a touch
 --   refused-same     the state after such a call
 use mathlib.Core.Path.{_≡_, refl, sym, ap, _∙_}
 use mathlib.Core.Bool.{false}
 use mathlib.Core.List.{List, _++_}
 use Prim.Native.Nat.{ℕ, _+_}
-use native.Mathlib.Decide.{ℕ-discrete}
 use lib.ListN.{set, take, drop, take-append-drop}
 use lib.Seq.{set-getD, drop-drop}
-use Rattle.model.specs.declared.Settings.{Settings}
-use Rattle.model.specs.declared.Arrival.{Arrival}
 use Rattle.model.specs.declared.SiteRecord.{SiteRecord}
 use Rattle.model.specs.declared.CoordinatorRecord.{CoordinatorRecord}
 use Rattle.model.specs.Refusals.{noRefusal}
-use Rattle.model.specs.Draws.{isDraw}
 use Rattle.site.specs.Calls as SiteCalls
-use Rattle.site.proofs.CallLaws.{touch-left, refused-left}
+use Rattle.model.proofs.Touches.DrawLaws.{not-taken}
 use Rattle.coordinator.specs.Calls as CoordinatorCalls
 use Rattle.history.specs.State.{Held, State, recordAt, partOf, coordinatorPart, lending, withPart, afterSiteCall, afterCoordinatorCall, holding, noRecord}
 use Rattle.history.specs.Histories.{afterBatch, Refuses, arrival-left, site-message-refused, coordinator-message-refused, announcement-refused, batch-takes-none}
@@ -66,28 +61,13 @@ module _ (held : Held) where
 
 -- ---- Each call
 
--- An arrival that is refused or a touch is not taken.
-pub not-taken : (settings : Settings) (own : SiteRecord) (arrival : Arrival) (lent : List ℕ)
-    {refusal : ℕ}
-    → refusal ≡ SiteCalls.observeRefusal settings own arrival lent
-    → (refusal ≡ noRefusal → isDraw arrival ≡ false)
-    → SiteCalls.observeTakes settings own arrival lent ≡ false
-not-taken settings own arrival lent {refusal} refusal-is touches =
-    by-refusal (ℕ-discrete refusal 0)
-  where
-    by-refusal : Dec (refusal ≡ 0) → SiteCalls.observeTakes settings own arrival lent ≡ false
-    by-refusal (yes none) = touch-left settings own arrival lent (touches none)
-    by-refusal (no some) =
-        refused-left settings own arrival lent (λ none. some (refusal-is ∙ none))
-
 -- Call by call: the contract hands back what was given.
 pub refused-same : (before after : State) → Refuses before after → after ≡ before
 refused-same before after
     (arrival-left given which arrival start words part answer says touches) =
-    let own = recordAt (before .held) which in
-    let lent = partOf (before .held) start words in
-    let left : SiteCalls.observeTakes given own arrival lent ≡ false =
-    not-taken given own arrival lent (says .refusal) touches in
+    let left : SiteCalls.observeTakes given (recordAt (before .held) which) arrival
+    (partOf (before .held) start words) ≡ false =
+    not-taken arrival _ (λ none. touches (says .refusal ∙ none)) in
     ap (holding before)
     (site-same (before .held) which (answer .site)
     (withPart (before .held .siteMemory) start words part)

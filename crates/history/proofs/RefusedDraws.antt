@@ -24,7 +24,7 @@ use Rattle.model.specs.Draws.{isDraw, drawsOf}
 use Rattle.model.specs.Site.{addressRefusal, lineRefusal}
 use Rattle.model.specs.SiteMemory.{siteWords}
 use Rattle.model.specs.Network.{Network, siteAt}
-use Rattle.model.specs.Runs.{Run, withArrival, isTaken, runOne, runFrom, runOf, Batch, batchOf}
+use Rattle.model.specs.Runs.{Run, withArrival, isTakenIn, runOne, runFrom, runOf, Batch, batchOf}
 use Rattle.model.proofs.Runs.RunLaws.{runFrom-draws}
 use Rattle.model.proofs.Touches.DrawLaws.{line-known, touch-left, refused-left, drawsOf-draw, drawsOf-touch}
 use Rattle.model.proofs.Soundness.ConsistentNetwork.{passes-of}
@@ -55,13 +55,13 @@ module _ {settings : Settings} (passes : settingsRefusal settings ≡ noRefusal)
 
   -- An arrival that the rules do not take leaves no trace.
   no-trace : (arrival : Arrival)
-      → isTaken settings (run .network) arrival ≡ false
+      → isTakenIn settings (run .network) arrival ≡ false
       → runFrom settings run (arrival ∷ []) ≡ run
   no-trace arrival left = rw left
 
   -- And so does one that the network that is held does not take, in mid-delivery too.
   no-trace-held : (arrival : Arrival)
-      → isTaken settings (networkOf settings held) arrival ≡ false
+      → isTakenIn settings (networkOf settings held) arrival ≡ false
       → runFrom settings run (arrival ∷ []) ≡ run
   no-trace-held arrival left =
       no-trace arrival (sym (taken-same passes (ok .standing) arrival) ∙ left)
@@ -76,7 +76,7 @@ module _ {settings : Settings} (passes : settingsRefusal settings ≡ noRefusal)
       → isDraw arrival ≡ false
       → runFrom settings run (arrival ∷ []) ≡ run
   touch-no-trace arrival no-draw =
-      no-trace arrival (touch-left settings (run .network) arrival no-draw)
+      no-trace arrival (touch-left arrival _ no-draw)
 
   module _ (which : ℕ) (arrival : Arrival) (words : ℕ) (part : List ℕ) (answer : Observed)
       (known : which < settings .sites)
@@ -182,11 +182,11 @@ module _ {settings : Settings} (passes : settingsRefusal settings ≡ noRefusal)
   -- An arrival that leaves no trace there was not taken.
   left-there : (arrival : Arrival)
       → runOne settings there arrival ≡ there
-      → isTaken settings (networkOf settings held) arrival ≡ false
-  left-there arrival alone = by-test (isTaken settings (networkOf settings held) arrival) refl
+      → isTakenIn settings (networkOf settings held) arrival ≡ false
+  left-there arrival alone = by-test (isTakenIn settings (networkOf settings held) arrival) refl
     where
-      by-test : (taken : Bool) → isTaken settings (networkOf settings held) arrival ≡ taken
-          → isTaken settings (networkOf settings held) arrival ≡ false
+      by-test : (taken : Bool) → isTakenIn settings (networkOf settings held) arrival ≡ taken
+          → isTakenIn settings (networkOf settings held) arrival ≡ false
       by-test true taken =
           let one : runOne settings there arrival ≡ withArrival settings there arrival =
           rw taken in
@@ -219,7 +219,7 @@ module _ {settings : Settings} (passes : settingsRefusal settings ≡ noRefusal)
       by-draw false no-draw later =
           let here : runOne settings run arrival ≡ run = touch-no-trace arrival no-draw in
           let gone : runOne settings there arrival ≡ there =
-          rw (touch-left settings (networkOf settings held) arrival no-draw) in
+          rw (touch-left arrival _ no-draw) in
           ap (λ (r : Run). runFrom settings r (take (suc m) arrivals)) here
           ∙ later (sym (drawsOf-touch arrival (take m arrivals) no-draw) ∙ no-draws)
           (ap (λ (r : Run). runFrom settings r (take (suc m) arrivals)) (sym gone)

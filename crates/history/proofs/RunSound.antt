@@ -21,7 +21,7 @@ use Rattle.model.specs.Settings.{settingsRefusal}
 use Rattle.model.specs.Site.{freshSite}
 use Rattle.model.specs.Network.{Network, freshNetwork}
 use Rattle.model.specs.NetworkMemory.{allArrivals}
-use Rattle.model.specs.Runs.{isTaken, Run, freshRun, runOne, runFrom, runOf}
+use Rattle.model.specs.Runs.{isTakenIn, Run, freshRun, runOne, runFrom, runOf}
 use Rattle.model.specs.SoundNetwork.{Sound}
 use Rattle.model.specs.NumberClaims.{allUnreported, Grown}
 use Rattle.model.proofs.Thresholds.SettingsLaws.{Settled, settled}
@@ -47,12 +47,12 @@ module _ (settings : Settings) (passes : settingsRefusal settings ≡ noRefusal)
       → SoundRun settings (run .network)
       → SoundRun settings (runOne settings run arrival .network)
   sound-run-one run arrival ok =
-      by-test (isTaken settings (run .network) arrival) refl
+      by-test (isTakenIn settings (run .network) arrival) refl
     where
-      by-test : (taken : Bool) → isTaken settings (run .network) arrival ≡ taken
+      by-test : (taken : Bool) → isTakenIn settings (run .network) arrival ≡ taken
           → SoundRun settings (runOne settings run arrival .network)
       by-test true taken =
-          let none = taken-accepted settings (run .network) arrival taken in
+          let none = taken-accepted arrival _ taken in
           rw taken (record {
             sound = sound-claims .arrival-sound settings (run .network) arrival passes
                 (ok .sound) none;

@@ -21,7 +21,7 @@ use Rattle.model.specs.SiteMemory.{siteWords, siteIn, siteRecord, siteMemory, s
 use Rattle.model.specs.Network.{Network, siteAt, withSite}
 use Rattle.model.specs.Draws.{isDraw}
 use Rattle.model.specs.Runs.{runOf}
-use Rattle.model.proofs.Touches.DrawLaws.{line-draw}
+use Rattle.model.proofs.Touches.DrawLaws.{line-draw, takes}
 use Rattle.model.specs.SoundNetwork.{SoundSite}
 use Rattle.model.specs.DeliveryClaims.{delivery, deliveryOf}
 use Rattle.model.specs.SoundClaims.{Reached, begun}
@@ -29,7 +29,6 @@ use Rattle.model.proofs.Thresholds.RefusalLaws.{BothAccepted, both-accepted}
 use Rattle.model.proofs.Thresholds.SettingsLaws.{settled}
 use Rattle.model.proofs.Soundness.SoundSites.{ArrivalTaken, taken-of-no-refusal, sound-observed}
 use Rattle.site_memory.proofs.OneSite.{Storable, storable}
-use Rattle.site.proofs.CallLaws.{observe-takes}
 use Rattle.site_steps.specs.declared.Observed.{Observed}
 use Rattle.site.specs.Calls as SiteCalls
 use Rattle.history.specs.State.{Held, State, AtRest, networkOf, recordAt, siteStart, sitePart, withPart, afterSiteCall}
@@ -78,7 +77,7 @@ module _ {settings : Settings} (passes : settingsRefusal settings ≡ noRefusal)
       ∙ parts .later-accepted
 
   taken : SiteCalls.observeTakes settings numbers arrival given ≡ true
-  taken = observe-takes settings numbers arrival given is-draw none
+  taken = takes arrival _ is-draw none
 
   -- The part that was lent is long enough, as the call accepts it.
   pub long : siteWords settings ≤ length given

@@ -5,19 +5,17 @@
 --   refusal-same     why a draw is refused
 --   taken-same       whether an arrival is taken
 use mathlib.Core.Path.{_≡_, ap}
-use mathlib.Core.Bool.{_&&_}
 use Prim.Native.Nat.{ℕ}
 use lib.Dec.{leb}
 use Rattle.model.specs.declared.Settings.{Settings}
 use Rattle.model.specs.declared.Arrival.{Arrival}
-use Rattle.model.specs.Choice.{isZero}
 use Rattle.model.specs.Refusals.{when, _orElse_, noRefusal, siteFull}
 use Rattle.model.specs.Limits.{siteLimit}
 use Rattle.model.specs.Settings.{settingsRefusal}
-use Rattle.model.specs.Draws.{isDraw}
+use Rattle.model.specs.Draws.{isTaken}
 use Rattle.model.specs.Site.{addressRefusal, arrivalRefusal}
 use Rattle.model.specs.Network.{siteAt}
-use Rattle.model.specs.Runs.{isTaken, runOf}
+use Rattle.model.specs.Runs.{isTakenIn, runOf}
 use Rattle.model.proofs.Soundness.NeverFewer.{arrivals-kept}
 use Rattle.history.specs.State.{State, networkOf}
 use Rattle.history.proofs.Invariant.{Standing}
@@ -41,9 +39,7 @@ module _ {settings : Settings} (passes : settingsRefusal settings ≡ noRefusal)
     -- So the run takes what the network that is held takes.
     pub taken-same : Standing settings n state
         → (arrival : Arrival)
-        → isTaken settings (networkOf settings (state .held)) arrival
-        ≡ isTaken settings (runOf settings (state .accepted) .network) arrival
-    unfolding isTaken
+        → isTakenIn settings (networkOf settings (state .held)) arrival
+        ≡ isTakenIn settings (runOf settings (state .accepted) .network) arrival
     taken-same standing arrival =
-        ap (λ (refusal : ℕ). isDraw arrival && isZero refusal)
-        (refusal-same standing (arrival .site) arrival)
+        ap (isTaken arrival) (refusal-same standing (arrival .site) arrival)

@@ -1,7 +1,7 @@
 -- Document 01's instances hold of the definitions: each field by computation.
 use mathlib.Core.Path.{refl}
 use Rattle.model.specs.Limits.{valueCount}
-use Rattle.model.specs.Runs.{isTaken}
+use Rattle.model.specs.Draws.{isTaken}
 use Rattle.model.specs.Decimal.{decimal}
 use Rattle.model.specs.Instances.{Instances}
 

@@ -29,7 +29,7 @@ use Rattle.model.specs.Counters.{unreportedIn}
 use Rattle.model.specs.Site.{Site, SiteStep, arrivalRefusal, leavingFor, observed, siteReceives}
 use Rattle.model.specs.SiteMemory.{siteIn, siteMemoryRefusal}
 use Rattle.model.specs.Network.{Network, siteAt}
-use Rattle.model.specs.Runs.{isTaken, Run, freshRun, runOne, runOf}
+use Rattle.model.specs.Runs.{isTakenIn, Run, freshRun, runOne, runOf}
 use Rattle.model.specs.Claims.{oneIf}
 
 -- ---- The history of replacements
@@ -55,7 +55,7 @@ departureOf settings network arrival =
 abbrev pub departuresFrom : Settings → Run → List Arrival → List Departure
 departuresFrom settings run [] = []
 departuresFrom settings run (arrival ∷ arrivals) =
-    (if isTaken settings (run .network) arrival
+    (if isTakenIn settings (run .network) arrival
     then departureOf settings (run .network) arrival
     else [])
     ++ departuresFrom settings (runOne settings run arrival) arrivals

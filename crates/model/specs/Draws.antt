@@ -3,11 +3,13 @@
 --
 --   isDraw arrival        whether it is one of class 1 or more
 --   drawsOf arrivals      those of a list that are, in order
-use mathlib.Core.Bool.{Bool}
+--   isTaken arrival refusal    whether it is taken: a draw that is not refused
+use mathlib.Core.Bool.{Bool, _&&_}
 use mathlib.Core.List.{List, [], _∷_}
+use Prim.Native.Nat.{ℕ}
 use lib.Dec.{leb}
 use Rattle.model.specs.declared.Arrival.{Arrival}
-use Rattle.model.specs.Choice.{if_then_else_}
+use Rattle.model.specs.Choice.{if_then_else_, isZero}
 use Rattle.model.specs.Limits.{leastDrawn}
 
 -- "draws of class 1 or more"
@@ -19,3 +21,9 @@ abbrev pub drawsOf : List Arrival → List Arrival
 drawsOf [] = []
 drawsOf (arrival ∷ arrivals) =
     if isDraw arrival then arrival ∷ drawsOf arrivals else drawsOf arrivals
+
+-- By the number that it is answered, 0 where it is accepted: a draw that is not refused is taken.
+-- All else leaves everything as it was; a touch is "accepted with no change and no message". The
+-- test stays shut, so that proofs speak of it whole; `isTaken` opens it.
+unfoldable pub isTaken : Arrival → ℕ → Bool
+isTaken arrival refusal = isDraw arrival && isZero refusal

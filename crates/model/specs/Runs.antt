@@ -1,12 +1,12 @@
 -- Lists of arrivals taken in order, each with full delivery, and batches that stop at a refusal.
 --
 --   refusalIn, lineRefusalIn           why a network refuses a draw; why it refuses a line
---   isTaken settings network arrival   whether it takes it: a draw that is not refused
+--   isTakenIn settings network arrival     whether it takes it: a draw that is not refused
 --   runOf settings arrivals            from a fresh network; touches and refused arrivals change
 --                                      nothing
 --   logRefusal, batchRefusal           why a batch refuses a draw for its log, and any line
 --   batchOf settings room network arrivals   the batch call with a log of so many places
-use mathlib.Core.Bool.{Bool, true, false, _&&_}
+use mathlib.Core.Bool.{Bool, true, false}
 use mathlib.Core.List.{List, [], _∷_, _++_}
 use Prim.Native.Nat.{ℕ, _+_, _-_}
 use lib.Dec.{ltb}
@@ -17,7 +17,7 @@ use Rattle.model.specs.declared.Message.{Message}
 use Rattle.model.specs.Choice.{if_then_else_, isZero}
 use Rattle.model.specs.Refusals.{when, _orElse_, noRefusal, logTooShort}
 use Rattle.model.specs.Limits.{mostMessages}
-use Rattle.model.specs.Draws.{isDraw}
+use Rattle.model.specs.Draws.{isDraw, isTaken}
 use Rattle.model.specs.Site.{arrivalRefusal, lineRefusal}
 use Rattle.model.specs.Network.{Network, freshNetwork, siteAt, afterArrival, afterLine}
 
@@ -34,9 +34,8 @@ lineRefusalIn settings network arrival =
 -- ---- Runs
 
 -- A draw that is not refused is taken. All else, a touch too, leaves the network as it was.
-unfoldable pub isTaken : Settings → Network → Arrival → Bool
-isTaken settings network arrival =
-    isDraw arrival && isZero (refusalIn settings network arrival)
+abbrev pub isTakenIn : Settings → Network → Arrival → Bool
+isTakenIn settings network arrival = isTaken arrival (refusalIn settings network arrival)
 
 -- A run keeps the network, the draws accepted in order, and all messages in order.
 pub record Run : Type 0 where
@@ -58,7 +57,7 @@ withArrival settings run arrival =
 
 abbrev pub runOne : Settings → Run → Arrival → Run
 runOne settings run arrival =
-    if isTaken settings (run .network) arrival
+    if isTakenIn settings (run .network) arrival
     then withArrival settings run arrival
     else run
 

@@ -1,27 +1,25 @@
 -- An arrival with full delivery by the public calls: the promise, from what its parts promise.
 --
---   takes, not-taken   whether the arrival is taken
 --   left-says          the arrival is refused, or a touch
 --   Delivers-it        what the parts of the code did
 --   taken-says         the draw is accepted, and delivered
 use mathlib.Core.Path.{_≡_, refl, sym, ap, _∙_, subst}
-use mathlib.Core.Bool.{Bool, true, false, false≢true, _&&_}
+use mathlib.Core.Bool.{true, false, false≢true}
 use mathlib.Core.List.{List, [], _++_}
 use Prim.Native.Nat.{ℕ, _+_}
 use native.Mathlib.Omega.{arith}
 use lib.ListN.{length, length-append}
-use borrow.Author.Tests.{eq-eqb, ne-eqb}
 use Rattle.model.specs.declared.Settings.{Settings}
 use Rattle.model.specs.declared.Arrival.{Arrival}
 use Rattle.model.specs.declared.Sites.{Sites}
 use Rattle.model.specs.declared.CoordinatorRecord.{CoordinatorRecord}
 use Rattle.model.specs.Refusals.{_orElse_, noRefusal}
-use Rattle.model.specs.Choice.{isZero}
 use Rattle.model.specs.Draws.{isDraw}
 use Rattle.model.specs.Network.{Network}
 use Rattle.model.specs.Runs.{lineRefusalIn, runOf}
 use Rattle.history.specs.State.{heldRefusal, Held, State, AtRest, networkOf, networkWritten, heldBy}
 use Rattle.history.specs.Histories.{afterSingle, Reachable, stepped, arrives, single}
+use Rattle.model.proofs.Touches.DrawLaws.{takes, not-taken}
 use Rattle.history.proofs.Answers.{taken-choice, left-choice}
 use Rattle.history.proofs.SingleState.{begins}
 use Rattle.history.proofs.Theorem.{demands}
@@ -30,7 +28,7 @@ use Rattle.single_delivery.specs.declared.Progress.{Progress}
 use Rattle.single_delivery.specs.declared.DeliveryAnswer.{DeliveryAnswer}
 use Rattle.single_delivery.specs.Steps.{Came, DeliverByCallsSays}
 use Rattle.single_delivery.specs.Arriving.{DeliveryBegun, BeginDeliverySays}
-use Rattle.single_delivery.specs.Delivery.{deliveryRefusal, deliveryTakes, deliveryIn, HistoryGoesOn, ArrivalDelivered, DeliverySays}
+use Rattle.single_delivery.specs.Delivery.{deliveryRefusal, deliveryIn, HistoryGoesOn, ArrivalDelivered, DeliverySays}
 use Rattle.single_delivery.proofs.EndLaws.{AtEnd, at-end}
 use Rattle.single_delivery.proofs.RestLaws.{Ended}
 use Rattle.single_delivery.proofs.OutcomeLaws.{outcome-of}
@@ -56,35 +54,6 @@ by-rules-of {settings} arrival given refusal refusal-is before held-is at-rest r
     ∙ ap (λ (start : ℕ). start orElse lineRefusalIn settings (networkOf settings given) arrival)
     none
 
--- ---- Whether it is taken
-
-takes : (settings : Settings) (given : Held) (arrival : Arrival)
-    → isDraw arrival ≡ true
-    → deliveryRefusal settings given arrival ≡ noRefusal
-    → deliveryTakes settings given arrival ≡ true
-unfolding deliveryTakes
-takes settings given arrival is-draw none = both (isDraw arrival) is-draw
-  where
-    both : (drawn : Bool) → drawn ≡ true
-        → (drawn && isZero (deliveryRefusal settings given arrival)) ≡ true
-    both true is = eq-eqb (deliveryRefusal settings given arrival) 0 none
-    both false is = is
-
--- Refused, or a touch, it is not.
-not-taken : (settings : Settings) (given : Held) (arrival : Arrival)
-    → (deliveryRefusal settings given arrival ≡ noRefusal → isDraw arrival ≡ false)
-    → deliveryTakes settings given arrival ≡ false
-unfolding deliveryTakes
-not-taken settings given arrival touches = by-draw (isDraw arrival) touches
-  where
-    by-draw : (drawn : Bool)
-        → (deliveryRefusal settings given arrival ≡ noRefusal → drawn ≡ false)
-        → (drawn && isZero (deliveryRefusal settings given arrival)) ≡ false
-    by-draw true touch =
-        ne-eqb (deliveryRefusal settings given arrival) 0
-        (λ none. false≢true (sym (touch none)))
-    by-draw false touch = refl
-
 -- ---- Refused, or a touch
 
 pub left-says : {settings : Settings} {arrival : Arrival} (given left : Held)
@@ -96,7 +65,7 @@ pub left-says : {settings : Settings} {arrival : Arrival} (given left : Held)
     → left ≡ given
     → DeliverySays settings arrival given left answer
 left-says {settings} {arrival} given left answer refusal-is touches nothing none same =
-    let test = not-taken settings given arrival (λ accepts. touches (refusal-is ∙ accepts)) in
+    let test = not-taken arrival _ (λ accepts. touches (refusal-is ∙ accepts)) in
     record {
       refusal = refusal-is;
       carried = nothing ∙ sym (left-choice _ _ _ test);
@@ -251,7 +220,7 @@ module _ {settings : Settings} {arrival : Arrival} {sites : Sites}
       → answer .stopped ≡ ended .refusal
       → DeliverySays settings arrival given left answer
   taken-says answer none number-is carried-same stopped-same =
-      let test = takes settings given arrival is-draw (sym number-is) in
+      let test = takes arrival _ is-draw (sym number-is) in
       record {
         refusal = none ∙ number-is;
         carried =

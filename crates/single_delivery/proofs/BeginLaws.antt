@@ -24,8 +24,9 @@ use Rattle.site_steps.specs.declared.Observed.{Observed}
 use Rattle.site.specs.Calls.{ObserveSays}
 use Rattle.history.specs.State.{Held, State, recordAt, siteStart, sitePart, withPart, withRecord, afterSiteCall, recordIn, heldBy}
 use Rattle.history.specs.Histories.{observedOut}
+use Rattle.model.proofs.Touches.DrawLaws.{not-taken}
 use Rattle.history.proofs.Answers.{left-choice}
-use Rattle.history.proofs.Refused.{part-same, not-taken}
+use Rattle.history.proofs.Refused.{part-same}
 use Rattle.single_delivery.specs.declared.Progress.{Progress}
 use Rattle.single_delivery.specs.Progress.{QueueSays}
 use Rattle.single_delivery.specs.Arriving.{restFrom, mostCalls, BeginDeliverySays}
@@ -76,8 +77,7 @@ module _ {settings : Settings} (memory : List ℕ) (arrival : Arrival) (sites : 
       ∙ ap (withPart memory (siteStart settings j) rest)
       (says-here .memory
       ∙ left-choice _ _ _
-      (not-taken settings (recordIn sites j) arrival (restFrom settings memory j)
-      (says-here .refusal) touches))
+      (not-taken arrival _ (λ none. touches (says-here .refusal ∙ none))))
       ∙ part-same memory (siteStart settings j) rest
 
   module _ (sites-then : Sites) (waiting : Queue) (carried left : ℕ)

@@ -22,10 +22,10 @@ use Rattle.model.specs.declared.Settings.{Settings}
 use Rattle.model.specs.declared.Arrival.{Arrival}
 use Rattle.model.specs.declared.Sites.{Sites}
 use Rattle.model.specs.declared.CoordinatorRecord.{CoordinatorRecord}
-use Rattle.model.specs.Choice.{if_then_else_, isZero}
+use Rattle.model.specs.Choice.{if_then_else_}
 use Rattle.model.specs.Refusals.{when, _orElse_, noRefusal, memoryInconsistent}
 use Rattle.model.specs.Limits.{coordinatorLimit}
-use Rattle.model.specs.Draws.{isDraw}
+use Rattle.model.specs.Draws.{isDraw, isTaken}
 use Rattle.model.specs.Site.{reportsItem, reportsCount, observed}
 use Rattle.model.specs.Coordinator.{closesRound}
 use Rattle.model.specs.Network.{Network, Delivered, siteAt, afterArrival}
@@ -48,11 +48,9 @@ abbrev pub deliveryRefusal : Settings → Held → Arrival → ℕ
 deliveryRefusal settings held arrival =
     heldRefusal settings held orElse lineRefusalIn settings (networkOf settings held) arrival
 
--- A draw that is not refused is taken. All else is "accepted with no change and no message", or
--- refused.
-unfoldable pub deliveryTakes : Settings → Held → Arrival → Bool
-deliveryTakes settings held arrival =
-    isDraw arrival && isZero (deliveryRefusal settings held arrival)
+-- A draw that is not refused is taken. All else, a touch too, leaves everything as it was.
+abbrev pub deliveryTakes : Settings → Held → Arrival → Bool
+deliveryTakes settings held arrival = isTaken arrival (deliveryRefusal settings held arrival)
 
 -- ---- What the delivery comes to
 
@@ -105,8 +103,8 @@ deliveryIn settings network arrival =
     else afterArrival settings network arrival
 
 -- Not taken, all is "left as it was". Otherwise it is the network that the delivery comes to,
--- written over what was given: unused counters, records k to 31 and what lies past the network stay,
--- and so does the network's own count of messages, "to which the many-draw call alone adds".
+-- written over what was given: unused counters, records k to 31 and what lies past the network
+-- stay, and so does the network's own count of messages, "to which the many-draw call alone adds".
 abbrev pub heldAfter : Settings → Held → Arrival → Held
 heldAfter settings given arrival =
     if deliveryTakes settings given arrival

@@ -1,12 +1,11 @@
 -- What the calls on sites answer when they are refused and when they are not: the contracts of
 -- Calls from the refusal and, where there is none, from the step's promise.
 --
---   observe-takes, touch-left, refused-left     whether an arrival is taken
 --   observe-asks, observe-taken, observe-touch, observe-refused     an arrival
 --   receive-asks, receive-accepted, receive-refused     a message
 use Prim.Native.Nat.{ℕ}
-use mathlib.Core.Path.{_≡_, refl, sym, _∙_, subst⁻¹}
-use mathlib.Core.Bool.{Bool, true, false, _&&_}
+use mathlib.Core.Path.{_≡_, sym, _∙_, subst⁻¹}
+use mathlib.Core.Bool.{true, false}
 use mathlib.Core.List.{List}
 use native.Mathlib.Omega.{arith}
 use lib.Dec.{leb}
@@ -15,13 +14,12 @@ use Rattle.model.specs.declared.Settings.{Settings}
 use Rattle.model.specs.declared.Arrival.{Arrival}
 use Rattle.model.specs.declared.Message.{Message}
 use Rattle.model.specs.declared.SiteRecord.{SiteRecord}
-use Rattle.model.specs.Choice.{isZero}
 use Rattle.model.specs.Refusals.{noRefusal}
 use Rattle.model.specs.Draws.{isDraw}
 use Rattle.model.specs.Messages.{noMessage}
 use Rattle.model.specs.SiteMemory.{siteIn, siteMemoryRefusal}
 use Rattle.model.proofs.Thresholds.RefusalLaws.{both-accepted, passed}
-use Rattle.model.proofs.Touches.DrawLaws.{line-draw}
+use Rattle.model.proofs.Touches.DrawLaws.{line-draw, takes, not-taken, touch-left}
 use Rattle.site_memory.proofs.ReadyLaws.{step-ready}
 use Rattle.site_steps.specs.declared.Observed.{Observed}
 use Rattle.site_steps.specs.declared.Replied.{Replied}
@@ -36,36 +34,6 @@ module _
     (numbers : SiteRecord)
     (arrival : Arrival)
     (before : List ℕ) where
-  -- ---- Whether it is taken
-
-  pub observe-takes : isDraw arrival ≡ true
-      → observeRefusal settings numbers arrival before ≡ noRefusal
-      → observeTakes settings numbers arrival before ≡ true
-  unfolding observeTakes
-  observe-takes is-draw none = both (isDraw arrival) is-draw
-    where
-      both : (drawn : Bool) → drawn ≡ true
-          → (drawn && isZero (observeRefusal settings numbers arrival before)) ≡ true
-      both true is = eq-eqb (observeRefusal settings numbers arrival before) 0 none
-      both false is = is
-
-  pub touch-left : isDraw arrival ≡ false
-      → observeTakes settings numbers arrival before ≡ false
-  unfolding observeTakes
-  touch-left no-draw = rw no-draw
-
-  pub refused-left : (observeRefusal settings numbers arrival before ≡ noRefusal → ⊥)
-      → observeTakes settings numbers arrival before ≡ false
-  unfolding observeTakes
-  refused-left refused = by-draw (isDraw arrival)
-    where
-      by-draw : (drawn : Bool)
-          → (drawn && isZero (observeRefusal settings numbers arrival before)) ≡ false
-      by-draw true = ne-eqb (observeRefusal settings numbers arrival before) 0 refused
-      by-draw false = refl
-
-  -- ---- The answers
-
   pub observe-asks : isDraw arrival ≡ true
       → observeRefusal settings numbers arrival before ≡ noRefusal
       → ObserveAsks settings numbers arrival before
@@ -84,7 +52,7 @@ module _
       → ObserveStepSays settings numbers arrival before after answer
       → ObserveSays settings numbers arrival before after answer
   observe-taken after answer is-draw none says =
-      let test = observe-takes is-draw none in
+      let test = takes arrival _ is-draw none in
       record {
         refusal = says .gathered .refusal ∙ sym none;
         site = rw test (says .gathered .site);
@@ -116,7 +84,8 @@ module _
       → answer ≡ unchangedBy refusal numbers
       → ObserveSays settings numbers arrival before before answer
   observe-refused refusal answer same refused answer-is =
-      observe-left refusal answer (refused-left (λ none. refused (same ∙ none))) same answer-is
+      observe-left refusal answer
+      (not-taken arrival _ (λ none. absurd (refused (same ∙ none)))) same answer-is
 
   pub observe-touch : (refusal : ℕ) (answer : Observed)
       → refusal ≡ observeRefusal settings numbers arrival before
@@ -124,7 +93,7 @@ module _
       → answer ≡ unchangedBy refusal numbers
       → ObserveSays settings numbers arrival before before answer
   observe-touch refusal answer same no-draw answer-is =
-      observe-left refusal answer (touch-left no-draw) same answer-is
+      observe-left refusal answer (touch-left arrival _ no-draw) same answer-is
 
 -- ---- A message
 

@@ -1,11 +1,11 @@
 -- The chains of the calls on sites at the edge: each row by computation.
 use mathlib.Core.Path.{refl}
 use Rattle.model.specs.Limits.{valueCount}
+use Rattle.model.specs.Draws.{isTaken}
 use Rattle.site.specs.Edges.{SiteCallEdges}
-use Rattle.site.specs.Calls.{observeTakes}
 
 pub site-call-edges : SiteCallEdges
-unfolding valueCount observeTakes
+unfolding valueCount isTaken
 site-call-edges = record {
   start-enough = refl;
   start-short = refl;

@@ -7,7 +7,7 @@
 -- A refused call leaves record and memory as they were and hands out no message; so does an
 -- accepted touch. A start hands back fresh records all the same.
 use mathlib.Core.Path.{_≡_}
-use mathlib.Core.Bool.{Bool, _&&_}
+use mathlib.Core.Bool.{Bool}
 use mathlib.Core.List.{List, []}
 use Prim.Native.Nat.{ℕ}
 use lib.Dec.{leb, ltb}
@@ -18,7 +18,7 @@ use Rattle.model.specs.declared.Message.{Message}
 use Rattle.model.specs.declared.SiteRecord.{SiteRecord}
 use Rattle.model.specs.Choice.{if_then_else_, isZero}
 use Rattle.model.specs.Refusals.{when, _orElse_, noRefusal, memoryTooShort, unknownSite}
-use Rattle.model.specs.Draws.{isDraw}
+use Rattle.model.specs.Draws.{isTaken}
 use Rattle.model.specs.Messages.{noMessage}
 use Rattle.model.specs.Settings.{settingsRefusal}
 use Rattle.model.specs.Site.{SiteStep, lineRefusal, observed, siteMessageRefusal, siteReceives}
@@ -58,11 +58,10 @@ observeRefusal settings numbers arrival memory =
     siteMemoryRefusal settings numbers memory
     orElse lineRefusal settings (siteIn settings numbers memory) arrival
 
--- A draw that is not refused is taken. All else leaves the site as it was: request N2, a touch is
--- "accepted with no change and no message".
-unfoldable pub observeTakes : Settings → SiteRecord → Arrival → List ℕ → Bool
+-- A draw that is not refused is taken. All else, a touch too, leaves the site as it was.
+abbrev pub observeTakes : Settings → SiteRecord → Arrival → List ℕ → Bool
 observeTakes settings numbers arrival memory =
-    isDraw arrival && isZero (observeRefusal settings numbers arrival memory)
+    isTaken arrival (observeRefusal settings numbers arrival memory)
 
 -- The answer that leaves a site as it was.
 abbrev pub unchangedBy : ℕ → SiteRecord → Observed

@@ -84,10 +84,11 @@ impl Run {
         let random = &mut self.random;
         let site = random.below32(self.numbers[0]);
         let near = |random: &mut Random, bound: u32| random.below32(bound + 2);
+        let value = random.between(1, 1024);
         let next = arrival(
             near(random, self.numbers[0]),
             near(random, self.numbers[5]),
-            near(random, 1023),
+            random.value_or_touch(value),
         );
         let (threshold, base) = (self.network.coordinator.threshold, self.network.coordinator.base);
         let some = any(random);

@@ -1,6 +1,6 @@
-//! Request N10: each item that the list call answers has 6000 × (its arrivals) + 5e × (all
-//! arrivals) ≥ 6p × (all arrivals). The list is asked for after each arrival, on the proved code
-//! and on the separate implementation; the request's instances; how much of the leeway is used.
+//! Request N10: each item that the list call answers has 6000 × (its draws) + 5e × (all draws) ≥
+//! 6p × (all draws). The list is asked for after each arrival, on the proved code and on the
+//! separate implementation; the request's instances; how much of the leeway is used.
 
 mod both;
 mod forge;
@@ -104,7 +104,7 @@ fn seven_arrivals() {
     taken.take(&[0, 1, 0, 1, 0, 1, 1].map(|item| arrival(0, item, 1)));
     assert_eq!(taken.network.coordinator.total, 6);
     assert_eq!(taken.listed(), [0, 1]);
-    assert_eq!((taken.truth.items[0], taken.truth.arrivals), (3, 7));
+    assert_eq!((taken.truth.items[0], taken.truth.draws), (3, 7));
 }
 
 /// Share 1000 with leeway 400: item 0 is listed with 32 of 44 arrivals, and 4e would not do.
@@ -146,7 +146,7 @@ fn nearly_all_of_the_leeway() {
     for (turn, (&times, &item)) in thresholds.iter().zip(&items).enumerate() {
         let length = batch.len() + times as usize;
         batch.resize(length, arrival(turn as u32 % 2, item, 1));
-        if length as u64 >= (taken.truth.arrivals / 4).clamp(1000, 500_000) {
+        if length as u64 >= (taken.truth.draws / 4).clamp(1000, 500_000) {
             taken.take(&batch);
             batch.clear();
         }
@@ -157,7 +157,7 @@ fn nearly_all_of_the_leeway() {
     taken.take_of(1, 1, 6058);
     taken.take_of(1, 0, 1);
     assert_eq!(taken.listed(), [0]);
-    assert_eq!((taken.truth.items[0], taken.truth.arrivals), (18_162_365, 18_192_662));
+    assert_eq!((taken.truth.items[0], taken.truth.draws), (18_162_365, 18_192_662));
     taken.truth.leeway_used.show("as much as can be");
     assert_eq!((10_000.0 * taken.truth.leeway_used.fraction()) as u64, 9992);
 }

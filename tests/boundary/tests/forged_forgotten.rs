@@ -24,7 +24,7 @@ use support::{arrival, message, Random, TestNetwork};
 fn two_sites() -> TestNetwork {
     let mut network = TestNetwork::start([2, 1000, 1000, 500, 6, 20]);
     for number in 0..90 {
-        network.take(&[arrival(number % 2, 7 * number % 20, number)]);
+        network.take(&[arrival(number % 2, 7 * number % 20, 1 + number)]);
     }
     let record = network.sites.records[1];
     assert!(record.dropped > 0 && record.threshold > 1 && record.used == 6);
@@ -257,7 +257,8 @@ fn forged_sites_forget() {
         let mut site = some_site(&mut random);
         for _ in 0..8 {
             let before = site.record;
-            let next = arrival(0, random.below32(site.settings[5]), 3);
+            let item = random.below32(site.settings[5]);
+            let next = arrival(0, item, random.value_or_touch(3));
             let outgoing = both.observe(site.settings, next, &mut site.record, &mut site.memory);
             if before.dropped > before.arrivals {
                 assert_eq!(outgoing.refusal, INCONSISTENT);
@@ -328,7 +329,8 @@ fn about_full(random: &mut Random) -> Option<(TestNetwork, Arrival)> {
     let some = random.below(record.threshold);
     let missing = random.pick(&[0, 1, 2, some, record.threshold - 1]);
     record.dropped = record.arrivals.saturating_sub(missing);
-    Some((network, arrival(site, item, random.below32(1024))))
+    let value = random.between(1, 1023);
+    Some((network, arrival(site, item, random.value_or_touch(value))))
 }
 
 /// By a single delivery and by a batch, and then once more: where too much was forgotten, the first

@@ -47,7 +47,7 @@ fn some_run(
 fn some_log(length: u64, network: &TestNetwork, random: &mut Random) -> usize {
     let needed = network.settings.messages_per_arrival() as u64;
     let some = random.below(needed * (length + 2));
-    let records = random.pick(&[needed * length, needed + 6 * length, some, needed, needed - 1]);
+    let records = random.pick(&[needed * length, needed + 6 * length, some, needed, needed - 1, 0]);
     (4 * records + random.pick(&[0, 0, 1, 3])) as usize
 }
 

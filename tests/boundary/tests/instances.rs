@@ -106,7 +106,7 @@ fn six_and_eight_draws_of_p3_and_p4() {
 #[test]
 fn a_code_leaves_in_p5() {
     let mut network = Network::start();
-    let arrivals: Vec<Arrival> = (0..7).map(|item| Arrival { site: 0, item, value: 0 }).collect();
+    let arrivals: Vec<Arrival> = (0..7).map(|item| Arrival { site: 0, item, value: 3 }).collect();
     assert_eq!(network.run(&A, &arrivals), 0);
     assert_eq!(network.site_memory[..4], [6, 2, 1, 0]);
     let others = (1..6).flat_map(|item| [item, 1, 0, 1]);

@@ -29,9 +29,9 @@ fn some_run(network: &TestNetwork, random: &mut Random) -> Vec<Arrival> {
         } else {
             random.below32(settings.universe)
         };
-        let value = random.below32(1024);
-        let value = random.pick(&[0, value, 511, 1022, 1023]);
-        let mut next = arrival(site, item, value);
+        let value = random.between(1, 1023);
+        let value = random.pick(&[1, value, 511, 1022, 1023]);
+        let mut next = arrival(site, item, random.value_or_touch(value));
         match random.below(150) {
             0 => next.site = random.pick(&[settings.sites, u32::MAX]),
             1 => next.item = random.pick(&[settings.universe, u32::MAX]),

@@ -155,8 +155,9 @@ fn forged_networks_agree() {
             let settings = network.settings;
             let (sites, universe) = (settings.sites.clamp(1, 32), settings.universe.max(1));
             let (site, item) = (random.below32(sites + 1), random.below32(universe));
-            let delivered =
-                both.deliver_arrival(&mut network, arrival(site, item, random.below32(1025)));
+            let value = random.between(1, 1024);
+            let next = arrival(site, item, random.value_or_touch(value));
+            let delivered = both.deliver_arrival(&mut network, next);
             complete += u64::from(delivered.refusal == ACCEPTED && delivered.stopped == ACCEPTED);
             stopped += u64::from(delivered.stopped != ACCEPTED);
         }
@@ -214,8 +215,8 @@ fn estimates_near_the_limit_agree() {
         let item = random.below32(universe);
         let room = random.pick(&[0, threshold - 1, threshold, threshold + 1]);
         network.coordinator_memory[item as usize] = MAX_NUMBER - room;
-        let site = random.below32(sites);
-        let next = arrival(site, item, random.below32(1024));
+        let (site, value) = (random.below32(sites), random.between(1, 1023));
+        let next = arrival(site, item, random.value_or_touch(value));
         let delivered = both.deliver_arrival(&mut network, next);
         if delivered.refusal == ACCEPTED {
             rested += u64::from(delivered.stopped == ACCEPTED);

@@ -23,8 +23,9 @@ fn due_arrival(site: &Site, random: &mut Random) -> Arrival {
     } else {
         random.below32(rules.universe)
     };
-    let value = random.below32(1024);
-    arrival(random.below32(rules.sites), item, random.pick(&[0, value, 511, 1022, 1023]))
+    let value = random.between(1, 1023);
+    let value = random.pick(&[1, value, 511, 1022, 1023]);
+    arrival(random.below32(rules.sites), item, random.value_or_touch(value))
 }
 
 /// An arrival with one number or more that may be anything.

@@ -1,14 +1,20 @@
 //! Sites and coordinator as processes that know nothing of each other but bytes, fed a random
 //! worklist: all messages, list and class, records and memory are those of the batch call on the
-//! same draws. Damaged messages come in between; each is refused by its number and changes nothing.
+//! same draws. One line in ten is a touch. Touches and damaged messages come in between too: a
+//! touch is accepted, a damaged message refused by its number, and neither changes anything.
 
+#[path = "../../reference/tests/support/touches.rs"]
+mod touches;
 mod trial;
 
 use boundary::{Arrival, Batch, SITES_NUMBERS, SITE_NUMBERS};
 use pipes::{to_bytes, MessageBytes};
+use reference::message::TOUCH;
+use touches::value_or_touch;
 use trial::{Random, Trial};
 
 /// What the batch call makes of a worklist: messages, class and list, and what it leaves.
+#[derive(PartialEq)]
 struct Batched {
     messages: Vec<MessageBytes>,
     read: Vec<u64>,
@@ -68,8 +74,9 @@ fn some_worklist(settings: [u32; 6], draws: u64, random: &mut Random) -> Vec<[u3
     let draw = |number: u64| {
         let item_bound = 1 << random.below(12);
         let item = random.below(item_bound) % universe;
-        let value = (number + random.below(200) + random.below(200)) % 1024;
-        [random.below(sites) as u32, item as u32, value as u32]
+        let value = 1 + (number + random.below(200) + random.below(200)) % 1023;
+        let value = value_or_touch(random.below(u64::MAX), value as u32);
+        [random.below(sites) as u32, item as u32, value]
     };
     (0..draws).map(draw).collect()
 }
@@ -83,6 +90,10 @@ fn run(settings: [u32; 6], draws: u64, seed: u64) -> [u64; 15] {
         trial.take(draw);
     }
     let expected = batched(settings, &worklist);
+    // The draws alone come to the same.
+    let is_draw = |&[_, _, value]: &[u32; 3]| value != TOUCH;
+    let draws: Vec<[u32; 3]> = worklist.into_iter().filter(is_draw).collect();
+    assert!(batched(settings, &draws) == expected);
     assert!(trial.messages == expected.messages);
     assert_eq!(trial.read(), expected.read);
     let (sites, coordinator) = trial.state();

@@ -1,8 +1,13 @@
 //! Inputs of the program `drawtrack`, and what the built program writes for them.
 
+#[path = "../../reference/tests/support/touches.rs"]
+mod touches;
+
 use std::io::Write;
 use std::path::{Path, PathBuf};
 use std::process::{Command, Stdio};
+
+use touches::value_or_touch;
 
 /// The generator splitmix64.
 pub struct Random(u64);
@@ -12,7 +17,7 @@ impl Random {
         Random(seed)
     }
 
-    pub fn next(&mut self) -> u64 {
+    fn next(&mut self) -> u64 {
         self.0 = self.0.wrapping_add(0x9e37_79b9_7f4a_7c15);
         let mut mixed = self.0;
         mixed = (mixed ^ (mixed >> 30)).wrapping_mul(0xbf58_476d_1ce4_e5b9);
@@ -66,7 +71,7 @@ pub fn served_settings(random: &mut Random) -> [u64; 6] {
     let epsilon = *random.pick(&[60, 61, 100, 250, 500, 999, 1000]);
     let phi = random.between(epsilon, 1000);
     let rank = *random.pick(&[1, 2, 250, 500, 501, 750, 999, 1000]);
-    let least = (6000 + epsilon - 1) / epsilon;
+    let least = 6000_u64.div_ceil(epsilon);
     let capacity = random.between(least, 100);
     let universe = *random.pick(&[1, 2, 5, 10, 37, 999, 1000]);
     [sites, epsilon, phi, rank, capacity, universe]
@@ -77,18 +82,19 @@ pub fn line_of(numbers: &[u64]) -> Vec<u8> {
     format!("{}\n", words.join(";")).into_bytes()
 }
 
-/// A draw that is accepted; a few codes and classes come again and again.
-pub fn accepted_draw(random: &mut Random, settings: &[u64; 6]) -> [u64; 3] {
+/// A draw or a touch that is accepted; a few codes and classes come again and again.
+pub fn accepted_arrival(random: &mut Random, settings: &[u64; 6]) -> [u64; 3] {
     let item = if random.below(3) == 0 { 0 } else { random.below(settings[5]) };
-    let value = if random.below(4) == 0 { 1023 } else { random.below(1024) };
-    [random.below(settings[0]), item, value]
+    let value = if random.below(4) == 0 { 1023 } else { random.between(1, 1023) };
+    let value = value_or_touch(random.next(), value as u32);
+    [random.below(settings[0]), item, u64::from(value)]
 }
 
-/// A worklist of accepted draws of at most so many bytes.
+/// A worklist of accepted draws and touches of at most so many bytes.
 pub fn worklist(random: &mut Random, settings: &[u64; 6], most: usize) -> Vec<u8> {
     let mut bytes = Vec::new();
     loop {
-        let line = line_of(&accepted_draw(random, settings));
+        let line = line_of(&accepted_arrival(random, settings));
         if bytes.len() + line.len() > most {
             return bytes;
         }
@@ -96,13 +102,29 @@ pub fn worklist(random: &mut Random, settings: &[u64; 6], most: usize) -> Vec<u8
     }
 }
 
-/// A line that is no draw.
+/// A line that is malformed.
 fn malformed_line(random: &mut Random) -> Vec<u8> {
     random
         .pick::<&[u8]>(&[
-            b"\n", b"0;7\n", b"0;7;3;1\n", b"00;7;3\n", b"0;07;3\n", b"0;7;03\n", b"0;7;3",
-            b";7;3\n", b"0;;3\n", b"0;7;\n", b"10000000;7;3\n", b"0;12345678;3\n", b"0;7;3\r\n",
-            b" 0;7;3\n", b"0;7;3 \n", b"-1;7;3\n", b"0,7,3\n", b"0;7;\x003\n", b"\xff\n",
+            b"\n",
+            b"0;7\n",
+            b"0;7;3;1\n",
+            b"00;7;3\n",
+            b"0;07;3\n",
+            b"0;7;03\n",
+            b"0;7;3",
+            b";7;3\n",
+            b"0;;3\n",
+            b"0;7;\n",
+            b"10000000;7;3\n",
+            b"0;12345678;3\n",
+            b"0;7;3\r\n",
+            b" 0;7;3\n",
+            b"0;7;3 \n",
+            b"-1;7;3\n",
+            b"0,7,3\n",
+            b"0;7;\x003\n",
+            b"\xff\n",
             b"0;a;3\n",
         ])
         .to_vec()
@@ -123,9 +145,9 @@ pub fn input(random: &mut Random, sort: u64) -> Vec<u8> {
             let lines = worklist(random, &settings, length);
             [line_of(&settings), lines].concat()
         }
-        // a refused draw after accepted ones: 5, 6, 7
+        // a refused draw or touch after accepted ones: 5, 6, 7
         3..=5 => {
-            let mut draw = accepted_draw(random, &settings);
+            let mut draw = accepted_arrival(random, &settings);
             let which = (sort % 16 - 3) as usize;
             let limit = [settings[0], settings[5], 1024][which];
             draw[which] = *random.pick(&[limit, limit + 1, 9_999_999]);
@@ -202,7 +224,12 @@ pub fn input(random: &mut Random, sort: u64) -> Vec<u8> {
         // nothing, or little
         _ => random
             .pick::<&[u8]>(&[
-                b"", b"\n", b";", b"1", b"1;1000;1000;500;6;10", b"1;1000;1000;500;6;10\n",
+                b"",
+                b"\n",
+                b";",
+                b"1",
+                b"1;1000;1000;500;6;10",
+                b"1;1000;1000;500;6;10\n",
             ])
             .to_vec(),
     }

@@ -32,6 +32,19 @@ fn instance_p2() {
     assert_eq!(run_program(b"1;1000;1000;500;6;10\n0;7;3\n"), expected.as_bytes());
 }
 
+/// Request N2: a touch writes nothing, but is tested for 5 and 6.
+#[test]
+fn touches() {
+    let written = |worklist: &str| {
+        let input = format!("1;1000;1000;500;6;10\n{worklist}");
+        String::from_utf8(run_program(input.as_bytes())).expect("it writes text")
+    };
+    assert_eq!(written("0;7;0\n"), "listed\nclass none\nmessages 0\n");
+    assert_eq!(written("0;7;3\n0;8;0\n"), written("0;7;3\n"));
+    assert_eq!(written("1;7;0\n"), "refused 5\n");
+    assert_eq!(written("0;10;0\n"), "refused 6\n");
+}
+
 #[test]
 fn worklist_length() {
     let settings = b"1;1000;1000;500;6;10\n".to_vec();

@@ -387,7 +387,7 @@ fn margin(settings: &Settings, record: &CoordinatorRecord, memory: &[u64], item:
     (2000 * memory[item as usize]) as i64 - (share * record.total) as i64
 }
 
-/// The quantile (document 01's class as an answer), `None` before any arrival.
+/// The quantile (document 01's class as an answer), `None` before any draw.
 pub fn read_quantile(
     settings: &Settings,
     record: &CoordinatorRecord,

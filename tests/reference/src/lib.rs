@@ -1,6 +1,7 @@
 //! A separate implementation of document 01: sites that watch a stream of
 //! arrivals, a coordinator that knows its heavy hitters and one quantile, and
-//! the messages between them.
+//! the messages between them. Of the requests it has N1, what a site has
+//! forgotten, and N2: an arrival of value 0 is no draw.
 //!
 //! Every public call takes its numbers as any bits. What does not pass is
 //! refused by its number, and a refused call changes nothing.

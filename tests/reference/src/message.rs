@@ -15,15 +15,27 @@ pub const PROBE_ANSWER: u32 = 6;
 /// Kind 7, to a site: a = threshold, b = base.
 pub const ANNOUNCEMENT: u32 = 7;
 
-/// An arrival: document 01's draw, a deck, a code and a class.
+/// The value of a touch: request N2's class 0, where the tip took nothing.
+pub const TOUCH: u32 = 0;
+
+/// An arrival: a line of deck, code and class. It is document 01's draw or
+/// request N2's touch.
 #[derive(Clone, Copy, Debug, Default, PartialEq, Eq)]
 pub struct Arrival {
     /// Document 01's deck.
     pub site: u32,
     /// Document 01's code.
     pub item: u32,
-    /// Document 01's class of the draw.
+    /// Document 01's class.
     pub value: u32,
+}
+
+impl Arrival {
+    /// Whether it is a draw. A touch is none: where it is accepted, nothing
+    /// changes and nothing goes out.
+    pub fn is_draw(&self) -> bool {
+        self.value != TOUCH
+    }
 }
 
 /// Document 01's message: kind, deck, a, b. All four are 0 where there is none.

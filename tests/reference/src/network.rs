@@ -13,7 +13,7 @@ pub use crate::site::Sites;
 pub const MAX_MESSAGES: u64 = 100_000_000_000_000;
 
 /// What the batch call answers: document 01's draws accepted, messages written
-/// and the refusal that stopped it, 0 if none did.
+/// and the refusal that stopped it, 0 if none did. `accepted` counts touches too.
 #[derive(Clone, Copy, Debug, PartialEq, Eq)]
 pub struct BatchAnswer {
     pub accepted: usize,
@@ -110,17 +110,20 @@ impl Network<'_> {
             if refusal != refusal::ACCEPTED {
                 return (accepted, refusal);
             }
-            self.take_arrival(*arrival);
+            if arrival.is_draw() {
+                self.take_draw(*arrival);
+            }
         }
         (arrivals.len(), refusal::ACCEPTED)
     }
 
+    /// Refusals 5 to 8 and 14, or 0. A touch writes nothing, so it is no 14.
     fn arrival_refusal(&self, arrival: &Arrival) -> u8 {
         let Some(record) = self.sites.records.get(arrival.site as usize) else {
             return refusal::UNKNOWN_SITE;
         };
         match site::arrival_refusal(self.settings, arrival, record) {
-            refusal::ACCEPTED if self.log_is_short() => refusal::SHORT_LOG,
+            refusal::ACCEPTED if arrival.is_draw() && self.log_is_short() => refusal::SHORT_LOG,
             number => number,
         }
     }
@@ -129,14 +132,14 @@ impl Network<'_> {
         self.log.len() - self.written < self.settings.messages_per_arrival()
     }
 
-    /// Takes an arrival and delivers all that it sets off, in the order of
-    /// going out. An item report sets off nothing, so the count report that
-    /// went out behind it is always next, and from there on one message at a
-    /// time is on its way.
-    fn take_arrival(&mut self, arrival: Arrival) {
+    /// Takes a draw and delivers all that it sets off, in the order of going
+    /// out. An item report sets off nothing, so the count report that went out
+    /// behind it is always next, and from there on one message at a time is on
+    /// its way.
+    fn take_draw(&mut self, draw: Arrival) {
         let settings = self.settings;
-        let (record, memory) = self.site(arrival.site);
-        let outgoing = site::step_arrival(settings, arrival, record, memory, &mut None);
+        let (record, memory) = self.site(draw.site);
+        let outgoing = site::step_draw(settings, draw, record, memory, &mut None);
         for &report in outgoing.sent() {
             self.deliver(report);
         }

@@ -113,7 +113,7 @@ pub fn digits(n: u64) -> u32 {
     u64::BITS - n.leading_zeros()
 }
 
-/// Document 01's allowance of messages for n arrivals, or refusal 1, 2 or 3.
+/// Document 01's allowance of messages for n draws, or refusal 1, 2 or 3.
 pub fn allowance(settings: &Settings, n: u64) -> Result<u64, u8> {
     match settings_refusal(settings) {
         refusal::ACCEPTED => {

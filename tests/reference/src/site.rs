@@ -5,7 +5,7 @@ use crate::message::{self, Arrival, Message, Outgoing};
 use crate::refusal;
 use crate::settings::{settings_refusal, Settings, COUNTER_NUMBERS, MAX_SITES, MAX_VALUE, VALUES};
 
-/// Most arrivals that one site takes, and so the largest threshold.
+/// Most draws that one site takes, and so the largest threshold.
 pub const MAX_ARRIVALS: u64 = 1_000_000_000;
 
 // Places of a counter's numbers.
@@ -109,7 +109,7 @@ pub fn start_sites(settings: &Settings, memory: &mut [u32]) -> (u8, Sites) {
 }
 
 /// Takes one arrival at a site with its own record and memory. At most two
-/// messages go out: an item report and then a count report.
+/// messages go out: an item report and then a count report; after a touch none.
 pub fn observe(
     settings: &Settings,
     arrival: Arrival,
@@ -130,8 +130,8 @@ pub fn observe_with_departure(
     let refusal = refusal::first_of(call_refusal(settings, record, memory), || {
         arrival_refusal(settings, &arrival, record)
     });
-    if refusal == refusal::ACCEPTED {
-        step_arrival(settings, arrival, record, memory, left)
+    if refusal == refusal::ACCEPTED && arrival.is_draw() {
+        step_draw(settings, arrival, record, memory, left)
     } else {
         *left = None;
         Outgoing::none(refusal)
@@ -207,7 +207,7 @@ fn histogram_sum(settings: &Settings, memory: &[u32], value: u32) -> u64 {
     memory[start..=start + value as usize].iter().map(|&count| u64::from(count)).sum()
 }
 
-/// Refusals 5 to 8 of an arrival, or 0.
+/// Refusals 5 to 8 of an arrival, or 0. A touch takes no room, so it is no 8.
 pub(crate) fn arrival_refusal(settings: &Settings, arrival: &Arrival, record: &SiteRecord) -> u8 {
     if arrival.site >= settings.sites {
         refusal::UNKNOWN_SITE
@@ -215,26 +215,26 @@ pub(crate) fn arrival_refusal(settings: &Settings, arrival: &Arrival, record: &S
         refusal::UNKNOWN_ITEM
     } else if arrival.value > MAX_VALUE {
         refusal::UNKNOWN_VALUE
-    } else if record.arrivals >= MAX_ARRIVALS {
+    } else if arrival.is_draw() && record.arrivals >= MAX_ARRIVALS {
         refusal::SITE_FULL
     } else {
         refusal::ACCEPTED
     }
 }
 
-/// Takes an arrival that nothing speaks against. `left` gets the item that lost
+/// Takes a draw that nothing speaks against. `left` gets the item that lost
 /// its counter to it, or none.
-pub(crate) fn step_arrival(
+pub(crate) fn step_draw(
     settings: &Settings,
-    arrival: Arrival,
+    draw: Arrival,
     record: &mut SiteRecord,
     memory: &mut [u32],
     left: &mut Option<Departure>,
 ) -> Outgoing<2> {
     record.arrivals += 1;
     record.pending += 1;
-    memory[settings.counters_len() + arrival.value as usize] += 1;
-    let (place, departure) = count_item(settings, arrival.item, record, memory);
+    memory[settings.counters_len() + draw.value as usize] += 1;
+    let (place, departure) = count_item(settings, draw.item, record, memory);
     *left = departure;
     // In memory that never arose the sum may pass the arrivals here: then the
     // next call that looks at the site is refused.
@@ -246,12 +246,12 @@ pub(crate) fn step_arrival(
     if unreported >= record.threshold {
         // It was below the threshold before, so it is the threshold now.
         counter[REPORTED] += unreported as u32;
-        let item = u64::from(arrival.item);
-        outgoing.push(Message::new(message::ITEM_REPORT, arrival.site, item, unreported));
+        let item = u64::from(draw.item);
+        outgoing.push(Message::new(message::ITEM_REPORT, draw.site, item, unreported));
     }
     if record.pending >= record.threshold {
-        let value = if record.threshold == 1 { u64::from(arrival.value) } else { 0 };
-        outgoing.push(Message::new(message::COUNT_REPORT, arrival.site, record.pending, value));
+        let value = if record.threshold == 1 { u64::from(draw.value) } else { 0 };
+        outgoing.push(Message::new(message::COUNT_REPORT, draw.site, record.pending, value));
         record.pending = 0;
     }
     outgoing

@@ -112,7 +112,7 @@ fn spoilt_networks() {
             spoil(&mut network, &mut random);
             call_all(&network, &mut random);
         }
-        start.take(&[arrival(round % 3, round % 8, round)]);
+        start.take(&[arrival(round % 3, round % 8, 1 + round)]);
     }
 }
 
@@ -134,7 +134,7 @@ fn any_settings() {
             network.next_announcement().0,
             network.tell_coordinator(message(1, 0, 0, 1)).0,
             network.margin(0).err().unwrap_or(ACCEPTED),
-            site::observe(&settings, arrival(0, 0, 0), &mut record, &mut memory).refusal,
+            site::observe(&settings, arrival(0, 0, 1), &mut record, &mut memory).refusal,
             site::receive(&settings, 0, message(3, 0, 0, 0), &mut record, &memory).refusal,
             allowance(&settings, u64::MAX).err().unwrap_or(ACCEPTED),
         ];
@@ -218,7 +218,8 @@ fn networks_that_never_arose() {
         let mut log = vec![Message::default(); network.settings.messages_per_arrival()];
         for _ in 0..30 {
             let (site, item) = (random.below32(sites), random.below32(8));
-            let next = arrival(site, item, random.below32(1024));
+            let value = random.between(1, 1023);
+            let next = arrival(site, item, random.value_or_touch(value));
             let mut single = network.clone();
             let answer = network.run_batch(&[next], &mut log);
             refusals[usize::from(answer.refusal)] += 1;

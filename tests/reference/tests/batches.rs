@@ -44,7 +44,7 @@ fn one_by_one(
             UNKNOWN_ITEM
         } else if next.value > 1023 {
             UNKNOWN_VALUE
-        } else if places < messages.len() + 23 * settings.sites as usize + 2 {
+        } else if next.is_draw() && places < messages.len() + 23 * settings.sites as usize + 2 {
             SHORT_LOG
         } else {
             let sent = network.take(&[*next]);

@@ -7,7 +7,7 @@ use reference::message::Outgoing;
 use reference::refusal;
 use reference::settings::Settings;
 use reference::site::{observe_with_departure, Departure, SiteRecord};
-use support::account::{check_arrival, counters_of};
+use support::account::{check_draw, counters_of};
 use support::plain::PlainSite;
 use support::{arrival, Random};
 
@@ -17,7 +17,7 @@ fn settings(capacity: u32, universe: u32) -> Settings {
 }
 
 /// Compares `arrivals` steps of both from the same counters on: what left them as well, and what
-/// was forgotten. Answers what left.
+/// was forgotten. A touch leaves all as it was. Answers what left.
 fn compare(
     settings: &Settings,
     mut record: SiteRecord,
@@ -30,18 +30,24 @@ fn compare(
     let mut departures = Vec::new();
     let dropped = record.dropped;
     for _ in 0..arrivals {
-        let (item, value) = (random.below32(settings.universe), random.below32(1024));
+        let (item, value) = (random.below32(settings.universe), random.between(1, 1023));
         let before = (record, counters_of(&record, &memory));
-        let next = arrival(0, item, value);
+        let next = arrival(0, item, random.value_or_touch(value));
         let mut departure = None;
+        let given = memory.clone();
         let outgoing =
             observe_with_departure(settings, next, &mut record, &mut memory, &mut departure);
         assert_eq!(outgoing.refusal, refusal::ACCEPTED);
+        if !next.is_draw() {
+            assert_eq!((outgoing.count, departure), (0, None));
+            assert!(record == before.0 && memory == given);
+            continue;
+        }
         assert_eq!(outgoing.sent(), plain.observe(item, value, record.threshold));
         assert_eq!(record.pending, plain.pending);
         let counters = counters_of(&record, &memory);
         assert_eq!(counters, plain.counters);
-        check_arrival((&before.0, &before.1), (&record, &counters), departure, outgoing.sent());
+        check_draw((&before.0, &before.1), (&record, &counters), departure, outgoing.sent());
         departures.extend(departure);
         assert_eq!(record.dropped, dropped + plain.dropped());
     }
@@ -108,7 +114,7 @@ fn ties() {
             let reported = u32::from(place >= 2);
             memory[4 * place..4 * place + 4].copy_from_slice(&[item, 1, 0, reported]);
         }
-        memory[settings.counters_len()] = 6;
+        memory[settings.counters_len() + 5] = 6;
         memory
     };
     let record = SiteRecord { arrivals: 6, pending: 0, threshold: 3, used: 6, dropped: 2 };
@@ -121,14 +127,14 @@ fn ties() {
     ] {
         let (mut record, before) = (record, start(items));
         let mut memory = before.clone();
-        let next = arrival(0, item, 0);
+        let next = arrival(0, item, 5);
         let mut told = None;
         let outgoing = observe_with_departure(&settings, next, &mut record, &mut memory, &mut told);
         assert_eq!(outgoing, Outgoing::none(refusal::ACCEPTED));
         assert_eq!((told, record.dropped), (departure, dropped));
         let mut expected = before;
         expected[4 * place..4 * place + 4].copy_from_slice(&counter);
-        expected[settings.counters_len()] += 1;
+        expected[settings.counters_len() + 5] += 1;
         assert_eq!(memory, expected);
     }
 }

@@ -167,7 +167,7 @@ fn refused_calls(network: &mut TestNetwork) {
         assert_eq!(network.tell_site(sent), (refusal, vec![]), "{sent:?}");
     }
     let (sites, universe) = (network.settings.sites, network.settings.universe);
-    assert_eq!(network.observe(arrival(sites, 0, 0)), (UNKNOWN_SITE, vec![]));
+    assert_eq!(network.observe(arrival(sites, 0, 1)), (UNKNOWN_SITE, vec![]));
     assert_eq!(network.observe(arrival(0, universe, 1024)), (UNKNOWN_ITEM, vec![]));
     assert_eq!(network.observe(arrival(0, 0, 1024)), (UNKNOWN_VALUE, vec![]));
     if !matches!(network.coordinator.phase, Phase::Announcing { .. }) {

@@ -174,7 +174,7 @@ fn held_back_everywhere_then_released() {
         truth.check(network);
     };
     for round in 0..4000 {
-        send(&mut network, &mut truth, arrival(round % 4, 1 + round % 9, round % 1024));
+        send(&mut network, &mut truth, arrival(round % 4, 1 + round % 9, 1 + round % 1023));
     }
     assert!(network.coordinator.threshold > 40);
     for _ in 0..20 {
@@ -188,7 +188,7 @@ fn held_back_everywhere_then_released() {
         let held = 4 * (network.coordinator.threshold - 1);
         assert_eq!(truth.items[0], reported + held);
         for site in 0..4 {
-            send(&mut network, &mut truth, arrival(site, 0, 0));
+            send(&mut network, &mut truth, arrival(site, 0, 1));
         }
         assert!(network.coordinator_memory[0] > reported);
     }
@@ -209,6 +209,6 @@ fn around_the_first_thresholds() {
 /// A long run, checked at times: the messages grow with the digits of n only.
 #[test]
 fn a_long_run() {
-    let network = run_batches([32, 20, 30, 500, 300, 500], 9000, 1000);
+    let network = run_batches([32, 20, 30, 500, 300, 500], 9000, 1120);
     assert!(network.coordinator.threshold >= 200);
 }

@@ -28,7 +28,7 @@ fn at_threshold_1() -> TestNetwork {
 fn above_threshold_1() -> TestNetwork {
     let mut network = TestNetwork::start(SETTINGS);
     for round in 0..60 {
-        network.take(&[arrival(round % 2, round % 20, round)]);
+        network.take(&[arrival(round % 2, round % 20, 1 + round)]);
     }
     assert!(network.coordinator.threshold > 2);
     network

@@ -10,6 +10,7 @@ use reference::refusal::*;
 use reference::settings::Settings;
 use reference::site::{self, SiteRecord, MAX_ARRIVALS};
 use support::defects::{for_all_sets, Defect};
+use support::full::fill_site;
 use support::{arrival, TestNetwork};
 
 /// Two sites of ten counters, ten items.
@@ -35,10 +36,8 @@ fn good_observe() -> ObserveCall {
     }
 }
 
-/// Fills a site up to its limit with arrivals of value 0.
-fn fill(record: &mut SiteRecord, memory: &mut [u32]) {
-    memory[40] += (MAX_ARRIVALS - record.arrivals) as u32;
-    record.arrivals = MAX_ARRIVALS;
+fn fill(call: &mut ObserveCall) {
+    fill_site(&call.settings, &mut call.record, &mut call.memory);
 }
 
 #[test]
@@ -52,7 +51,7 @@ fn an_arrival_in_order() {
         (UNKNOWN_SITE, |call| call.arrival.site = 2),
         (UNKNOWN_ITEM, |call| call.arrival.item = 10),
         (UNKNOWN_VALUE, |call| call.arrival.value = 1024),
-        (SITE_FULL, |call| fill(&mut call.record, &mut call.memory)),
+        (SITE_FULL, fill),
     ];
     let good = good_observe();
     for_all_sets(&good, &defects, |mut call, refusal| {
@@ -70,9 +69,9 @@ fn an_arrival_in_order() {
 #[test]
 fn the_last_arrival_before_a_site_is_full() {
     let mut call = good_observe();
-    fill(&mut call.record, &mut call.memory);
+    fill(&mut call);
     call.record.arrivals -= 1;
-    call.memory[40] -= 1;
+    call.memory[40 + 1] -= 1;
     let answer = site::observe(&call.settings, call.arrival, &mut call.record, &mut call.memory);
     assert_eq!(answer.refusal, ACCEPTED);
     assert_eq!(call.record.arrivals, MAX_ARRIVALS);
@@ -94,15 +93,6 @@ fn good_batch() -> BatchCall {
     let unused = support::message(77, 77, 77, 77);
     // The first arrival is the round's second, so it closes: eight messages.
     BatchCall { network, arrivals: vec![arrival(0, 1, 1), arrival(1, 9, 9)], log: vec![unused; 56] }
-}
-
-/// Fills site 1 up, with what the coordinator must know of it.
-fn fill_site_1(call: &mut BatchCall) {
-    let before = call.network.sites.records[1].arrivals;
-    let more = MAX_ARRIVALS - before;
-    fill(&mut call.network.sites.records[1], &mut call.network.site_memory[1064..]);
-    call.network.coordinator.total += more;
-    call.network.coordinator_memory[10] += more;
 }
 
 #[test]
@@ -131,7 +121,7 @@ fn a_batch_refused_at_its_second_arrival() {
         (UNKNOWN_SITE, |call| call.arrivals[1].site = 2),
         (UNKNOWN_ITEM, |call| call.arrivals[1].item = 10),
         (UNKNOWN_VALUE, |call| call.arrivals[1].value = 1024),
-        (SITE_FULL, fill_site_1),
+        (SITE_FULL, |call| call.network.fill(1)),
         (SHORT_LOG, |call| call.log.truncate(55)),
     ];
     for_all_sets(&good_batch(), &defects, |mut call, refusal| {
@@ -305,7 +295,7 @@ fn longer_memory_is_left_alone() {
     let memory = &mut network.coordinator_memory;
     assert_eq!(coordinator::start_coordinator(&network.settings, memory).0, ACCEPTED);
     for round in 0..200 {
-        network.take(&[arrival(round % 2, round % 10, round)]);
+        network.take(&[arrival(round % 2, round % 10, 1 + round)]);
     }
     assert_eq!(network.site_memory.last(), Some(&55));
     assert_eq!(network.coordinator_memory.last(), Some(&u64::MAX));

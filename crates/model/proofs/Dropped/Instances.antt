@@ -1,7 +1,7 @@
 -- The instances of request N1, each by computation.
 use mathlib.Core.Path.{refl}
 use Rattle.model.specs.Limits.{valueCount}
-use Rattle.model.specs.Runs.{isTaken}
+use Rattle.model.specs.Draws.{isTaken}
 use Rattle.model.specs.DroppedInstances.{DroppedInstances}
 
 pub dropped-instances : DroppedInstances

@@ -15,7 +15,7 @@ use Rattle.model.specs.Refusals.{noRefusal}
 use Rattle.model.specs.Settings.{settingsRefusal}
 use Rattle.model.specs.Site.{Site, freshSite}
 use Rattle.model.specs.Network.{siteAt, afterArrival}
-use Rattle.model.specs.Runs.{refusalIn, isTaken, Run, freshRun, withArrival, runFrom, runOf}
+use Rattle.model.specs.Runs.{refusalIn, isTakenIn, Run, freshRun, withArrival, runFrom, runOf}
 use Rattle.model.specs.SoundNetwork.{Sound}
 use Rattle.model.specs.Departures.{Departure, departureOf, departuresFrom, departures, Accounted}
 use Rattle.model.proofs.Touches.DrawLaws.{taken-accepted}
@@ -88,11 +88,11 @@ module _ (settings : Settings) (passes : settingsRefusal settings ≡ noRefusal)
       subst (λ (all : List Departure). RunAccounted settings all run)
       (sym (append-nil departed)) ok
   accounted-from run departed (arrival ∷ arrivals) ok =
-      by-test (isTaken settings (run .network) arrival) refl
+      by-test (isTakenIn settings (run .network) arrival) refl
       (λ after all then-ok. accounted-from after all arrivals then-ok)
     where
       by-test : (accepts : Bool)
-          → isTaken settings (run .network) arrival ≡ accepts
+          → isTakenIn settings (run .network) arrival ≡ accepts
           → ((after : Run) (all : List Departure)
           → RunAccounted settings all after
           → RunAccounted settings (all ++ departuresFrom settings after arrivals)
@@ -102,7 +102,7 @@ module _ (settings : Settings) (passes : settingsRefusal settings ≡ noRefusal)
           (runFrom settings run (arrival ∷ arrivals))
       by-test true accepts later =
           let one = departureOf settings (run .network) arrival in
-          let none = taken-accepted settings (run .network) arrival accepts in
+          let none = taken-accepted arrival _ accepts in
           rw accepts
           (subst
           (λ (all : List Departure).

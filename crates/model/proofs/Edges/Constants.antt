@@ -1,7 +1,7 @@
 -- Limits and constants at the edges: the rows of specs/Edges/Constants.antt, each by computation.
 use mathlib.Core.Path.{refl}
 use Rattle.model.specs.Limits.{valueCount}
-use Rattle.model.specs.Runs.{isTaken}
+use Rattle.model.specs.Draws.{isTaken}
 use Rattle.model.specs.Edges.Constants.{ConstantEdges}
 
 pub constants : ConstantEdges

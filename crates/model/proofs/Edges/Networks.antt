@@ -1,7 +1,7 @@
 -- The network and batches at the edges: the rows of specs/Edges/Networks.antt, each by computation.
 use mathlib.Core.Path.{refl}
 use Rattle.model.specs.Limits.{valueCount}
-use Rattle.model.specs.Runs.{isTaken}
+use Rattle.model.specs.Draws.{isTaken}
 use Rattle.model.specs.Edges.Networks.{NetworkEdges, BatchEdges}
 
 pub network-memory : NetworkEdges

@@ -1,7 +1,7 @@
 -- Reading the coordinator at the edges: the rows of specs/Edges/Readings.antt, each by computation.
 use mathlib.Core.Path.{refl}
 use Rattle.model.specs.Limits.{valueCount}
-use Rattle.model.specs.Runs.{isTaken}
+use Rattle.model.specs.Draws.{isTaken}
 use Rattle.model.specs.Edges.Readings.{ReadingEdges}
 
 pub readings : ReadingEdges

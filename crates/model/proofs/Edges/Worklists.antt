@@ -1,7 +1,7 @@
 -- Lines and transcripts at the edges: the rows of specs/Edges/Worklists.antt, each by computation.
 use mathlib.Core.Path.{refl}
 use Rattle.model.specs.Limits.{valueCount}
-use Rattle.model.specs.Runs.{isTaken}
+use Rattle.model.specs.Draws.{isTaken}
 use Rattle.model.specs.Decimal.{decimal}
 use Rattle.model.specs.Edges.Worklists.{LineEdges, ProgramEdges}
 

@@ -16,7 +16,7 @@ use Rattle.model.specs.declared.Arrival.{Arrival}
 use Rattle.model.specs.Limits.{allowanceFactor}
 use Rattle.model.specs.Settings.{digits}
 use Rattle.model.specs.Network.{siteAt}
-use Rattle.model.specs.Runs.{isTaken, Run, freshRun, runOne, runFrom, runOf}
+use Rattle.model.specs.Runs.{isTakenIn, Run, freshRun, runOne, runFrom, runOf}
 use Rattle.model.specs.Claims.{counted, FewMessages, FirmMessages}
 use Rattle.model.proofs.Thresholds.SettingsLaws.{Settled}
 use Rattle.model.proofs.MessageCount.RoundBounds.{messages-firm, messages-few, messages-per-arrival}
@@ -31,14 +31,14 @@ module _ {settings : Settings} (fit : Settled settings) where
   run-ok-one : (run : Run) (arrival : Arrival)
       → RunOk settings run
       → RunOk settings (runOne settings run arrival)
-  run-ok-one run arrival ok = by-test (isTaken settings (run .network) arrival) refl
+  run-ok-one run arrival ok = by-test (isTakenIn settings (run .network) arrival) refl
     where
-      by-test : (taken : Bool) → isTaken settings (run .network) arrival ≡ taken
+      by-test : (taken : Bool) → isTakenIn settings (run .network) arrival ≡ taken
           → RunOk settings (runOne settings run arrival)
       by-test true taken =
           rw taken (network-ok-arrival fit ok arrival
           (known-of-no-refusal settings (siteAt (run .network) (arrival .site)) arrival
-          (taken-accepted settings (run .network) arrival taken)))
+          (taken-accepted arrival _ taken)))
       by-test false left = rw left ok
 
   run-ok-from : (run : Run) (arrivals : List Arrival)

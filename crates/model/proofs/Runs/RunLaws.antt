@@ -18,19 +18,19 @@ use Rattle.model.specs.declared.Message.{Message}
 use Rattle.model.specs.Choice.{if_then_else_}
 use Rattle.model.specs.Draws.{isDraw, drawsOf}
 use Rattle.model.specs.Network.{afterArrival}
-use Rattle.model.specs.Runs.{isTaken, Run, freshRun, runOne, runFrom, runOf}
+use Rattle.model.specs.Runs.{isTakenIn, Run, freshRun, runOne, runFrom, runOf}
 use Rattle.model.specs.Cuts.{Cuts}
 use Rattle.model.proofs.Touches.DrawLaws.{taken-drawn, touch-left, drawsOf-draw, drawsOf-append}
 
 -- Whether a run accepts an arrival as a draw.
 abbrev accepts : Settings → Run → Arrival → Bool
-accepts settings run arrival = isTaken settings (run .network) arrival
+accepts settings run arrival = isTakenIn settings (run .network) arrival
 
 -- Those of the arrivals that the run accepts, one after another.
 pub newlyAccepted : Settings → Run → List Arrival → List Arrival
 newlyAccepted settings run [] = []
 newlyAccepted settings run (arrival ∷ arrivals) =
-    (if isTaken settings (run .network) arrival then arrival ∷ [] else [])
+    (if isTakenIn settings (run .network) arrival then arrival ∷ [] else [])
     ++ newlyAccepted settings (runOne settings run arrival) arrivals
 
 module _ (settings : Settings) where
@@ -194,7 +194,7 @@ module _ (settings : Settings) where
           ≡ runFrom settings (runOne settings run arrival) arrivals
       by-draw true is-draw later = rw is-draw (later (runOne settings run arrival))
       by-draw false no-draw later =
-          rw (no-draw, touch-left settings (run .network) arrival no-draw) (later run)
+          rw (no-draw, touch-left arrival _ no-draw) (later run)
 
   drawn-one : (run : Run) (arrival : Arrival)
       → drawsOf (run .accepted) ≡ run .accepted
@@ -205,7 +205,7 @@ module _ (settings : Settings) where
           → drawsOf (runOne settings run arrival .accepted)
           ≡ runOne settings run arrival .accepted
       by-test true taken =
-          let one = drawsOf-draw arrival [] (taken-drawn settings (run .network) arrival taken) in
+          let one = drawsOf-draw arrival [] (taken-drawn arrival _ taken) in
           rw taken (drawsOf-append (run .accepted) (arrival ∷ []) ∙ rw (drawn, one))
       by-test false left = rw left drawn
 

@@ -21,7 +21,7 @@ use Rattle.model.specs.Counters.{Counter, counterAt, Placement, own, unu
 use Rattle.model.specs.Site.{Site, SiteStep, freshSite, placementIn, placeFor, countersWith, reportsItem, observed, siteReceives}
 use Rattle.model.specs.Coordinator.{isAnnouncing}
 use Rattle.model.specs.Network.{Network, Delivered, siteAt, handToCoordinator, handToSite, deliveryFuel, afterArrival}
-use Rattle.model.specs.Runs.{isTaken, Run, withArrival, runOne, runFrom}
+use Rattle.model.specs.Runs.{isTakenIn, Run, withArrival, runOne, runFrom}
 use Rattle.model.specs.DeliveryClaims.{Delivery, delivery, deliveryStep, deliverySteps, deliveryOf}
 use Rattle.model.proofs.Deliveries.DeliveryTheorem.{delivery-claims}
 use Rattle.model.proofs.Numbers.NeverFalls.{either}
@@ -180,7 +180,7 @@ module _ (settings : Settings) where
       → NoFewer (run .network .sites) (runOne settings run arrival .network .sites)
   one-no-fewer run arrival =
       either (λ (after : Run). NoFewer (run .network .sites) (after .network .sites))
-      (isTaken settings (run .network) arrival) (withArrival settings run arrival) run
+      (isTakenIn settings (run .network) arrival) (withArrival settings run arrival) run
       (arrival-no-fewer (run .network) arrival) (no-fewer-self (run .network .sites))
 
   -- After every list of arrivals, accepted or not.

@@ -4,7 +4,7 @@
 --   line-draw, line-touch, line-known   why a line is refused, by which it is; what 5, 6, 7 leave
 --   line-by-address, line-by-room, line-of-touch   the same row by row
 --   taken-drawn, taken-accepted         a taken arrival is a draw that is not refused
---   takes, touch-left, refused-left     when an arrival is taken, and when not
+--   takes, not-taken, touch-left, refused-left   when an arrival is taken, and when not
 --   after-draw, after-touch, line-few   an accepted line with full delivery
 --   BatchTakes, batch-takes             what a batch asks of a draw that it accepts
 --   batch-touch                         why a batch refuses a touch
@@ -12,22 +12,23 @@
 --   drawsOf-append, drawsOf-draw, drawsOf-touch, drawsOf-twice   the draws of a list
 --   draws-above-zero                    all of a list of draws are above class 0
 use mathlib.Core.Path.{_≡_, refl, sym, ap, _∙_}
-use mathlib.Core.Bool.{Bool, true, false, _&&_}
+use mathlib.Core.Bool.{Bool, true, false, false≢true, _&&_}
 use mathlib.Core.List.{List, [], _∷_, _++_, append-nil}
 use Prim.Native.Nat.{ℕ, zero, suc, _≤_}
 use native.Mathlib.Omega.{arith}
 use lib.Dec.{ltb}
 use lib.ListN.{length, drop}
-use borrow.Author.Tests.{eqb-true, ne-eqb, ltb-false, lt-ltb, leb-true}
+use borrow.Author.Tests.{eqb-true, eq-eqb, ne-eqb, ltb-false, lt-ltb, leb-true}
 use Rattle.model.specs.declared.Settings.{Settings}
 use Rattle.model.specs.declared.Arrival.{Arrival}
 use Rattle.model.specs.declared.Phase.the-variants.{Idle}
+use Rattle.model.specs.Choice.{isZero}
 use Rattle.model.specs.Refusals.{_orElse_, noRefusal, logTooShort}
 use Rattle.model.specs.Limits.{mostMessages, leastDrawn}
-use Rattle.model.specs.Draws.{isDraw, drawsOf}
+use Rattle.model.specs.Draws.{isDraw, drawsOf, isTaken}
 use Rattle.model.specs.Site.{Site, addressRefusal, roomRefusal, arrivalRefusal, lineRefusal}
-use Rattle.model.specs.Network.{Network, asItWas, afterArrival, afterLine}
-use Rattle.model.specs.Runs.{refusalIn, lineRefusalIn, isTaken, Run, runOne, batchRefusal}
+use Rattle.model.specs.Network.{Network, siteAt, asItWas, afterArrival, afterLine}
+use Rattle.model.specs.Runs.{refusalIn, lineRefusalIn, isTakenIn, Run, runOne, batchRefusal}
 use Rattle.model.specs.Claims.{counted, above}
 use Rattle.model.proofs.Deliveries.DeliveryTheorem.{delivery-claims}
 use Rattle.model.proofs.Thresholds.RefusalLaws.{begin, pass-part, refuse-part, end, both-accepted, passed}
@@ -85,46 +86,60 @@ module _ (settings : Settings) (site : Site) (arrival : Arrival) where
 
 -- ---- Whether an arrival is taken
 
-left-of-both : (first second : Bool) → (first && second) ≡ true → first ≡ true
-left-of-both true second both = refl
-left-of-both false second both = both
-
-right-of-both : (first second : Bool) → (first && second) ≡ true → second ≡ true
-right-of-both true second both = both
-right-of-both false true both = refl
-right-of-both false false both = both
-
-module _ (settings : Settings) (network : Network) (arrival : Arrival) where
-  pub taken-drawn : isTaken settings network arrival ≡ true → isDraw arrival ≡ true
+module _ (arrival : Arrival) (refusal : ℕ) where
+  pub taken-drawn : isTaken arrival refusal ≡ true → isDraw arrival ≡ true
   unfolding isTaken
-  taken-drawn taken = left-of-both (isDraw arrival) _ taken
+  taken-drawn taken = by-draw (isDraw arrival) taken
+    where
+      by-draw : (drawn : Bool) → (drawn && isZero refusal) ≡ true → drawn ≡ true
+      by-draw true both = refl
+      by-draw false both = both
 
-  pub taken-accepted : isTaken settings network arrival ≡ true
-      → refusalIn settings network arrival ≡ noRefusal
+  pub taken-accepted : isTaken arrival refusal ≡ true → refusal ≡ noRefusal
   unfolding isTaken
-  taken-accepted taken = eqb-true _ 0 (right-of-both (isDraw arrival) _ taken)
+  taken-accepted taken = by-draw (isDraw arrival) taken
+    where
+      by-draw : (drawn : Bool) → (drawn && isZero refusal) ≡ true → refusal ≡ noRefusal
+      by-draw true both = eqb-true refusal 0 both
+      by-draw false both = absurd (false≢true both)
 
   pub takes : isDraw arrival ≡ true
-      → refusalIn settings network arrival ≡ noRefusal
-      → isTaken settings network arrival ≡ true
+      → refusal ≡ noRefusal
+      → isTaken arrival refusal ≡ true
   unfolding isTaken
-  takes is-draw none = rw (is-draw, none)
+  takes is-draw none = by-draw (isDraw arrival) is-draw
+    where
+      by-draw : (drawn : Bool) → drawn ≡ true → (drawn && isZero refusal) ≡ true
+      by-draw true is = eq-eqb refusal 0 none
+      by-draw false is = is
 
-  pub touch-left : isDraw arrival ≡ false → isTaken settings network arrival ≡ false
+  -- Refused, or a touch.
+  pub not-taken : (refusal ≡ noRefusal → isDraw arrival ≡ false)
+      → isTaken arrival refusal ≡ false
   unfolding isTaken
-  touch-left no-draw = rw no-draw
+  not-taken touches = by-draw (isDraw arrival) touches
+    where
+      by-draw : (drawn : Bool)
+          → (refusal ≡ noRefusal → drawn ≡ false)
+          → (drawn && isZero refusal) ≡ false
+      by-draw true touch = ne-eqb refusal 0 (λ none. false≢true (sym (touch none)))
+      by-draw false touch = refl
 
+  pub touch-left : isDraw arrival ≡ false → isTaken arrival refusal ≡ false
+  touch-left no-draw = not-taken (λ _. no-draw)
+
+module _ (settings : Settings) (network : Network) (arrival : Arrival) where
   pub refused-left : (lineRefusalIn settings network arrival ≡ noRefusal → ⊥)
-      → isTaken settings network arrival ≡ false
-  unfolding isTaken
-  refused-left refused = by-draw (isDraw arrival) refl
+      → isTakenIn settings network arrival ≡ false
+  refused-left refused = not-taken arrival _ (λ none. by-draw (isDraw arrival) refl none)
     where
       by-draw : (drawn : Bool) → isDraw arrival ≡ drawn
-          → isTaken settings network arrival ≡ false
-      by-draw true is-draw =
-          rw is-draw (ne-eqb (refusalIn settings network arrival) 0
-          (λ none. refused (rw is-draw none)))
-      by-draw false no-draw = rw no-draw
+          → refusalIn settings network arrival ≡ noRefusal
+          → isDraw arrival ≡ false
+      by-draw true is-draw none =
+          absurd (refused
+          (line-draw settings (siteAt network (arrival .site)) arrival is-draw ∙ none))
+      by-draw false no-draw none = no-draw
 
   -- ---- An accepted line
 
@@ -193,14 +208,14 @@ line-taken settings run arrival none = by-draw (isDraw arrival) refl
   where
     by-draw : (drawn : Bool) → isDraw arrival ≡ drawn → LineTaken settings run arrival
     by-draw true is-draw =
-        let taken = takes settings (run .network) arrival is-draw (rw is-draw at none) in
+        let taken = takes arrival _ is-draw (rw is-draw at none) in
         record {
           network-is = rw (is-draw, taken);
           messages-are = rw (is-draw, taken);
           accepted-are = rw (is-draw, taken);
         }
     by-draw false no-draw =
-        let left = touch-left settings (run .network) arrival no-draw in
+        let left = touch-left arrival (refusalIn settings (run .network) arrival) no-draw in
         record {
           network-is = rw (no-draw, left);
           messages-are = rw (no-draw, left) (sym (append-nil (run .messages)));

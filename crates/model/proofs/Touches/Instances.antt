@@ -2,7 +2,7 @@
 use mathlib.Core.Path.{refl}
 use Rattle.model.specs.Limits.{valueCount}
 use Rattle.model.specs.Decimal.{decimal}
-use Rattle.model.specs.Runs.{isTaken}
+use Rattle.model.specs.Draws.{isTaken}
 use Rattle.model.specs.TouchInstances.{TouchInstances}
 
 pub touch-instances : TouchInstances

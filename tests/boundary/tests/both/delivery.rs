@@ -29,8 +29,8 @@ impl Delivered {
 
 impl Both {
     /// Records, both memories and the answer are the same on both sides; a refused arrival changes
-    /// nothing. The proved call hands out how many messages went out: those of the separate
-    /// implementation are answered.
+    /// nothing, and neither does a touch. The proved call hands out how many messages went out:
+    /// those of the separate implementation are answered.
     pub fn deliver_arrival(&mut self, network: &mut TestNetwork, next: Arrival) -> Delivered {
         let before = network.clone();
         let mut proved = network.clone();
@@ -49,7 +49,9 @@ impl Both {
         };
         assert_eq!(out, [carried, stopped, JUNK], "{}", call());
         assert!(proved == *network, "{}", call());
-        assert!(delivered.refusal == ACCEPTED || *network == before, "{}", call());
+        let taken = delivered.refusal == ACCEPTED && next.is_draw();
+        assert!(taken || *network == before, "{}", call());
+        assert!(taken || delivered.messages.is_empty(), "{}", call());
         delivered
     }
 }

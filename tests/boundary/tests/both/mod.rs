@@ -15,7 +15,7 @@ use reference::refusal;
 use reference::settings::Settings;
 use reference::site::{self, SiteRecord};
 
-use crate::support::account::{check_arrival, counters_of};
+use crate::support::account::{check_draw, counters_of};
 
 /// What stands in lent numbers before a call, and stays where the call has nothing to say.
 const JUNK: u64 = 77;
@@ -58,8 +58,8 @@ impl Both {
         refusal
     }
 
-    /// An accepted arrival also adds up as request N1 has it, and what left its counter is what the
-    /// memory shows to have left.
+    /// An accepted draw also adds up as request N1 has it, and what left its counter is what the
+    /// memory shows to have left. A touch, as a refused arrival, changes nothing and sends nothing.
     pub fn observe(
         &mut self,
         settings: [u32; 6],
@@ -69,7 +69,8 @@ impl Both {
     ) -> Outgoing<2> {
         let before = *record;
         let counters = counters_of(record, memory);
-        let mut proved_memory = memory.to_vec();
+        let given = memory.to_vec();
+        let mut proved_memory = given.clone();
         let mut numbers = site_numbers(record);
         let mut out = [JUNK; 11];
         let numbers_of_arrival = [arrival.site, arrival.item, arrival.value];
@@ -92,9 +93,12 @@ impl Both {
         assert_eq!(out[5..9], outgoing.messages[1].to_numbers(), "{}", call());
         assert_eq!(out[9..], [JUNK; 2]);
         assert!(proved_memory == memory, "{}", call());
-        if outgoing.refusal == refusal::ACCEPTED {
+        if outgoing.refusal == refusal::ACCEPTED && arrival.is_draw() {
             let after = counters_of(record, memory);
-            check_arrival((&before, &counters), (record, &after), departure, outgoing.sent());
+            check_draw((&before, &counters), (record, &after), departure, outgoing.sent());
+        } else {
+            assert_eq!((*record, outgoing.count, departure), (before, 0, None), "{}", call());
+            assert!(memory == given, "{}", call());
         }
         outgoing
     }

@@ -21,7 +21,12 @@ fn near(random: &mut Random, bound: u32) -> u32 {
 
 fn any_arrival(network: &TestNetwork, random: &mut Random) -> Arrival {
     let settings = &network.settings;
-    arrival(near(random, settings.sites), near(random, settings.universe), near(random, 1024))
+    let value = near(random, 1024).max(1);
+    arrival(
+        near(random, settings.sites),
+        near(random, settings.universe),
+        random.value_or_touch(value),
+    )
 }
 
 /// A message of numbers that mean something in this network, or of any.

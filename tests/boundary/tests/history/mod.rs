@@ -1,6 +1,6 @@
-//! A history of calls from a fresh start: batches and single arrivals with full delivery, junk
-//! calls anywhere, every call made on the proved code and on the separate implementation. Beside
-//! it stand the same rules written as plain loops, which name the messages and what lost its
+//! A history of calls from a fresh start: batches and single arrivals with full delivery, touches
+//! and junk calls anywhere, every call made on the proved code and on the separate implementation.
+//! Beside it stand the same rules written as plain loops, which name the messages and what lost its
 //! counter, and the true counts. Request N1 is checked after every call.
 
 // Each test file uses a part of this module only.
@@ -11,15 +11,16 @@ pub mod junk;
 use std::collections::VecDeque;
 
 use reference::coordinator::Phase;
-use reference::message::{Arrival, Message, COUNT_REPORT};
+use reference::message::{Arrival, Message, COUNT_REPORT, TOUCH};
 use reference::refusal::*;
+use reference::settings::Settings;
 
 use crate::both::batch::numbers_of;
 use crate::both::Both;
 use crate::support::account::Account;
 use crate::support::plain::PlainNetwork;
 use crate::support::truth::Truth;
-use crate::support::{Random, TestNetwork};
+use crate::support::{arrival, Random, TestNetwork};
 
 /// When a coordinator that announces is asked for its next kind 7.
 #[derive(Clone, Copy, PartialEq)]
@@ -89,7 +90,7 @@ impl History {
                 UNKNOWN_ITEM
             } else if next.value > 1023 {
                 UNKNOWN_VALUE
-            } else if places < messages.len() + 23 * settings.sites as usize + 2 {
+            } else if next.is_draw() && places < messages.len() + 23 * settings.sites as usize + 2 {
                 SHORT_LOG
             } else {
                 messages.extend(self.count(next));
@@ -106,14 +107,14 @@ impl History {
         let settings = self.network.settings;
         let sent = self.plain.take(*next);
         self.truth.count(&settings, next, sent.len());
-        let Truth { items, arrivals, leeway_used, .. } = &mut self.truth;
+        let Truth { items, draws, leeway_used, .. } = &mut self.truth;
         for item in self.plain.listed() {
-            leeway_used.listed(&settings, items[item], *arrivals);
+            leeway_used.listed(&settings, items[item], *draws);
         }
         sent
     }
 
-    /// A single arrival with full delivery by the public calls, and junk on the way.
+    /// A single arrival with full delivery by the public calls, and touches and junk on the way.
     pub fn single(&mut self, both: &mut Both, next: Arrival) {
         let asked = self.random.pick(&[Asked::InTurn, Asked::AllAtOnce, Asked::Anyhow]);
         let expected = self.count(&next);
@@ -121,9 +122,12 @@ impl History {
         self.check_forgotten(&sent);
         let mut waiting = VecDeque::from(sent.clone());
         loop {
+            let seen = self.seen_by_a_batch(&waiting);
             if self.random.one_in(8) {
-                let seen = self.seen_by_a_batch(&waiting);
                 self.try_junk(both, seen);
+            }
+            if self.random.one_in(8) {
+                self.touch(both, seen);
             }
             let announcing = matches!(self.network.coordinator.phase, Phase::Announcing { .. });
             let now = match asked {
@@ -155,6 +159,17 @@ impl History {
         self.network.coordinator.phase != Phase::Idle
             || waiting.iter().any(|message| message.kind == COUNT_REPORT)
             || records.iter().any(|record| record.threshold != threshold)
+    }
+
+    /// A touch, and a batch of touches without a log, which is 11 where it sees that a delivery is
+    /// under way. [`Both`] holds that nothing changes by them, and nothing goes out.
+    pub fn touch(&mut self, both: &mut Both, delivering: bool) {
+        let Settings { sites, universe, .. } = self.network.settings;
+        let touch = arrival(self.random.below32(sites), self.random.below32(universe), TOUCH);
+        assert_eq!(self.observe(both, touch), []);
+        let (answer, _) = both.run_batch(&mut self.network, &[touch; 3], 0);
+        let expected = if delivering { (0, INCONSISTENT) } else { (3, ACCEPTED) };
+        assert_eq!((answer.accepted, answer.refusal), expected);
     }
 
     fn observe(&mut self, both: &mut Both, next: Arrival) -> Vec<Message> {

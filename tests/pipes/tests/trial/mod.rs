@@ -9,6 +9,7 @@ use std::process::{Child, ChildStdin, ChildStdout, Command, Stdio};
 use pipes::{
     from_bytes, read_answer, read_numbers, to_bytes, write_request, MessageBytes, Request,
 };
+use reference::message::TOUCH;
 
 use damage::{damaged_arrivals, damaged_messages, Known};
 
@@ -129,7 +130,7 @@ impl Trial {
     }
 
     /// An arrival, and all messages that follow, carried in the order of going out. Damaged ones
-    /// come in between.
+    /// come in between, and touches.
     pub fn take(&mut self, arrival: [u32; 3]) {
         self.try_damaged_arrival(arrival);
         self.try_damaged_reports(arrival);
@@ -138,6 +139,7 @@ impl Trial {
         assert_eq!(refusal, 0);
         let mut waiting = VecDeque::from(sent);
         while let Some(bytes) = waiting.pop_front() {
+            self.try_touch(arrival);
             self.try_damaged_message(bytes);
             self.messages.push(bytes);
             self.known.see(from_bytes(bytes));
@@ -145,6 +147,16 @@ impl Trial {
             assert_eq!(refusal, 0, "{:?}", from_bytes(bytes));
             waiting.extend(sent);
         }
+    }
+
+    /// A touch of the same item at any site: it is accepted, and nothing goes out.
+    fn try_touch(&mut self, [_, item, _]: [u32; 3]) {
+        if self.random.below(4) != 0 {
+            return;
+        }
+        let site = self.random.below(u64::from(self.settings[0])) as u32;
+        let touch = Request::Arrival([site, item, TOUCH]);
+        assert_eq!(self.sites[site as usize].messages(touch), (0, vec![]));
     }
 
     /// A damaged message comes first where a right one is due; its receiver refuses it.

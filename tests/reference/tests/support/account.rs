@@ -64,9 +64,9 @@ pub fn departure_between(before: &[Counter], after: &[Counter]) -> Option<Depart
     left.map(|counter| Departure { item: counter.item, unreported: counter.unreported() })
 }
 
-/// Request N1 for one accepted arrival, whatever the memory was: what was unreported or forgotten
-/// before it, and the arrival itself, is reported, unreported or forgotten after it.
-pub fn check_arrival(
+/// Request N1 for one accepted draw, whatever the memory was: what was unreported or forgotten
+/// before it, and the draw itself, is reported, unreported or forgotten after it.
+pub fn check_draw(
     before: (&SiteRecord, &[Counter]),
     after: (&SiteRecord, &[Counter]),
     departure: Option<Departure>,

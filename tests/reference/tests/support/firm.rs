@@ -1,5 +1,5 @@
 //! Request N10's firmer word on the list, held against exact counts: each listed item has
-//! 6000 × (its arrivals) + 5e × (all arrivals) ≥ 6p × (all arrivals).
+//! 6000 × (its draws) + 5e × (all draws) ≥ 6p × (all draws).
 
 use std::io::Write;
 
@@ -13,24 +13,24 @@ pub struct LeewayUsed {
     leeway: u64,
     settings: Settings,
     of_item: u64,
-    arrivals: u64,
+    draws: u64,
 }
 
 impl LeewayUsed {
     pub fn none(settings: &Settings) -> LeewayUsed {
-        LeewayUsed { missing: 0, leeway: 1, settings: *settings, of_item: 0, arrivals: 0 }
+        LeewayUsed { missing: 0, leeway: 1, settings: *settings, of_item: 0, draws: 0 }
     }
 
-    /// A listed item, with so many of all arrivals.
-    pub fn listed(&mut self, settings: &Settings, of_item: u64, arrivals: u64) {
-        let asked = 6 * u64::from(settings.phi) * arrivals;
-        let leeway = 5 * u64::from(settings.epsilon) * arrivals;
+    /// A listed item, with so many of all draws.
+    pub fn listed(&mut self, settings: &Settings, of_item: u64, draws: u64) {
+        let asked = 6 * u64::from(settings.phi) * draws;
+        let leeway = 5 * u64::from(settings.epsilon) * draws;
         assert!(
             6000 * of_item + leeway >= asked,
-            "listed with {of_item} of {arrivals} under {settings:?}"
+            "listed with {of_item} of {draws} under {settings:?}"
         );
         let missing = asked.saturating_sub(6000 * of_item);
-        self.or_tighter(&LeewayUsed { missing, leeway, settings: *settings, of_item, arrivals });
+        self.or_tighter(&LeewayUsed { missing, leeway, settings: *settings, of_item, draws });
     }
 
     /// The tighter of the two.
@@ -53,7 +53,7 @@ impl LeewayUsed {
              {epsilon})\n",
             self.fraction(),
             self.of_item,
-            self.arrivals
+            self.draws
         );
         std::io::stdout().write_all(line.as_bytes()).expect("standard output");
     }

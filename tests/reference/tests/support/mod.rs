@@ -7,8 +7,10 @@
 pub mod account;
 pub mod defects;
 pub mod firm;
+pub mod full;
 pub mod plain;
 pub mod streams;
+pub mod touches;
 pub mod truth;
 
 use std::collections::VecDeque;
@@ -63,6 +65,11 @@ impl Random {
     /// One of a few numbers, so that bounds are met often.
     pub fn pick<T: Copy>(&mut self, choices: &[T]) -> T {
         choices[self.below(choices.len() as u64) as usize]
+    }
+
+    /// This value of a draw, or that of a touch: one arrival in ten is one.
+    pub fn value_or_touch(&mut self, value: u32) -> u32 {
+        touches::value_or_touch(self.next(), value)
     }
 }
 

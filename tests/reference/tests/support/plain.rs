@@ -67,11 +67,11 @@ impl PlainSite {
     }
 }
 
-/// A network from its fresh start on. It keeps all values that arrived.
+/// A network from its fresh start on. It keeps all values that were drawn.
 pub struct PlainNetwork {
     settings: Settings,
     pub sites: Vec<PlainSite>,
-    arrived: Vec<(u32, u32)>,
+    drawn: Vec<(u32, u32)>,
     pub estimates: Vec<u64>,
     pub total: u64,
     pub base: u64,
@@ -87,7 +87,7 @@ impl PlainNetwork {
         PlainNetwork {
             settings,
             sites: (0..settings.sites).map(site).collect(),
-            arrived: Vec::new(),
+            drawn: Vec::new(),
             estimates: vec![0; settings.universe as usize],
             total: 0,
             base: 0,
@@ -97,9 +97,12 @@ impl PlainNetwork {
         }
     }
 
-    /// All messages that follow an arrival.
+    /// All messages that follow an arrival. A touch is passed over.
     pub fn take(&mut self, arrival: Arrival) -> Vec<Message> {
-        self.arrived.push((arrival.site, arrival.value));
+        if !arrival.is_draw() {
+            return Vec::new();
+        }
+        self.drawn.push((arrival.site, arrival.value));
         let site = &mut self.sites[arrival.site as usize];
         let mut sent = site.observe(arrival.item, arrival.value, self.threshold);
         for report in sent.clone() {
@@ -149,8 +152,8 @@ impl PlainNetwork {
             let middle = (low + high) / 2;
             let mut sum = 0;
             for site in 0..self.settings.sites {
-                let below = |arrived: &&(u32, u32)| arrived.0 == site && arrived.1 <= middle;
-                let count = self.arrived.iter().filter(below).count() as u64;
+                let below = |draw: &&(u32, u32)| draw.0 == site && draw.1 <= middle;
+                let count = self.drawn.iter().filter(below).count() as u64;
                 sent.push(message(5, site, u64::from(middle), 0));
                 sent.push(message(6, site, u64::from(middle), count));
                 sum += count;

@@ -1,5 +1,6 @@
 //! Streams of arrivals, most of them made to hurt: they look at the network
-//! and send what its answers are worst prepared for.
+//! and send what its answers are worst prepared for. In each of them one
+//! arrival in ten is a touch.
 
 use reference::message::Arrival;
 use reference::site::counter_at;
@@ -45,8 +46,8 @@ pub const ALL: [Stream; 8] = [
 pub struct Source {
     stream: Stream,
     random: Random,
+    /// Draws so far, and those of item 0.
     sent: u64,
-    /// Arrivals of item 0.
     of_item_0: u64,
     /// The item that is held one short, and whether it is being released.
     held: u32,
@@ -60,9 +61,10 @@ impl Source {
         Source { stream, random, sent: 0, of_item_0: 0, held: 0, releasing: false }
     }
 
-    /// The next arrival, given the network that took the others.
+    /// The next arrival, given the network that took the others. After a touch
+    /// the stream stands where it stood.
     pub fn next(&mut self, network: &TestNetwork) -> Arrival {
-        let next = match self.stream {
+        let mut next = match self.stream {
             Stream::Uniform => self.uniform(network),
             Stream::OneSite => Arrival { site: 0, ..self.skewed(network) },
             Stream::RoundRobin => self.skewed(network),
@@ -72,8 +74,11 @@ impl Source {
             Stream::Borderline => self.borderline(network),
             Stream::BarelyListed => self.barely_listed(network),
         };
-        self.sent += 1;
-        self.of_item_0 += u64::from(next.item == 0);
+        next.value = self.random.value_or_touch(next.value);
+        if next.is_draw() {
+            self.sent += 1;
+            self.of_item_0 += u64::from(next.item == 0);
+        }
         next
     }
 
@@ -85,7 +90,7 @@ impl Source {
         let settings = &network.settings;
         let (site, item) =
             (self.random.below32(settings.sites), self.random.below32(settings.universe));
-        arrival(site, item, self.random.below32(1024))
+        arrival(site, item, self.random.between(1, 1023))
     }
 
     /// Item i comes about half as often as item i / 2.
@@ -93,7 +98,7 @@ impl Source {
         let item_bound = 1 << self.random.below(17);
         let item = self.random.below32(item_bound) % network.settings.universe;
         let value_bound = 1 << self.random.below(11);
-        let value = self.random.below32(value_bound);
+        let value = self.random.below32(value_bound).max(1);
         arrival(self.turn(network), item, value)
     }
 
@@ -101,7 +106,7 @@ impl Source {
         let short = 1000 * self.of_item_0 < u64::from(network.settings.phi) * self.sent;
         let item =
             if short { 0 } else { (self.sent % u64::from(network.settings.universe)) as u32 };
-        arrival(self.turn(network), item, (self.sent % 1024) as u32)
+        arrival(self.turn(network), item, 1 + (self.sent % 1023) as u32)
     }
 
     /// Sends the held item where it stays one short; when it is so everywhere,
@@ -118,12 +123,12 @@ impl Source {
             let short = unreported(network, site, self.held) + 1
                 < network.sites.records[site as usize].threshold;
             if short != self.releasing {
-                return arrival(site, self.held, self.held % 1024);
+                return arrival(site, self.held, 1 + self.held % 1023);
             }
         }
         // Few items only, so that each is held again and again.
         self.held = (self.held + 1) % settings.universe.min(settings.capacity / 2 + 1);
-        arrival(start, self.held, 1023 - self.held % 1024)
+        arrival(start, self.held, 1023 - self.held % 1023)
     }
 
     fn hovering(&mut self, network: &TestNetwork) -> Arrival {
@@ -137,7 +142,7 @@ impl Source {
         };
         let site = (0..settings.sites).find(short).unwrap_or(self.turn(network));
         let value = match network.quantile() {
-            Some(quantile) if quantile >= 512 => 0,
+            Some(quantile) if quantile >= 512 => 1,
             Some(_) => 1023,
             None => 512,
         };

@@ -20,7 +20,8 @@ use Rattle.model.specs.Draws.{drawsOf}
 use Rattle.model.specs.Network.{Network, afterLine}
 use Rattle.model.specs.Runs.{Run, lineRefusalIn, runOne, runFrom, Batch, batchRefusal, batchFrom, batchOf}
 use Rattle.model.proofs.Thresholds.RefusalLaws.{both-accepted}
-use Rattle.model.proofs.Touches.DrawLaws.{LineTaken, line-taken, drawsOf-append}
+use Rattle.model.proofs.Touches.DrawLaws.{LineTaken, line-taken}
+use Rattle.model.proofs.Touches.DrawLists.{drawsOf-append}
 
 -- What a batch that goes on adds to a batch, and to the run that it goes on from.
 pub record GoesOn (settings : Settings) (run : Run) (arrivals : List Arrival) (batch after : Batch)

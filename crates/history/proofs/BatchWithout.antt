@@ -1,40 +1,32 @@
--- A batch with the touches that it accepted left out: it takes the same draws, sends the same
--- messages and stops at the same line. Of the model's batch, and of every batch call.
+-- The model's batch with the touches that it accepted left out: it takes the same draws, sends the
+-- same messages and stops at the same line.
 --
 --   SameBut                    two batches that differ in the number accepted alone
 --   Without, without           one with touches and one without, arrival by arrival
 --   batch-without              the model's batch without the touches that it accepted
---   says-without               what a batch call answers then
 use mathlib.Core.Path.{_≡_, refl, sym, ap, _∙_, subst⁻¹}
 use mathlib.Core.Bool.{Bool, true, false}
 use mathlib.Core.List.{List, [], _∷_, _++_, append-nil}
 use Prim.Native.Nat.{ℕ, suc, _+_, _-_}
 use native.Mathlib.Omega.{arith}
 use lib.ListN.{length, take, drop}
-use borrow.Author.Tests.{eqb-true, eqb-false}
 use Rattle.model.specs.declared.Settings.{Settings}
 use Rattle.model.specs.declared.Arrival.{Arrival}
-use Rattle.model.specs.declared.Message.{Message}
 use Rattle.model.specs.Choice.{isZero}
 use Rattle.model.specs.Refusals.{noRefusal}
 use Rattle.model.specs.Draws.{isDraw, drawsOf}
-use Rattle.model.specs.SiteMemory.{overwrite}
-use Rattle.model.specs.CoordinatorMemory.{coordinatorRecord, coordinatorMemory}
-use Rattle.model.specs.NetworkMemory.{siteRecords, sitesMemory}
 use Rattle.model.specs.Network.{Network, Delivered, afterLine}
 use Rattle.model.specs.Runs.{Batch, batchRefusal, batchFrom, freshBatch, batchOf}
-use Rattle.model.proofs.Touches.DrawLaws.{after-touch, drawsOf-draw, drawsOf-touch}
-use Rattle.tracker.specs.Batch.{BatchCall, BatchHeld, BatchSays, startRefusal, batchIn, unlessRefused, logRoom, messageNumbers}
-use Rattle.history.specs.State.{networkOf}
-use Rattle.history.specs.Touches.{withoutTouches, callWithout, BatchWithout}
-use Rattle.history.proofs.Answers.{accepted-choice, refused-choice}
+use Rattle.model.proofs.Touches.DrawLaws.{after-touch}
+use Rattle.model.proofs.Touches.DrawLists.{drawsOf-draw, drawsOf-touch}
+use Rattle.history.specs.Touches.{withoutTouches}
 use Rattle.history.proofs.BatchRuns.{nextBatch}
 
 -- Two batches that differ in the number accepted alone.
-record SameBut (batch other : Batch) : Type 0 where
-  same-network : other .network ≡ batch .network
-  same-messages : other .messages ≡ batch .messages
-  same-refusal : other .refusal ≡ batch .refusal
+pub record SameBut (batch other : Batch) : Type 0 where
+  pub same-network : other .network ≡ batch .network
+  pub same-messages : other .messages ≡ batch .messages
+  pub same-refusal : other .refusal ≡ batch .refusal
 
 module _ (settings : Settings) (room : ℕ) where
   -- What a batch without touches comes to, beside one with them: so many more were accepted by
@@ -202,15 +194,15 @@ module _ (settings : Settings) (room : ℕ) where
 -- ---- A whole batch
 
 -- The model's batch without the touches among the first so many arrivals.
-record SameWithout (settings : Settings) (room : ℕ) (network : Network) (arrivals : List Arrival)
+pub record SameWithout (settings : Settings) (room : ℕ) (network : Network) (arrivals : List Arrival)
     (taken : ℕ) : Type 0 where
-  same : SameBut (batchOf settings room network arrivals)
+  pub same : SameBut (batchOf settings room network arrivals)
       (batchOf settings room network (withoutTouches taken arrivals))
-  draws-accepted : batchOf settings room network (withoutTouches taken arrivals) .accepted
+  pub draws-accepted : batchOf settings room network (withoutTouches taken arrivals) .accepted
       ≡ length (drawsOf (take taken arrivals))
 
 -- Among those that it accepted.
-batch-without : (settings : Settings) (room : ℕ) (network : Network) (arrivals : List Arrival)
+pub batch-without : (settings : Settings) (room : ℕ) (network : Network) (arrivals : List Arrival)
     → SameWithout settings room network arrivals
     (batchOf settings room network arrivals .accepted)
 batch-without settings room network arrivals =
@@ -221,98 +213,3 @@ batch-without settings room network arrivals =
     both .accepted-is ∙ omega arith in
     subst⁻¹ (SameWithout settings room network arrivals) as-many
     (record { same = both .same; draws-accepted = both .draws-accepted ∙ omega arith })
-
--- ---- A batch call
-
-module _ (call : BatchCall) (answer : BatchHeld) (says : BatchSays call answer) where
-  abbrev other : BatchCall
-  other = callWithout call (answer .accepted)
-
-  -- Where the start test passes, as it then does for both.
-  both-batches : startRefusal call ≡ noRefusal
-      → SameWithout (call .settings) (logRoom (call .log))
-      (networkOf (call .settings) (call .held)) (call .arrivals) (answer .accepted)
-  both-batches none =
-      subst⁻¹
-      (SameWithout (call .settings) (logRoom (call .log))
-      (networkOf (call .settings) (call .held)) (call .arrivals))
-      (says .accepted ∙ accepted-choice _ _ _ none)
-      (batch-without (call .settings) (logRoom (call .log))
-      (networkOf (call .settings) (call .held)) (call .arrivals))
-
-  -- What the one hands back, the other does.
-  handed : {A : Type 0} (x y given : A) (of : Batch → A)
-      → x ≡ unlessRefused call (of (batchIn call)) given
-      → (startRefusal call ≡ noRefusal → x ≡ of (batchIn call) → y ≡ of (batchIn other))
-      → (x ≡ given → y ≡ given)
-      → y ≡ unlessRefused other (of (batchIn other)) given
-  handed {A} x y given of is done kept = by-start (isZero (startRefusal call)) refl
-    where
-      by-start : (test : Bool) → isZero (startRefusal call) ≡ test
-          → y ≡ unlessRefused other (of (batchIn other)) given
-      by-start true passes =
-          let none = eqb-true (startRefusal call) 0 passes in
-          done none (is ∙ accepted-choice _ _ _ none)
-          ∙ sym (accepted-choice (startRefusal call) _ _ none)
-      by-start false fails =
-          let some = eqb-false (startRefusal call) 0 fails in
-          kept (is ∙ refused-choice _ _ _ some)
-          ∙ sym (refused-choice (startRefusal call) _ _ some)
-
-  -- By the network or the messages, which are the same.
-  by-network : {A : Type 0} (x given : A) (of : Network → A)
-      → x ≡ unlessRefused call (of (batchIn call .network)) given
-      → x ≡ unlessRefused other (of (batchIn other .network)) given
-  by-network x given of is =
-      handed x x given (λ (b : Batch). of (b .network)) is
-      (λ none done. done ∙ ap of (sym (both-batches none .same .same-network))) (λ kept. kept)
-
-  by-messages : {A : Type 0} (x given : A) (of : List Message → A)
-      → x ≡ unlessRefused call (of (batchIn call .messages)) given
-      → x ≡ unlessRefused other (of (batchIn other .messages)) given
-  by-messages x given of is =
-      handed x x given (λ (b : Batch). of (b .messages)) is
-      (λ none done. done ∙ ap of (sym (both-batches none .same .same-messages))) (λ kept. kept)
-
-  pub says-without : BatchWithout call answer
-  says-without = record {
-    refusal =
-        handed (answer .refusal) (answer .refusal) (startRefusal call)
-        (λ (b : Batch). b .refusal) (says .refusal)
-        (λ none done. done ∙ sym (both-batches none .same .same-refusal)) (λ kept. kept);
-    accepted =
-        handed (answer .accepted) (length (drawsOf (take (answer .accepted) (call .arrivals)))) 0
-        (λ (b : Batch). b .accepted) (says .accepted)
-        (λ none done. sym (both-batches none .draws-accepted))
-        (λ kept. ap (λ (n : ℕ). length (drawsOf (take n (call .arrivals)))) kept);
-    written = by-messages (answer .written) 0 length (says .written);
-    sites =
-        handed (answer .held .sites) (answer .held .sites) (call .held .sites)
-        (λ (b : Batch). record {
-          records = siteRecords (b .network .sites) (call .held .sites .records);
-          messages = call .held .sites .messages + length (b .messages);
-        }) (says .sites)
-        (λ none done.
-        let network = sym (both-batches none .same .same-network) in
-        let messages = sym (both-batches none .same .same-messages) in
-        done
-        ∙ (λ i. record {
-          records = siteRecords (network i .sites) (call .held .sites .records);
-          messages = call .held .sites .messages + length (messages i);
-        }))
-        (λ kept. kept);
-    coordinator =
-        by-network (answer .held .coordinator) (call .held .coordinator)
-        (λ (n : Network). coordinatorRecord (n .coordinator)) (says .coordinator);
-    site-memory =
-        by-network (answer .held .siteMemory) (call .held .siteMemory)
-        (λ (n : Network). sitesMemory (call .settings) (n .sites) (call .held .siteMemory))
-        (says .site-memory);
-    coordinator-memory =
-        by-network (answer .held .coordinatorMemory) (call .held .coordinatorMemory)
-        (λ (n : Network). coordinatorMemory (n .coordinator) (call .held .coordinatorMemory))
-        (says .coordinator-memory);
-    log =
-        by-messages (answer .log) (call .log)
-        (λ (ms : List Message). overwrite (messageNumbers ms) (call .log)) (says .log);
-  }

@@ -17,13 +17,13 @@ use Rattle.model.specs.Choice.{if_then_else_, isZero}
 use Rattle.model.specs.Refusals.{noRefusal}
 use Rattle.model.specs.Settings.{settingsRefusal}
 use Rattle.model.specs.Draws.{drawsOf}
-use Rattle.model.proofs.Touches.DrawLaws.{drawsOf-draw, drawsOf-touch, drawsOf-append, drawsOf-twice}
+use Rattle.model.proofs.Touches.DrawLists.{drawsOf-draw, drawsOf-touch, drawsOf-append, drawsOf-twice}
 use Rattle.tracker.specs.Batch.{BatchHeld}
 use Rattle.history.specs.State.{State, Slices, fronts, lending, putBack}
 use Rattle.history.specs.Histories.{batchCall, afterBatch, batch, single, to-coordinator, to-site, next-announcement, Refuses, arrival-left, site-message-refused, coordinator-message-refused, announcement-refused, batch-takes-none, Step, arrives, delivers, refuses, Reachable, started, stepped, heldAtStart}
 use Rattle.history.specs.Touches.{touchesBy, acceptedBy, acceptedIn, withoutTouches, answerWithout, LeftOut}
 use Rattle.history.proofs.Refused.{refused-same}
-use Rattle.history.proofs.BatchWithout.{says-without}
+use Rattle.history.proofs.CallWithout.{says-without}
 
 -- ---- The draws among the lines
 

@@ -46,6 +46,7 @@ pub mod RefusedDraws
 pub mod GivenDraws
 pub mod KeptOut
 pub mod BatchWithout
+pub mod CallWithout
 pub mod LeftOut
 pub mod Theorem
 pub mod Example

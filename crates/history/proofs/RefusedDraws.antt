@@ -26,7 +26,8 @@ use Rattle.model.specs.SiteMemory.{siteWords}
 use Rattle.model.specs.Network.{Network, siteAt}
 use Rattle.model.specs.Runs.{Run, withArrival, isTakenIn, runOne, runFrom, runOf, Batch, batchOf}
 use Rattle.model.proofs.Runs.RunLaws.{runFrom-draws}
-use Rattle.model.proofs.Touches.DrawLaws.{line-known, touch-left, refused-left, drawsOf-draw, drawsOf-touch}
+use Rattle.model.proofs.Touches.DrawLaws.{line-known, touch-left, refused-left}
+use Rattle.model.proofs.Touches.DrawLists.{drawsOf-draw, drawsOf-touch}
 use Rattle.model.proofs.Soundness.ConsistentNetwork.{passes-of}
 use Rattle.site_steps.specs.declared.Observed.{Observed}
 use Rattle.site.specs.Calls as SiteCalls

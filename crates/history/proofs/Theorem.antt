@@ -46,7 +46,7 @@ pub use Rattle.history.proofs.Arisen.{Arisen, arisen}
 use Rattle.history.proofs.Arisen.{kept-from}
 use Rattle.history.proofs.GivenDraws.{as-given}
 use Rattle.history.proofs.KeptOut.{nothing-lost}
-use Rattle.history.proofs.BatchWithout.{says-without}
+use Rattle.history.proofs.CallWithout.{says-without}
 use Rattle.history.proofs.LeftOut.{left-out}
 
 -- ---- Each demand

@@ -20,7 +20,8 @@ use Rattle.model.specs.Draws.{isDraw, drawsOf}
 use Rattle.model.specs.Network.{afterArrival}
 use Rattle.model.specs.Runs.{isTakenIn, Run, freshRun, runOne, runFrom, runOf}
 use Rattle.model.specs.Cuts.{Cuts}
-use Rattle.model.proofs.Touches.DrawLaws.{taken-drawn, touch-left, drawsOf-draw, drawsOf-append}
+use Rattle.model.proofs.Touches.DrawLaws.{taken-drawn, touch-left}
+use Rattle.model.proofs.Touches.DrawLists.{drawsOf-draw, drawsOf-append}
 
 -- Whether a run accepts an arrival as a draw.
 abbrev accepts : Settings → Run → Arrival → Bool

@@ -17,7 +17,7 @@ use Rattle.model.proofs.Runs.RunInvariant.{run-ok, messages-of-ok, firm
 use Rattle.model.proofs.BetweenArrivals.ListLaws.{list-law}
 use Rattle.model.proofs.BetweenArrivals.ListSize.{list-size-of-estimates}
 use Rattle.model.proofs.Runs.RunLaws.{runs-cut}
-use Rattle.model.proofs.Touches.DrawLaws.{draws-above-zero}
+use Rattle.model.proofs.Touches.DrawLists.{draws-above-zero}
 use Rattle.model.proofs.Touches.BeforeDraws.{before-draws-of}
 
 module _ (settings : Settings) (arrivals : List Arrival)

@@ -194,7 +194,11 @@ module _ (settings : Settings) (room : ℕ) where
 -- ---- A whole batch
 
 -- The model's batch without the touches among the first so many arrivals.
-pub record SameWithout (settings : Settings) (room : ℕ) (network : Network) (arrivals : List Arrival)
+pub record SameWithout
+    (settings : Settings)
+    (room : ℕ)
+    (network : Network)
+    (arrivals : List Arrival)
     (taken : ℕ) : Type 0 where
   pub same : SameBut (batchOf settings room network arrivals)
       (batchOf settings room network (withoutTouches taken arrivals))

@@ -3,11 +3,13 @@
 --
 --   example                          the last state is reachable
 --   example-given, example-kept-out  its draws
+--   example-accepted, example-without    the lines that its calls accepted, and without touches
 --   example-list, example-quantile   a reading
-use mathlib.Core.Path.{_≡_, refl}
+use mathlib.Core.Path.{_≡_, refl, ap, _∙_}
 use mathlib.Core.List.{[], _∷_}
 use Rattle.model.specs.declared.Quantile.the-variants.{Value}
 use Rattle.model.specs.Limits.{valueCount}
+use Rattle.model.specs.Draws.{drawsOf}
 use Rattle.model.specs.Instances.{settingsA, arrivalWith, draw}
 use Rattle.model.specs.TouchInstances.{touch}
 use Rattle.coordinator_reading.specs.Contracts.{QuantileSays}
@@ -15,7 +17,9 @@ use Rattle.coordinator_list.specs.Contracts.{ListSays}
 use Rattle.history.specs.State.{State, coordinatorPart}
 use Rattle.history.specs.Histories.{Step, arrives, delivers, refuses, Reachable, stepped}
 use Rattle.history.specs.Given.{givenIn, keptOutIn}
+use Rattle.history.specs.Touches.{acceptedIn}
 use Rattle.history.specs.Example.{startedState, afterDraw, afterItemReport, afterCountReport, afterPoll, afterPollAnswer, afterAnnouncement, atRestAgain, afterBatchOfTwo}
+use Rattle.history.proofs.LeftOut.{left-out}
 use Rattle.history.proofs.Example.{begins, draw-refused, draw-accepted, item-report, message-refused, slice-refused, draw-refused-underway, touch-underway, count-report, polled, poll-answered, announced, told, touches-alone, batch-stopped}
 
 -- ---- The whole history
@@ -60,6 +64,21 @@ pub example-kept-out : keptOutIn example ≡ draw ∷ []
 unfolding example begins draw-refused draw-accepted message-refused slice-refused
     draw-refused-underway touch-underway touches-alone batch-stopped
 example-kept-out = refl
+
+-- Request N2: two draws and four touches were accepted.
+pub example-accepted : acceptedIn example
+    ≡ draw ∷ (touch ∷ (touch ∷ (touch ∷ (draw ∷ (touch ∷ [])))))
+unfolding example begins draw-refused draw-accepted message-refused slice-refused
+    draw-refused-underway touch-underway touches-alone batch-stopped
+example-accepted = refl
+
+-- The history that the theorem gives without them accepts the draws alone, and comes to the same
+-- state.
+pub example-without : acceptedIn (left-out settingsA afterBatchOfTwo refl example .without)
+    ≡ draw ∷ (draw ∷ [])
+example-without =
+    left-out settingsA afterBatchOfTwo refl example .accepts-draws
+    ∙ ap drawsOf example-accepted
 
 -- ---- A reading: "listed 7", "class 3"
 

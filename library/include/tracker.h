@@ -1,0 +1,273 @@
+/* The draw tracker: decks, desk and the messages between them, in C or C++. Link with libtracker.a;
+ * `bash library/build.sh` makes it. x86-64, System V calling convention; no other library is needed.
+ *
+ * Up to 32 decks watch draws of reagent codes. Whenever no message is under way, the desk knows
+ * which codes take at least a share p of all draws, and which volume class is their q-quantile,
+ * each within a leeway e, all in thousandths.
+ *
+ * ANSWERS. Each call answers TRACKER_ACCEPTED (0) or a refusal. A refused call changes nothing that
+ * it was lent, with one exception: tracker_run, which says how far it came.
+ *
+ * MEMORY. The caller owns every byte. No call keeps a pointer, allocates, blocks, or fails in any
+ * other way. Lent memory may be longer than asked for: the rest is neither read nor changed. Its
+ * length may differ from call to call, as long as it is enough; what is too short is refused (4).
+ *
+ * RECORDS AND MEMORY ARE WRITTEN BY THESE CALLS ALONE. They may be read at any time, copied, and
+ * moved to another address. What the calls left and nobody else changed is always consistent;
+ * anything else is either refused (11) or stepped by the same rules, never undefined.
+ *
+ * WHAT A CALLER OWES, and all that he owes: no number and no length is undefined, but
+ * - a pointer with a length points to at least that many numbers (bytes, draws) that live through
+ *   the call; with length 0 it may be null;
+ * - a pointer without a length points to one object of its type (`out[2]`: two) and is not null;
+ * - each is aligned as C aligns its type: 4 bytes for uint32_t, 8 for uint64_t and size_t;
+ * - what a call writes overlaps nothing else that is lent to it. Two things that are `const` may
+ *   overlap.
+ *
+ * THREADS. There is no hidden state. Calls on different decks, desks or benches may run at the same
+ * time; calls on the same records or memory may not.
+ *
+ * COST. Every call but tracker_run tests all memory that it is lent: some c numbers at a deck, some
+ * u at the desk. tracker_run tests once, when it starts: docs/INTEGRATORS.md has the figures.
+ */
+#ifndef TRACKER_H
+#define TRACKER_H
+
+#include <stddef.h>
+#include <stdint.h>
+
+/* The settings test, the allowance and the line test, on plain numbers. They are in libtracker.a
+ * too. */
+#include "controller.h"
+
+#ifdef __cplusplus
+extern "C" {
+#endif
+
+/* ---- Refusals, besides those of controller.h (0, 1, 2, 3 and 13) ---------------------------- */
+
+#define TRACKER_MEMORY_TOO_SHORT 4     /* lent memory is shorter than the settings ask for */
+#define TRACKER_UNKNOWN_DECK 5         /* a deck is not below k */
+#define TRACKER_UNKNOWN_CODE 6         /* a code is not below u */
+#define TRACKER_CLASS_TOO_LARGE 7      /* a class is above 1023 */
+#define TRACKER_DECK_FULL 8            /* the deck has taken 1,000,000,000 draws */
+#define TRACKER_MESSAGE_NOT_DUE 9      /* kind unknown, or not due now, here or from this deck */
+#define TRACKER_AMOUNT_NOT_DUE 10      /* an amount of a message that cannot be right */
+#define TRACKER_MEMORY_INCONSISTENT 11 /* record or memory is none that the calls leave */
+#define TRACKER_LIST_TOO_SHORT 12      /* the list has fewer places than codes are listed */
+#define TRACKER_LOG_TOO_SHORT 14       /* the log lacks the places of one draw's messages */
+
+/* ---- Settings, draws and messages ------------------------------------------------------------ */
+
+/* decks k (1 to 32), leeway e (2 to 1000), list share p (1 to 1000, at least e) and rank q (1 to
+ * 1000) in thousandths, slots c (1 to 3000, c x e at least 6000), codes u (1 to 65536). Every call
+ * is given the settings that the bench was started with, and tests them (1, 2, 3). */
+typedef struct {
+    uint32_t decks, leeway, share, rank, slots, codes;
+} tracker_settings;
+
+/* A draw: deck 0 to k - 1, code 0 to u - 1, volume class 0 to 1023. Class 0 is no draw: the tip
+ * touched but took nothing. It is accepted and changes nothing. */
+typedef struct {
+    uint32_t deck, code, volume_class;
+} tracker_draw;
+
+/* A message: its kind (1 to 7) and the deck that it comes from (kinds 1, 2, 4, 6) or goes to (3, 5,
+ * 7), and two numbers. Where a place for a message holds none, all four are 0. */
+typedef struct {
+    uint64_t kind, deck, a, b;
+} tracker_message;
+
+/* Kinds 3, 5 and 7 go to the deck that the message names, all others to the desk. */
+#define TRACKER_TO_DECK(kind) ((kind) == 3 || (kind) == 5 || (kind) == 7)
+
+/* ---- Records: the single numbers of decks and desk, in this order ---------------------------- */
+
+#define TRACKER_MOST_DECKS 32
+#define TRACKER_MOST_SLOTS 3000
+#define TRACKER_MOST_CODES 65536
+#define TRACKER_TOP_CLASS 1023
+#define TRACKER_CLASSES 1024
+
+/* One deck. `forgotten` counts the draws that went, unsent, with codes that lost their slot. */
+typedef struct {
+    uint64_t draws, pending, threshold, slots_in_use, forgotten;
+} tracker_deck;
+
+/* All decks of a bench, those from k on unused, and the count of messages since the start, to which
+ * tracker_run alone adds what it writes. */
+typedef struct {
+    tracker_deck deck[TRACKER_MOST_DECKS];
+    uint64_t messages;
+} tracker_decks;
+
+/* The desk. Its phase: which of the four, then deck, low, high and sum, those not in use 0. */
+typedef struct {
+    uint64_t total, base, threshold, signals, volume_class;
+    uint64_t phase, phase_deck, phase_low, phase_high, phase_sum;
+} tracker_desk;
+
+#define TRACKER_IDLE 0
+#define TRACKER_COLLECTING 1
+#define TRACKER_PROBING 2
+#define TRACKER_ANNOUNCING 3
+
+/* ---- How much to lend ------------------------------------------------------------------------ */
+
+/* In numbers, of 4 bytes (decks, list) or 8 (desk, log), never in bytes. For constant settings: */
+#define TRACKER_DECK_NUMBERS(slots) (4 * (size_t)(slots) + TRACKER_CLASSES)
+#define TRACKER_DECKS_NUMBERS(decks, slots) ((size_t)(decks)*TRACKER_DECK_NUMBERS(slots))
+#define TRACKER_DESK_NUMBERS(codes) ((size_t)(codes) + TRACKER_CLASSES)
+#define TRACKER_MOST_MESSAGES(decks) (23 * (size_t)(decks) + 2) /* of one draw */
+#define TRACKER_MESSAGE_NUMBERS 4
+#define TRACKER_LOG_NUMBERS(decks) (TRACKER_MESSAGE_NUMBERS * TRACKER_MOST_MESSAGES(decks))
+#define TRACKER_MOST_LISTED 1000 /* under any settings */
+
+/* The same as a call, for settings that are read at run time. */
+typedef struct {
+    uint64_t deck_numbers;  /* uint32_t: the memory of one deck */
+    uint64_t decks_numbers; /* uint32_t: of all k decks, one after another, deck 0 first */
+    uint64_t desk_numbers;  /* uint64_t: the memory of the desk */
+    uint64_t list_places;   /* uint32_t: with so many places a list never meets 12 */
+    uint64_t log_numbers;   /* uint64_t: the least log with which tracker_run takes a draw */
+} tracker_lengths;
+
+/* 1, 2, 3. */
+uint32_t tracker_test_lengths(const tracker_settings *settings, tracker_lengths *lengths);
+
+/* ---- Starting fresh -------------------------------------------------------------------------- */
+
+/* All decks: every number of their memory becomes 0. 1, 2, 3, 4. */
+uint32_t tracker_start_decks(const tracker_settings *settings, tracker_decks *decks,
+                             uint32_t *memory, size_t numbers);
+
+/* Deck number `deck` alone, for a process that holds one. 1, 2, 3, 4, 5. */
+uint32_t tracker_start_deck(const tracker_settings *settings, uint32_t deck, tracker_deck *record,
+                            uint32_t *memory, size_t numbers);
+
+/* The desk. 1, 2, 3, 4. */
+uint32_t tracker_start_desk(const tracker_settings *settings, tracker_desk *desk, uint64_t *memory,
+                            size_t numbers);
+
+/* ---- Draw by draw: the caller delivers ------------------------------------------------------- */
+
+/* After an accepted draw hand over each message that came out, in the order of coming out, answers
+ * included, to the deck that it names or to the desk; while nothing waits and the desk announces,
+ * ask it for the next kind 7. Only then comes the next draw. */
+
+/* A draw at deck number `deck`, with its own record and its own part of the memory. out[0] to
+ * out[*count - 1] are the messages to send, two at most; the rest of `out` becomes zeros.
+ * 1, 2, 3, 4, 11, 5, 6, 7, 8. */
+uint32_t tracker_deck_draw(const tracker_settings *settings, uint32_t deck, tracker_deck *record,
+                           uint32_t *memory, size_t numbers, uint32_t code, uint32_t volume_class,
+                           tracker_message out[2], uint32_t *count);
+
+/* A message (kind 3, 5, 7) at deck number `deck`, likewise. *count is 1 if *reply is to be sent,
+ * else 0. 1, 2, 3, 4, 11, 5, 9, 7, 10. */
+uint32_t tracker_deck_message(const tracker_settings *settings, uint32_t deck, tracker_deck *record,
+                              const uint32_t *memory, size_t numbers,
+                              const tracker_message *message, tracker_message *reply,
+                              uint32_t *count);
+
+/* The same where one process holds all decks: the deck is the one that draw or message names, and
+ * is looked up after it was tested. 4 is tested of all decks' memory, 11 of that deck's alone.
+ * 1, 2, 3, 4, 5, 11, 6, 7, 8. */
+uint32_t tracker_decks_draw(const tracker_settings *settings, tracker_decks *decks,
+                            uint32_t *memory, size_t numbers, const tracker_draw *draw,
+                            tracker_message out[2], uint32_t *count);
+
+/* 1, 2, 3, 4, 5, 11, 9, 7, 10. */
+uint32_t tracker_decks_message(const tracker_settings *settings, tracker_decks *decks,
+                               const uint32_t *memory, size_t numbers,
+                               const tracker_message *message, tracker_message *reply,
+                               uint32_t *count);
+
+/* A message (kind 1, 2, 4, 6) at the desk. *count is 1 if *out is to be sent, else 0.
+ * 1, 2, 3, 4, 11, 5, 9, 6, 7, 10. */
+uint32_t tracker_desk_message(const tracker_settings *settings, tracker_desk *desk,
+                              uint64_t *memory, size_t numbers, const tracker_message *message,
+                              tracker_message *out, uint32_t *count);
+
+/* The next kind 7 of a desk that announces (desk->phase is TRACKER_ANNOUNCING); 9 from any other.
+ * 1, 2, 3, 4, 11, 9. */
+uint32_t tracker_desk_announcement(const tracker_settings *settings, tracker_desk *desk,
+                                   const uint64_t *memory, size_t numbers, tracker_message *out);
+
+/* ---- A draw with full delivery --------------------------------------------------------------- */
+
+typedef struct {
+    uint64_t carried; /* messages that went out, each handed over once */
+    uint64_t stopped; /* 0; a refusal on the way, which no record or memory that arose meets */
+} tracker_delivery;
+
+/* One draw and all that the loop above does after it. All memory is tested first, as tracker_run
+ * tests it, so a desk that is not at rest is 11. 1, 2, 3, 4, 11, 5, 6, 7, 8. */
+uint32_t tracker_deliver(const tracker_settings *settings, tracker_decks *decks, tracker_desk *desk,
+                         uint32_t *deck_memory, size_t deck_numbers, uint64_t *desk_memory,
+                         size_t desk_numbers, const tracker_draw *draw,
+                         tracker_delivery *delivery);
+
+/* ---- Many draws with full delivery ----------------------------------------------------------- */
+
+typedef struct {
+    uint64_t accepted; /* draws, those of class 0 included: go on at draws + accepted */
+    uint64_t written;  /* messages, from log[0] on */
+} tracker_counts;
+
+/* Takes draws in their order, delivers everything after each, and writes each message to the log;
+ * decks->messages grows by as many. Stops at the first draw that is refused: `counts`, records,
+ * memory and log then have what the draws before it brought. `counts` is always written; 1, 2, 3, 4
+ * and 11 come before the first draw, with 0 and 0. `log_numbers` is 4 for each message: sizeof log
+ * / sizeof(uint64_t). On 14 take the messages out of the log and go on at draws + accepted; a log
+ * of TRACKER_LOG_NUMBERS(k) always takes a draw. 1, 2, 3, 4, 11, 5, 6, 7, 8, 14. */
+uint32_t tracker_run(const tracker_settings *settings, tracker_decks *decks, tracker_desk *desk,
+                     const tracker_draw *draws, size_t count, uint32_t *deck_memory,
+                     size_t deck_numbers, uint64_t *desk_memory, size_t desk_numbers,
+                     tracker_message *log, size_t log_numbers, tracker_counts *counts);
+
+/* ---- Reading the desk, between draws --------------------------------------------------------- */
+
+/* The listed codes in rising order: codes[0] to codes[*count - 1]; the places after them stay.
+ * 1, 2, 3, 4, 11, 12. */
+uint32_t tracker_desk_list(const tracker_settings *settings, const tracker_desk *desk,
+                           const uint64_t *memory, size_t numbers, uint32_t *codes, size_t places,
+                           size_t *count);
+
+/* How far a code is above the list rule (0 or more: listed, once there is a draw) or below it:
+ * 2000 x its number - (2p - e) x total. 1, 2, 3, 4, 11, 6. */
+uint32_t tracker_desk_margin(const tracker_settings *settings, const tracker_desk *desk,
+                             const uint64_t *memory, size_t numbers, uint32_t code,
+                             int64_t *margin);
+
+/* The tracked class, or TRACKER_NO_CLASS before the first draw. 1, 2, 3, 4, 11. */
+#define TRACKER_NO_CLASS UINT32_MAX
+uint32_t tracker_desk_class(const tracker_settings *settings, const tracker_desk *desk,
+                            const uint64_t *memory, size_t numbers, uint32_t *volume_class);
+
+/* ---- Records as the calls see them: rows of numbers of one width ------------------------------ */
+
+#if defined(__cplusplus) ? __cplusplus >= 201103L : __STDC_VERSION__ >= 201112L
+#ifdef __cplusplus
+#define TRACKER_HOLDS(type, number, count) \
+    static_assert(sizeof(type) == (count) * sizeof(number), "a row of numbers")
+#else
+#define TRACKER_HOLDS(type, number, count) \
+    _Static_assert(sizeof(type) == (count) * sizeof(number), "a row of numbers")
+#endif
+TRACKER_HOLDS(tracker_settings, uint32_t, 6);
+TRACKER_HOLDS(tracker_draw, uint32_t, 3);
+TRACKER_HOLDS(tracker_message, uint64_t, 4);
+TRACKER_HOLDS(tracker_deck, uint64_t, 5);
+TRACKER_HOLDS(tracker_decks, uint64_t, 161);
+TRACKER_HOLDS(tracker_desk, uint64_t, 10);
+TRACKER_HOLDS(tracker_lengths, uint64_t, 5);
+TRACKER_HOLDS(tracker_delivery, uint64_t, 2);
+TRACKER_HOLDS(tracker_counts, uint64_t, 2);
+#undef TRACKER_HOLDS
+#endif
+
+#ifdef __cplusplus
+}
+#endif
+
+#endif

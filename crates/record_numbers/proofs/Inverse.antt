@@ -30,7 +30,7 @@ use Rattle.model.specs.declared.Phase.the-variants.{Idle, Collecting, Probing, 
 use Rattle.model.specs.declared.CoordinatorRecord.{CoordinatorRecord}
 use Rattle.model.specs.Choice.{isZero}
 use Rattle.model.specs.Held.{noRecord}
-use Rattle.record_numbers.specs.Numbers.{siteWidth, countPlace, sitesWidth, settingsNumbers, settingsFrom, messageNumbers, messageFrom, siteAt, siteNumbers, siteFrom, recordsNumbers, recordsFrom, sitesNumbers, sitesFrom, phaseOf, phaseNumbers, phaseFrom, phaseWell, tenNumbers, coordinatorNumbers, coordinatorFrom, coordinatorWell}
+use Rattle.record_numbers.specs.Numbers.{siteWidth, countPlace, sitesWidth, settingsNumbers, settingsFrom, messageNumbers, messageFrom, siteAt, siteNumbers, siteFrom, recordsNumbers, recordsFrom, sitesNumbers, sitesFrom, phaseOf, phaseNumbers, phaseFrom, phaseWell, tenNumbers, coordinatorNumbers, coordinatorFrom, greatestNarrow, greatestHeld, coordinatorWell}
 use Rattle.record_numbers.proofs.Records.{length-recordsFrom, length-recordsNumbers}
 
 -- ---- Settings, messages, a site's record
@@ -127,11 +127,11 @@ coordinator-back c rest =
     (phase-back (c .phase))
 
 pub coordinator-same : (numbers : List ℕ)
+    → 10 ≤ length numbers
     → coordinatorWell numbers ≡ true
     → coordinatorNumbers (coordinatorFrom numbers) ≡ take 10 numbers
-coordinator-same numbers well =
-    let both = both-true (leb 10 (length numbers)) _ well in
-    let long = leb-true 10 (length numbers) (both .first-true) in
+coordinator-same numbers long well =
+    let both = both-true (leb (greatestHeld numbers) greatestNarrow) _ well in
     ap (tenNumbers (coordinatorFrom numbers))
     (phase-same (getD numbers 5 0) (getD numbers 6 0) (getD numbers 7 0) (getD numbers 8 0)
     (getD numbers 9 0) (both .second-true))

@@ -1,20 +1,23 @@
--- Records as plain numbers, in the order in which document 01 names them, and back. Every list of
+-- Records as rows of numbers, in the order in which document 01 names them, and back. A list of
 -- numbers may be longer than the record; the rest is not looked at.
 --
+--   narrowed n                           the nearest number of four bytes
 --   settingsNumbers, settingsFrom        k, e, p, q, c, u
 --   messageNumbers, messageFrom          kind, deck, a, b
+--   messageRead                          the same from numbers of eight bytes
 --   siteNumbers, siteFrom                draws, pending, threshold, slots in use, forgotten draws
 --   sitesNumbers, sitesFrom              the records of 32 decks, then the count of messages
 --   phaseNumbers, phaseFrom              0 idle, 1 collecting, 2 probing or 3 announcing; then
 --                                        deck, low, high and sum, those not in use 0
 --   coordinatorNumbers, coordinatorFrom  total, base, threshold, signals, class, and the phase
---   coordinatorFits numbers              whether they are a coordinator's record
 --   phaseWell, coordinatorWell           whether numbers are those of the record made from them
+--   coordinatorRead numbers              the record made from them where they are, else
+--                                        `noCoordinator`, all numbers 0
 use mathlib.Core.Bool.{Bool, true, _&&_}
 use mathlib.Core.List.{List, [], _∷_, _++_}
-use Prim.Native.Nat.{ℕ, zero, suc, max, _+_, _*_}
+use Prim.Native.Nat.{ℕ, zero, suc, min, max, _+_, _*_}
 use lib.Dec.{leb, eqb}
-use lib.ListN.{length, getD}
+use lib.ListN.{getD}
 use Rattle.model.specs.declared.Settings.{Settings}
 use Rattle.model.specs.declared.Message.{Message}
 use Rattle.model.specs.declared.SiteRecord.{SiteRecord}
@@ -22,7 +25,7 @@ use Rattle.model.specs.declared.Sites.{Sites}
 use Rattle.model.specs.declared.Phase.{Phase}
 use Rattle.model.specs.declared.Phase.the-variants.{Idle, Collecting, Probing, Announcing}
 use Rattle.model.specs.declared.CoordinatorRecord.{CoordinatorRecord}
-use Rattle.record_numbers.specs.declared.coordinator_numbers.PhaseNumbers.{PhaseNumbers}
+use Rattle.record_numbers.specs.declared.PhaseNumbers.{PhaseNumbers}
 use Rattle.model.specs.Choice.{if_then_else_, isZero}
 use Rattle.model.specs.Limits.{mostSites}
 use Rattle.model.specs.Held.{noRecord}
@@ -30,6 +33,13 @@ use Rattle.model.specs.Messages.{message}
 use Rattle.model.specs.Settings.{settingsWith}
 
 -- ---- Settings and messages
+
+-- The greatest number of four bytes, and the nearest to a number.
+abbrev pub greatestNarrow : ℕ
+greatestNarrow = 4294967295
+
+abbrev pub narrowed : ℕ → ℕ
+narrowed n = min n greatestNarrow
 
 -- Six numbers: k, e, p, q, c, u.
 abbrev pub settingsNumbers : Settings → List ℕ
@@ -54,6 +64,13 @@ messageNumbers m = m .kind ∷ (m .site ∷ (m .a ∷ (m .b ∷ [])))
 abbrev pub messageFrom : List ℕ → Message
 messageFrom numbers =
     message (getD numbers 0 0) (getD numbers 1 0) (getD numbers 2 0) (getD numbers 3 0)
+
+-- A kind or a site that needs more than four bytes becomes the greatest that does not, which is no
+-- kind and no site either.
+abbrev pub messageRead : List ℕ → Message
+messageRead numbers =
+    message (narrowed (getD numbers 0 0)) (narrowed (getD numbers 1 0)) (getD numbers 2 0)
+    (getD numbers 3 0)
 
 -- ---- Sites
 
@@ -108,10 +125,6 @@ sitesNumbers sites = recordsNumbers mostSites (sites .records) ++ (sites .messag
 
 -- ---- The coordinator
 
--- The greatest number of four bytes.
-abbrev pub greatestNarrow : ℕ
-greatestNarrow = 4294967295
-
 -- 0 idle, 1 collecting, 2 probing, 3 announcing; those numbers that the phase has not are not
 -- looked at.
 abbrev pub phaseFrom : ℕ → ℕ → ℕ → ℕ → ℕ → Phase
@@ -144,13 +157,6 @@ greatestHeld numbers =
     max
     (max (getD numbers 3 0) (getD numbers 4 0))
     (max (getD numbers 6 0) (max (getD numbers 7 0) (getD numbers 8 0)))
-
--- There are ten, the phase is one of the four, and what the record holds in four bytes fits them.
-abbrev pub coordinatorFits : List ℕ → Bool
-coordinatorFits numbers =
-    leb 10 (length numbers)
-    && leb (getD numbers 5 0) 3
-    && leb (greatestHeld numbers) greatestNarrow
 
 -- The five numbers of a phase.
 abbrev pub phaseOf : ℕ → ℕ → ℕ → ℕ → ℕ → PhaseNumbers
@@ -188,13 +194,30 @@ phaseWell which site low high sum =
     else if eqb which 2 then true
     else leb which 3 && isZero (low + high + sum)
 
--- There are ten, and the last five are a phase's.
+-- What the record holds in four bytes fits them, and the last five are a phase's.
 abbrev pub coordinatorWell : List ℕ → Bool
 coordinatorWell numbers =
-    leb 10 (length numbers)
+    leb (greatestHeld numbers) greatestNarrow
     && phaseWell
     (getD numbers 5 0)
     (getD numbers 6 0)
     (getD numbers 7 0)
     (getD numbers 8 0)
     (getD numbers 9 0)
+
+-- All numbers 0. Its threshold is none that a base gives, so with any memory it is inconsistent.
+abbrev pub noCoordinator : CoordinatorRecord
+noCoordinator = record {
+  total = 0;
+  base = 0;
+  threshold = 0;
+  signals = 0;
+  quantile = 0;
+  phase = Idle;
+}
+
+-- Numbers that are no record stand for one that is inconsistent, so that every call refuses them
+-- by 11, in its place in the order.
+abbrev pub coordinatorRead : List ℕ → CoordinatorRecord
+coordinatorRead numbers =
+    if coordinatorWell numbers then coordinatorFrom numbers else noCoordinator

@@ -1,4 +1,4 @@
-// The calls on sites: starting them, an arrival at a site and a message at a site. Each refuses
+// The calls on sites: starting them all or one, an arrival at a site and a message at a site. Each refuses
 // what document 01's table "Refused" names, in its order, and then takes the step of crate
 // `site_steps`.
 
@@ -6,9 +6,10 @@ ghost use mathlib.Core.Path.{_≡_};
 ghost use Prim.Native.Nat.{_≤_};
 ghost use lib.ListN.{length, replicate};
 ghost use Rattle.model.specs.Lent.{before, after};
-ghost use Rattle.model.specs.SiteMemory.{overwrite};
+ghost use Rattle.model.specs.SiteMemory.{overwrite, siteRecord};
 ghost use Rattle.model.specs.NetworkMemory.{freshSites};
-ghost use Rattle.site.specs.Calls.{observeRefusal, unchangedBy, receiveRefusal, StartSitesSays, ObserveSays, SiteReceiveSays};
+ghost use Rattle.model.specs.Site.{freshSite};
+ghost use Rattle.site.specs.Calls.{startSiteRefusal, observeRefusal, unchangedBy, receiveRefusal, StartSitesSays, StartSiteSays, ObserveSays, SiteReceiveSays};
 use messages::no_message;
 use model::Arrival;
 use model::MEMORY_TOO_SHORT;
@@ -27,6 +28,12 @@ use site_steps::Replied;
 pub struct StartedSites {
     pub refusal: u32,
     pub sites: Sites,
+}
+
+// One site started: why that was refused, if it was, and a fresh record in every case.
+pub struct StartedSite {
+    pub refusal: u32,
+    pub site: SiteRecord,
 }
 
 // Why an arrival is refused: 1, 2, 3, 4, 11; then 5, 6, 7; then 8, unless it is a touch.
@@ -116,17 +123,24 @@ pub fn receive(
     site_steps::receive_step(settings, site, message, memory)
 }
 
-// The records of 32 sites started fresh, and no message counted.
-fn fresh_sites() -> Sites
-    ensures { λ r. ⌜ r ≡ freshSites ⌝ }
+// The record of a site started fresh.
+fn fresh_site() -> SiteRecord
+    ensures { λ r. ⌜ r ≡ siteRecord freshSite ⌝ }
 {
-    let fresh = SiteRecord {
+    SiteRecord {
         arrivals: 0,
         pending: 0,
         threshold: 1,
         used: 0,
         dropped: 0,
-    };
+    }
+}
+
+// The records of 32 sites started fresh, and no message counted.
+fn fresh_sites() -> Sites
+    ensures { λ r. ⌜ r ≡ freshSites ⌝ }
+{
+    let fresh = fresh_site();
     Sites {
         records: [fresh; SITE_RECORDS],
         messages: 0,
@@ -168,5 +182,43 @@ pub fn start_sites(settings: Settings, memory: &mut [Word]) -> StartedSites
     StartedSites {
         refusal: NO_REFUSAL,
         sites: fresh,
+    }
+}
+
+// Why starting one site is refused, with memory of so many numbers: 1, 2, 3, 4; then 5 for its own
+// number.
+fn start_site_refusal(settings: Settings, which: u32, words: usize) -> u32
+    ensures { λ r. ⌜ r ≡ startSiteRefusal settings which words ⌝ }
+{
+    let refusal = settings::test_settings(settings);
+    if refusal != NO_REFUSAL {
+        return refusal;
+    }
+    if words < site_memory::site_words(settings) {
+        return MEMORY_TOO_SHORT;
+    }
+    if settings.sites <= which {
+        return UNKNOWN_SITE;
+    }
+    NO_REFUSAL
+}
+
+// Site `which` alone started fresh, for a caller that holds one. The memory is the site's own, and
+// may be longer.
+pub fn start_site(settings: Settings, which: u32, memory: &mut [Word]) -> StartedSite
+    ensures { λ r. ⌜ StartSiteSays settings which (before memory) (after memory) r ⌝ }
+{
+    let fresh = fresh_site();
+    let refusal = start_site_refusal(settings, which, memory.len());
+    if refusal != NO_REFUSAL {
+        return StartedSite {
+            refusal: refusal,
+            site: fresh,
+        };
+    }
+    clear(memory, site_memory::site_words(settings));
+    StartedSite {
+        refusal: refusal,
+        site: fresh,
     }
 }

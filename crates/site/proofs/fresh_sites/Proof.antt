@@ -1,10 +1,18 @@
--- `site::fresh_sites` meets its contract: every number as it is written.
-use mathlib.Core.Path.{refl}
+-- `site::fresh_sites` meets its contract: 32 times a fresh record.
+use mathlib.Core.Path.{ap}
+use lib.ListN.{replicate}
+use borrow.Author.Needs.{needs}
+use Rattle.model.specs.declared.SiteRecord.{SiteRecord}
+use Rattle.model.specs.declared.Sites.{Sites}
+use Rattle.model.specs.Limits.{mostSites}
 use Rattle.site.proofs.fresh_sites.Statement.{statement}
 use Rattle.site.proofs.fresh_sites.Tie as tie
 
+abbrev sites-of : SiteRecord → Sites
+sites-of site = record { records = replicate mostSites site; messages = 0 }
+
 returns : tie.Need-returns
-returns c = refl
+returns c = ap sites-of (c .fresh-site .ensures)
 
 pub fresh-sites-spec : {M : Type 1} → statement M
-fresh-sites-spec = tie.close (tie.spec returns)
+fresh-sites-spec = tie.close (tie.spec (λ c κs. search needs) returns)

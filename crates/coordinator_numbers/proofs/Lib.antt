@@ -1,0 +1,2 @@
+-- What a row of the coordinator's is worth.
+pub mod Rows

@@ -1,0 +1,2 @@
+-- Laws of the calls on decks.
+pub mod Named

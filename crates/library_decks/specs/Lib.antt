@@ -1,0 +1,3 @@
+-- What the calls on decks promise.
+pub mod OneDeck
+pub mod AllDecks

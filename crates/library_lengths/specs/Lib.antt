@@ -1,0 +1,2 @@
+-- How much a caller of the library lends.
+pub mod Lengths

@@ -1,0 +1,2 @@
+-- Laws of the loops over the rows of sites.
+pub mod Records

@@ -1,3 +1,0 @@
--- Laws that the proofs of the boundary's calls share.
-pub mod Handing
-pub mod Delivering

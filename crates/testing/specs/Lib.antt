@@ -1,3 +1,0 @@
--- What the calls of the boundary promise.
-pub mod Calls
-pub mod Delivery

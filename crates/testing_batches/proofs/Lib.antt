@@ -1,2 +1,0 @@
--- Laws that the proofs of the boundary's batch call share.
-pub mod Batching

@@ -1,2 +1,0 @@
--- What the batch call promises at the boundary.
-pub mod Batch

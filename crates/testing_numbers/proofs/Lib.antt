@@ -1,2 +1,0 @@
--- Laws that the proofs of the boundary share.
-pub mod Lending

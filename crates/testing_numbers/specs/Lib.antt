@@ -1,3 +1,0 @@
--- Answers as plain numbers, and what is lent to the boundary.
-pub mod Answers
-pub mod Openings

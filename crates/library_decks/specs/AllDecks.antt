@@ -11,7 +11,7 @@ use mathlib.Core.Path.{_≡_}
 use mathlib.Core.List.{List, _++_}
 use Prim.Native.Nat.{ℕ, _*_, _<_}
 use lib.Dec.{ltb, leb}
-use lib.ListN.{length, getD, take, drop}
+use lib.ListN.{length, take, drop}
 use lib.Seq.{sets}
 use Rattle.model.specs.declared.Settings.{Settings}
 use Rattle.model.specs.declared.Arrival.{Arrival}
@@ -22,13 +22,12 @@ use Rattle.model.specs.Limits.{mostSites}
 use Rattle.model.specs.Settings.{settingsRefusal}
 use Rattle.model.specs.SiteMemory.{siteWords}
 use Rattle.model.specs.NetworkMemory.{sitesWords}
-use Rattle.model.specs.Instances.{arrivalWith}
 use Rattle.tracker_memory.specs.Contracts.{SitesFit}
 use Rattle.site_steps.specs.declared.Observed.{Observed}
 use Rattle.site_steps.specs.declared.Replied.{Replied}
 use Rattle.site.specs.declared.StartedSites.{StartedSites}
 use Rattle.site.specs.Calls.{StartSitesSays, ObserveSays, SiteReceiveSays}
-use Rattle.record_numbers.specs.Numbers.{siteWidth, settingsFrom, messageRead, siteAt, siteNumbers, sitesNumbers}
+use Rattle.record_numbers.specs.Numbers.{siteWidth, settingsFrom, arrivalFrom, messageRead, siteAt, siteNumbers, sitesNumbers}
 use Rattle.library_rows.specs.Rows.{Row, Number, handedOut, HandMessageSays, HandMessagesSays}
 
 -- ---- The deck that is named
@@ -75,9 +74,6 @@ pub record StartDecksExported (settings decks memory : Row) (answer : ℕ) : Typ
 
 -- ---- A draw
 
-abbrev pub drawOf : List ℕ → Arrival
-drawOf draw = arrivalWith (getD draw 0 0) (getD draw 1 0) (getD draw 2 0)
-
 -- The site's call, on the record and the part of the deck that the draw names.
 pub record DecksDrawn (settings : Settings) (draw : Arrival) (decks memory out : Row)
     (count : Number) (answer : ℕ) : Type 0 where
@@ -104,11 +100,11 @@ pub record DrawStopped (stopped : ℕ) (decks memory out : Row) (count : Number)
 
 pub record DecksDrawExported (settings decks memory draw out : Row) (count : Number) (answer : ℕ)
     : Type 0 where
-  pub stopped : (namedRefusal settings memory (drawOf (draw .before) .site) ≡ noRefusal → ⊥)
-      → DrawStopped (namedRefusal settings memory (drawOf (draw .before) .site)) decks memory out
+  pub stopped : (namedRefusal settings memory (arrivalFrom (draw .before) .site) ≡ noRefusal → ⊥)
+      → DrawStopped (namedRefusal settings memory (arrivalFrom (draw .before) .site)) decks memory out
       count answer
-  pub drawn : namedRefusal settings memory (drawOf (draw .before) .site) ≡ noRefusal
-      → DecksDrawn (settingsFrom (settings .before)) (drawOf (draw .before)) decks memory out count
+  pub drawn : namedRefusal settings memory (arrivalFrom (draw .before) .site) ≡ noRefusal
+      → DecksDrawn (settingsFrom (settings .before)) (arrivalFrom (draw .before)) decks memory out count
       answer
 
 -- ---- A message

@@ -5,7 +5,7 @@ ghost use Prim.Native.Nat.{_<_};
 ghost use Rattle.model.specs.Lent.{before, after};
 ghost use Rattle.model.specs.Limits.{mostSites};
 ghost use Rattle.library_rows.specs.Rows.{lent, handedOut};
-ghost use Rattle.library_decks.specs.AllDecks.{decksRefusal, withDeck, drawOf, NamedAsks, StartDecksExported, DecksDrawn, DecksDrawExported, DecksReplied, DecksMessageExported};
+ghost use Rattle.library_decks.specs.AllDecks.{decksRefusal, withDeck, NamedAsks, StartDecksExported, DecksDrawn, DecksDrawExported, DecksReplied, DecksMessageExported};
 use library_rows::TWO_MESSAGES;
 use library_rows::hand_message;
 use library_rows::hand_messages;
@@ -18,16 +18,15 @@ use model::Settings;
 use model::SiteRecord;
 use model::UNKNOWN_SITE;
 use model::Word;
+use record_numbers::ARRIVAL_NUMBERS;
 use record_numbers::SETTINGS_NUMBERS;
+use record_numbers::arrival_from;
 use record_numbers::message_from;
 use record_numbers::settings_from;
 use site_numbers::SITES_NUMBERS;
 use site_numbers::site_at;
 use site_numbers::sites_row;
 use site_numbers::store_site;
-
-// The numbers of a draw: deck, code, class.
-pub const DRAW_NUMBERS: usize = 3;
 
 // `site::start_sites`.
 #[no_mangle]
@@ -106,7 +105,7 @@ pub extern "C" fn tracker_decks_draw(
     settings: &[u32; SETTINGS_NUMBERS],
     decks: &mut [u64; SITES_NUMBERS],
     memory: &mut [Word],
-    draw: &[u32; DRAW_NUMBERS],
+    draw: &[u32; ARRIVAL_NUMBERS],
     out: &mut [u64; TWO_MESSAGES],
     count: &mut u32,
 ) -> u32
@@ -114,11 +113,7 @@ pub extern "C" fn tracker_decks_draw(
         (lent out) (lent count) r ⌝ }
 {
     let rules = settings_from(settings);
-    let arrival = Arrival {
-        site: draw[0],
-        item: draw[1],
-        value: draw[2],
-    };
+    let arrival = arrival_from(draw);
     let refusal = decks_refusal(rules, arrival.site, memory.len());
     if refusal != NO_REFUSAL {
         return refusal;

@@ -3,6 +3,7 @@
 --
 --   narrowed n                           the nearest number of four bytes
 --   settingsNumbers, settingsFrom        k, e, p, q, c, u
+--   arrivalFrom                          deck, code, class
 --   messageNumbers, messageFrom          kind, deck, a, b
 --   messageRead                          the same from numbers of eight bytes
 --   siteNumbers, siteFrom                draws, pending, threshold, slots in use, forgotten draws
@@ -19,6 +20,7 @@ use Prim.Native.Nat.{ℕ, zero, suc, min, max, _+_, _*_}
 use lib.Dec.{leb, eqb}
 use lib.ListN.{getD}
 use Rattle.model.specs.declared.Settings.{Settings}
+use Rattle.model.specs.declared.Arrival.{Arrival}
 use Rattle.model.specs.declared.Message.{Message}
 use Rattle.model.specs.declared.SiteRecord.{SiteRecord}
 use Rattle.model.specs.declared.Sites.{Sites}
@@ -32,7 +34,7 @@ use Rattle.model.specs.Held.{noRecord}
 use Rattle.model.specs.Messages.{message}
 use Rattle.model.specs.Settings.{settingsWith}
 
--- ---- Settings and messages
+-- ---- Settings, draws and messages
 
 -- The greatest number of four bytes, and the nearest to a number.
 abbrev pub greatestNarrow : ℕ
@@ -56,6 +58,14 @@ settingsFrom numbers =
     (getD numbers 3 0)
     (getD numbers 4 0)
     (getD numbers 5 0)
+
+-- Site, item, value.
+abbrev pub arrivalFrom : List ℕ → Arrival
+arrivalFrom numbers = record {
+  site = getD numbers 0 0;
+  item = getD numbers 1 0;
+  value = getD numbers 2 0;
+}
 
 -- Kind, site, a, b.
 abbrev pub messageNumbers : Message → List ℕ

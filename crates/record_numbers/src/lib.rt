@@ -1,16 +1,19 @@
-// Settings and messages as rows of numbers of one width, in document 01's order: what a file, a
+// Settings, draws and messages as rows of numbers of one width, in document 01's order: what a file, a
 // device or a caller outside holds of them. The records of sites and of the coordinator are rows
 // too: crates `site_numbers` and `coordinator_numbers`, over the definitions of this crate.
 ghost use mathlib.Core.Path.{_≡_};
 ghost use Rattle.model.specs.Lent.{before};
-ghost use Rattle.record_numbers.specs.Numbers.{narrowed, settingsFrom, messageRead, messageNumbers};
+ghost use Rattle.record_numbers.specs.Numbers.{narrowed, settingsFrom, arrivalFrom, messageRead, messageNumbers};
 use messages::message_of;
+use model::Arrival;
 use model::MESSAGE_WIDTH;
 use model::Message;
 use model::Settings;
 
-// How many numbers the settings take.
+// How many numbers the settings take, and a draw.
 pub const SETTINGS_NUMBERS: usize = 6;
+
+pub const ARRIVAL_NUMBERS: usize = 3;
 
 // The five numbers of a phase; crate `coordinator_numbers` makes them.
 pub struct PhaseNumbers {
@@ -32,6 +35,17 @@ pub fn settings_from(row: &[u32; SETTINGS_NUMBERS]) -> Settings
         rank: row[3],
         capacity: row[4],
         universe: row[5],
+    }
+}
+
+// The arrival of a row.
+pub fn arrival_from(row: &[u32; ARRIVAL_NUMBERS]) -> Arrival
+    ensures { λ r. ⌜ r ≡ arrivalFrom (before row) ⌝ }
+{
+    Arrival {
+        site: row[0],
+        item: row[1],
+        value: row[2],
     }
 }
 

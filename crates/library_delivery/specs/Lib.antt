@@ -1,0 +1,2 @@
+-- What a draw with full delivery promises.
+pub mod Delivery

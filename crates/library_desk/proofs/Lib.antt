@@ -1,0 +1,2 @@
+-- Laws of the calls on the desk.
+pub mod Announcing

@@ -1,0 +1,3 @@
+-- What the calls on the desk promise.
+pub mod Desk
+pub mod Reading

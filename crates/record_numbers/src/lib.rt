@@ -1,6 +1,6 @@
-// Settings, draws and messages as rows of numbers of one width, in document 01's order: what a file, a
-// device or a caller outside holds of them. The records of sites and of the coordinator are rows
-// too: crates `site_numbers` and `coordinator_numbers`, over the definitions of this crate.
+// Settings, draws and messages as rows of numbers of one width, in document 01's order: what a
+// file, a device or a caller outside holds of them. The records of sites and of the coordinator are
+// rows too: crates `site_numbers` and `coordinator_numbers`, over the definitions of this crate.
 ghost use mathlib.Core.Path.{_≡_};
 ghost use Rattle.model.specs.Lent.{before};
 ghost use Rattle.record_numbers.specs.Numbers.{narrowed, settingsFrom, arrivalFrom, messageRead, messageNumbers};

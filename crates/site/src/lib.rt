@@ -197,10 +197,10 @@ fn start_site_refusal(settings: Settings, which: u32, words: usize) -> u32
     if words < site_memory::site_words(settings) {
         return MEMORY_TOO_SHORT;
     }
-    if settings.sites <= which {
-        return UNKNOWN_SITE;
+    if which < settings.sites {
+        return NO_REFUSAL;
     }
-    NO_REFUSAL
+    UNKNOWN_SITE
 }
 
 // Site `which` alone started fresh, for a caller that holds one. The memory is the site's own, and

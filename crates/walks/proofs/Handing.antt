@@ -3,7 +3,7 @@
 --
 --   Part            a part of such a formula: `handing`, handed over from the context, or `made`,
 --                   had for nothing, as a value that owns only facts is
---   token           the token of the lifetime that a slice is lent for
+--   token, ref-token   the token of the lifetime that a slice, or one value, is lent for
 --   handed, wholes  of a list of parts: what the context hands over, and the formula
 --   together, apart   from the one to the other, and back
 --   enters          tokens and parts are what a callee is handed
@@ -14,16 +14,20 @@
 use Rattle.walks.proofs.Kit.{List, [], _∷_, _++_, URA, Val, SProp, ent, sep, emp, id⊢, via, comm∗, mono∗, monoR, emp∗, snd∗, Fml, ftrue, fsep, flft, Heap, Atoms, sem, fact, factI, Given, Item, ‵, ⋆, push, pop, ++⊢, ⊢++, Goal, Seq, Step, step, aim}
 use Rattle.walks.proofs.Data.{Data, Good}
 use Rattle.walks.proofs.Lending.{Lending}
+use Rattle.walks.proofs.RefLending.{RefLending}
 
 pub data Part {M : Type 1} (𝓤 : URA M) (H : Heap 𝓤) (A : Atoms 𝓤) : Type 1 where
   handing : Fml → Part 𝓤 H A
   made : (F : Fml) → ent 𝓤 (emp 𝓤) (sem 𝓤 H A F) → Part 𝓤 H A
 
 module _ {M : Type 1} {𝓤 : URA M} {H : Heap 𝓤} {A : Atoms 𝓤} where
-  -- The token of a lent slice's lifetime, and the value of a type that owns only facts.
   abbrev pub token : {X : Type 0} → Lending X → Part 𝓤 H A
   token e = handing (flft (e .life) (e .share))
 
+  abbrev pub ref-token : {X : Type 0} → RefLending X → Part 𝓤 H A
+  ref-token e = handing (flft (e .life) (e .share))
+
+  -- The value of a type that owns only facts.
   abbrev pub value-of : Given 𝓤 H A → (D : Data) (x : D .row .Denot) → Good D x → Part 𝓤 H A
   value-of W D x good =
       made (D .row .own x (D .val x ∷ [])) (D .makes 𝓤 H A W x (D .val x ∷ []) good)

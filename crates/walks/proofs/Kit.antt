@@ -50,20 +50,21 @@ pub use types.Share.{arr-parts}
 pub use types.Tokens.{lft-end, lft-new}
 pub use sound.Loop.{unroll}
 pub use sound.WpLaws.{FmC, WpFn-mono, fmOf}
-pub use denote.Array.{arrayVal}
+pub use denote.Array.{Array, arrayVal}
 pub use denote.Builtin.{u32, u64, u8, usize}
 pub use denote.Exit.{Exit, Kept, Last, leaves, left, unchanged, yes}
 pub use denote.Index.{closes-slice, elem-back, elem-out, looks-slice, opens-slice, others, place}
 pub use denote.Index.{place-is, row, shuts-slice, whole-in, whole-out}
 pub use denote.Laws.{Are, Copy, Is, Ises, Lawful, Makes, Spells, Tells, Tellss, Typed, shows, valss}
-pub use denote.Lend.{Held, lends-ref, lends-slice, ref-back, slice-back}
+pub use denote.Lend.{Held, LentAgain, comes-back, lends-again, lends-ref, lends-slice, ref-back}
+pub use denote.Lend.{slice-back}
 pub use denote.Memory.{cellAt, mem, shares, pointee}
 pub use denote.Plain.{UInt, uint-lawful, uint-makes, uint-tells}
 pub use denote.RattleType.{Denots, RattleType, flat, owns}
-pub use denote.Ref.{MutRef, NamedLft, RefT, mut-tells, now, ptr-vals}
+pub use denote.Ref.{MutRef, NamedLft, RefT, ShrRef, mut-tells, now, ptr-vals, shr-copy, shr-tells}
 pub use denote.Shadow.{pureI, pureL}
 pub use denote.Signature.{AllWithin, Slot, meetAt, mutRefTo, mutSliceOf, nameOf, namedLft, plain}
-pub use denote.Signature.{shrSliceOf, typeAt, typesAt}
+pub use denote.Signature.{shrRefTo, shrSliceOf, typeAt, typesAt}
 pub use denote.Slice.{MutSlice, Room, ShrSlice, at-slice, codedHoleys, finally, heres}
 pub use denote.Slice.{mut-slice-tells, shr-slice-copy, shr-slice-lawful, shr-slice-tells}
 pub use denote.Slice.{slice-vals, sliceTy, sliceVal}
@@ -81,8 +82,9 @@ pub use denote.Triple.Entry.{Args, Res, Vals, alive, onEntry}
 pub use denote.Triple.Spec.{Meets, tripleOf}
 pub use denote.Triple.Statement.{Contract, Triple}
 pub use denote.Triple.Table.{cited, entered}
-pub use denote.Triple.Walked.{AllGo, Goes, Stay, Stays, ends-at, gave-slice, goes-gave-slice}
-pub use denote.Triple.Walked.{goes-none, goes-none-slice, goes-ref, goes-slice, says, stay-none}
+pub use denote.Triple.Walked.{AllGo, Goes, Stay, Stays, ends-at, gave-ref, gave-slice}
+pub use denote.Triple.Walked.{goes-gave-ref, goes-gave-slice, goes-none, goes-none-ref}
+pub use denote.Triple.Walked.{goes-none-slice, goes-ref, goes-slice, says, stay-none, stay-none-ref}
 pub use denote.Triple.Walked.{stay-none-slice, stay-ref, stay-slice, walk-meets, walkOf, walked}
 unfoldable pub use prog.Wp.{afterTurn}
 unfoldable pub use contract.Running.{tablesOf}

@@ -4,17 +4,17 @@
 --   Param           a parameter: what is had of it at the exit, the machine's value of what it was
 --                   passed, and the laws of both
 --   by-value        a value of a type that owns only facts
---   shared          a `&[T]`, which is owned as it was passed
+--   shared, shared-ref   a `&[T]`, a `&T`, which is owned as it was passed
 --   kept, given     a `&mut [T]`, which is still owned, at its last list; or which the body gave to
 --                   a callee for good
---   kept-ref        a `&mut T`, which is still owned, at its last value
+--   kept-ref, given-ref  the same of a `&mut T`, with its last value
 --   Params          one for each parameter, as pairs ending in `tt`; `_&_` writes them in a row
 --   stays-of, spells-of, bound-at   of all parameters: what is had at the exit, the machine's
 --                   values, and what a walk binds
 --   meets-by        the function meets its contract, from a walk with the parameters' values
 --                   written out and their relations in hand
 -- Letters: j the number of a lifetime, n how many there are, R the type of elements.
-use Rattle.walks.proofs.Kit.{_≡_, ℕ, List, [], _∷_, URA, Fn, Val, ent, sep, ftrue, Heap, Tables, WpFn, Atoms, Lfts, Shares, AllOutlive, Given, WpFn-mono, RattleType, flat, Is, Ises, Are, Tells, Tellss, Spells, valss, Kept, yes, Last, left, Slot, AllWithin, plain, nameOf, meetAt, mutRefTo, shrSliceOf, mutSliceOf, typesAt, ptr-vals, mut-tells, slice-vals, shr-slice-tells, mut-slice-tells, Bound, Ended, Clauses, closing, Kepts, Args, onEntry, Meets, Stay, Stays, stay-none, stay-none-slice, stay-ref, stay-slice, gave-slice, Goes, AllGo, goes-none, goes-none-slice, goes-ref, goes-slice, goes-gave-slice, walkOf, walked, walk-meets}
+use Rattle.walks.proofs.Kit.{_≡_, ℕ, List, [], _∷_, URA, Fn, Val, ent, sep, ftrue, Heap, Tables, WpFn, Atoms, Lfts, Shares, AllOutlive, Given, WpFn-mono, RattleType, flat, Is, Ises, Are, Tells, Tellss, Spells, valss, Kept, yes, Last, left, Slot, AllWithin, plain, nameOf, meetAt, mutRefTo, shrRefTo, shrSliceOf, mutSliceOf, typesAt, ptr-vals, mut-tells, shr-tells, slice-vals, shr-slice-tells, mut-slice-tells, Bound, Ended, Clauses, closing, Kepts, Args, onEntry, Meets, Stay, Stays, stay-none, stay-none-slice, stay-none-ref, stay-ref, stay-slice, gave-slice, gave-ref, Goes, AllGo, goes-none, goes-none-slice, goes-none-ref, goes-ref, goes-slice, goes-gave-slice, goes-gave-ref, walkOf, walked, walk-meets}
 use Rattle.walks.proofs.Data.{Data}
 
 infixr 4 _&_
@@ -74,6 +74,24 @@ module _ {n : ℕ} where
     spell = λ κs. ptr-vals;
     tells = λ κs. mut-tells (nameOf (j ∷ [])) (meetAt n (j ∷ []) ok κs) (s .row κs);
     goes = λ 𝓤 H A W. goes-ref 𝓤 H A W n j ok s;
+  }
+
+  abbrev pub shared-ref : (j : ℕ) (ok : AllWithin n (j ∷ [])) (s : Slot n)
+      → Param (shrRefTo (j ∷ []) ok s) yes
+  shared-ref j ok s = record {
+    stay = stay-none-ref (j ∷ []) ok s yes;
+    spell = λ κs. ptr-vals;
+    tells = λ κs. shr-tells (nameOf (j ∷ [])) (meetAt n (j ∷ []) ok κs) (s .row κs);
+    goes = λ 𝓤 H A W. goes-none-ref 𝓤 H A W n (j ∷ []) ok s yes;
+  }
+
+  abbrev pub given-ref : (j : ℕ) (ok : AllWithin n (j ∷ [])) (s : Slot n)
+      → Param (mutRefTo (j ∷ []) ok s) yes
+  given-ref j ok s = record {
+    stay = gave-ref (j ∷ []) ok s;
+    spell = λ κs. ptr-vals;
+    tells = λ κs. mut-tells (nameOf (j ∷ [])) (meetAt n (j ∷ []) ok κs) (s .row κs);
+    goes = λ 𝓤 H A W. goes-gave-ref 𝓤 H A W n j ok s;
   }
 
   -- ---- All parameters

@@ -1,10 +1,13 @@
 -- `&mut *s` of a slice s that a local holds, which the MIR makes in two locals: the pointer, and a
--- slice of the pointer and of the length of s.
+-- slice of the pointer and of the length of s; and `&mut *r` of a reference r to one value, which
+-- is the pointer alone.
 --
 --   slice-typed   a slice may be stored where a slice's room is
 --   reborrows     both assignments
--- Letters: s, d and e the three locals, p, p₁ and p₂ their places, n, m and k where they stand in
--- the context, τ the type of the elements. Its equations say where, and hold by computation.
+--   reborrows-ref the one assignment
+-- Letters: s or r, d and e the locals, p, p₁ and p₂ their places, n, m and k where they stand in
+-- the context, τ the type of the elements, or of the value. The equations say where, and hold by
+-- computation.
 -- Assumes `Given`.
 use Rattle.walks.proofs.Kit.{_≡_, refl, sym, subst, ℕ, _<_, _^_, List, [], _∷_, URA, fullShare, Ty, Lifetime, PStep, erased, mut, w64, tyRef, field, deref, copy, addrOf, aggregate, Body, seq, assign, Val, Fits, vptr, bits, Share, fat, froom, Heap, Env, Spot, spotOf, Calls, Loops, Atoms, Given, Item, ‵, nth, put, Post, runs, Step, step, _$_, Part, agg, whole, sub, look-in, Walks, Finds, look, init, stop, hop, fld, from, load, addr, and-then, no-more, assigns, sliceTy, sliceVal}
 use mir.Syntax.{place}
@@ -60,3 +63,16 @@ module _ {M : Type 1} {𝓤 : URA M} {H : Heap 𝓤} {A : Atoms 𝓤} {K : Type 
         (look-in t n (part-of still-s (sub t 1 refl (whole t)))))
         (no-more t))))
         (found t at-e (stop t)) (init t k room-e (slice-typed fit)) $ goes)
+
+    pub reborrows-ref : K → (n m : ℕ) {r d : ℕ} {rest : Body} {q : Share} {ℓ : Lifetime} {τ : Ty}
+        {p p₁ b o : ℕ}
+        → spotOf 𝓤 H E r ≡ (tyRef ℓ mut τ, p, 0)
+        → spotOf 𝓤 H E d ≡ (tyRef erased mut τ, p₁, 0)
+        → nth 𝓤 H A n Γ ≡ ‵ (fat q (tyRef ℓ mut τ) p 0 (vptr b o))
+        → nth 𝓤 H A m Γ ≡ ‵ (froom (tyRef erased mut τ) p₁ 0)
+        → Step K W (put 𝓤 H A m (‵ (fat fullShare (tyRef erased mut τ) p₁ 0 (vptr b o))) Γ)
+        (runs C Λ E rest post) Γ
+        (runs C Λ E (seq (assign (place d []) (addrOf (place r (deref τ ∷ [])))) rest) post)
+    reborrows-ref t n m at-r at-d is-r room-d = step (λ goes.
+        assigns t (addr t (found t at-r (hop t (look t n is-r) (stop t))))
+        (found t at-d (stop t)) (init t m room-d (tt, tt)) $ goes)

@@ -36,14 +36,14 @@ past-memory c =
 returns-3 : tie.Need-returns-3
 returns-3 c =
     let a = c .before .before .before .before .before .before .args in
-    refuse _ _ _ (past-memory (c .before .before)) refl
-    (le-leb (a .settings .sites) (a .which) (c .if3 .taken))
+    end (pass _ _ _ (past-memory (c .before .before)) refl
+    (lt-leb (a .settings .sites) (a .which) (c .if3 .taken))) refl
 
 returns-4 : tie.Need-returns-4
 returns-4 c =
     let a = c .before .before .before .before .before .before .args in
-    end (pass _ _ _ (past-memory (c .before .before)) refl
-    (lt-leb (a .settings .sites) (a .which) (c .if3 .left))) refl
+    refuse _ _ _ (past-memory (c .before .before)) refl
+    (le-leb (a .settings .sites) (a .which) (c .if3 .left))
 
 pub start-site-refusal-spec : {M : Type 1} → statement M
 start-site-refusal-spec =

@@ -1,0 +1,2 @@
+-- Laws that the proofs of the batch call share.
+pub mod Batching

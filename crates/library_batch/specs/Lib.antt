@@ -1,0 +1,2 @@
+-- What the batch call promises to C.
+pub mod Batch

@@ -89,59 +89,139 @@ fn at(points: &[(u64, u64)], n: u64) -> u64 {
     points.iter().find(|p| p.0 == n).map_or(0, |p| p.1)
 }
 
-/// A place in a panel of the plot: both axes are logarithmic, from 100 to 10^6 draws and from 10 to
-/// 10^9 messages.
-fn place(panel: usize, n: f64, messages: f64) -> (f64, f64) {
-    let left = 70.0 + 430.0 * (panel % 2) as f64;
-    let top = 50.0 + 330.0 * (panel / 2) as f64;
-    let x = left + 340.0 * (n.log10() - 2.0) / 4.0;
-    let y = top + 240.0 * (1.0 - (messages.max(10.0).log10() - 1.0) / 8.0);
-    (x, y)
+/// One of the plot's four panels. Both axes are logarithmic: draws from 100 to 10^6, messages from
+/// 100 to the power of ten above the allowance.
+struct Panel {
+    left: f64,
+    top: f64,
+    /// Powers of ten of messages that the panel is high.
+    decades: i32,
 }
 
-fn line(svg: &mut String, panel: usize, points: &[(f64, f64)], colour: &str, dash: &str) {
-    let path: Vec<String> = points
-        .iter()
-        .map(|p| {
-            let (x, y) = place(panel, p.0, p.1);
-            format!("{x:.1},{y:.1}")
-        })
-        .collect();
-    writeln!(
-        svg,
-        "<polyline fill=\"none\" stroke=\"{colour}\" stroke-width=\"1.6\" {dash} points=\"{}\"/>",
-        path.join(" ")
-    )
-    .unwrap();
+const WIDE: f64 = 270.0;
+const HIGH: f64 = 240.0;
+/// Room for one line of text beside another.
+const LABEL: f64 = 15.0;
+
+/// How a line is drawn. Lines that run together have three widths, the wider ones below, so that
+/// none hides another, in black and white too.
+struct Pen {
+    colour: &'static str,
+    width: f64,
+    dash: &'static str,
 }
 
-fn text(svg: &mut String, x: f64, y: f64, size: u32, anchor: &str, what: &str) {
-    writeln!(
-        svg,
-        "<text x=\"{x:.0}\" y=\"{y:.0}\" font-family=\"sans-serif\" font-size=\"{size}\" \
-         text-anchor=\"{anchor}\">{what}</text>"
-    )
-    .unwrap();
-}
+const PENS: [Pen; 3] = [
+    Pen { colour: "#a9d3ec", width: 9.0, dash: "" },
+    Pen { colour: "#e0701a", width: 4.5, dash: "" },
+    Pen { colour: "#000000", width: 1.3, dash: "" },
+];
+const ALLOWANCE: Pen = Pen { colour: "#222222", width: 1.8, dash: "9 5" };
+const ONE_EACH: Pen = Pen { colour: "#555555", width: 1.8, dash: "2 4" };
 
-fn frame(svg: &mut String, panel: usize, title: &str) {
-    let (left, bottom) = place(panel, 100.0, 10.0);
-    let (right, top) = place(panel, 1e6, 1e9);
-    writeln!(
-        svg,
-        "<rect x=\"{left}\" y=\"{top}\" width=\"{}\" height=\"{}\" fill=\"none\" stroke=\"#999\"/>",
-        right - left,
-        bottom - top
-    )
-    .unwrap();
-    text(svg, (left + right) / 2.0, top - 10.0, 13, "middle", title);
-    for power in 2..=6 {
-        let (x, y) = place(panel, 10f64.powi(power), 10.0);
-        text(svg, x, y + 16.0, 10, "middle", &format!("10^{power}"));
+/// A number with commas: 10,000.
+fn with_commas(number: u64) -> String {
+    let digits = number.to_string();
+    let mut text = String::new();
+    for (place, digit) in digits.chars().enumerate() {
+        if place > 0 && (digits.len() - place) % 3 == 0 {
+            text.push(',');
+        }
+        text.push(digit);
     }
-    for power in [1, 3, 5, 7, 9] {
-        let (x, y) = place(panel, 100.0, 10f64.powi(power));
-        text(svg, x - 6.0, y + 4.0, 10, "end", &format!("10^{power}"));
+    text
+}
+
+fn text(svg: &mut String, x: f64, y: f64, attributes: &str, what: &str) {
+    writeln!(svg, "<text x=\"{x:.0}\" y=\"{y:.0}\" {attributes}>{what}</text>").unwrap();
+}
+
+fn path(svg: &mut String, points: &[(f64, f64)], pen: &Pen) {
+    let places: Vec<String> = points.iter().map(|p| format!("{:.1},{:.1}", p.0, p.1)).collect();
+    writeln!(
+        svg,
+        "<polyline fill=\"none\" stroke=\"{}\" stroke-width=\"{}\" stroke-dasharray=\"{}\" \
+         points=\"{}\"/>",
+        pen.colour,
+        pen.width,
+        if pen.dash.is_empty() { "none" } else { pen.dash },
+        places.join(" ")
+    )
+    .unwrap();
+}
+
+impl Panel {
+    fn new(number: usize, most: u64) -> Panel {
+        let mut decades = 1;
+        while 100 * 10u64.pow(decades) < most {
+            decades += 1;
+        }
+        Panel {
+            left: 100.0 + 500.0 * (number % 2) as f64,
+            top: 60.0 + 340.0 * (number / 2) as f64,
+            decades: decades as i32,
+        }
+    }
+
+    fn place(&self, n: f64, messages: f64) -> (f64, f64) {
+        let x = self.left + WIDE * (n.log10() - 2.0) / 4.0;
+        let y = self.top + HIGH * (1.0 - (messages.log10() - 2.0) / f64::from(self.decades));
+        (x, y)
+    }
+
+    /// Title, grid, numbers at the axes and what they count.
+    fn frame(&self, svg: &mut String, title: &str) {
+        let (right, bottom) = (self.left + WIDE, self.top + HIGH);
+        let grey = Pen { colour: "#d9d9d9", width: 1.0, dash: "" };
+        for power in 2..=6 {
+            let (x, _) = self.place(10f64.powi(power), 100.0);
+            path(svg, &[(x, self.top), (x, bottom)], &grey);
+            let number = with_commas(10u64.pow(power as u32));
+            text(svg, x, bottom + 18.0, "text-anchor=\"middle\"", &number);
+        }
+        for power in 2..=2 + self.decades {
+            let (_, y) = self.place(100.0, 10f64.powi(power));
+            path(svg, &[(self.left, y), (right, y)], &grey);
+            let number = with_commas(10u64.pow(power as u32));
+            text(svg, self.left - 7.0, y + 4.0, "text-anchor=\"end\"", &number);
+        }
+        let bold = "font-weight=\"bold\" font-size=\"14\"";
+        text(svg, self.left, self.top - 14.0, bold, title);
+        let middle = (self.left + right) / 2.0;
+        text(svg, middle, bottom + 38.0, "text-anchor=\"middle\" font-size=\"13\"", "draws taken");
+        let (x, y) = (self.left - 84.0, (self.top + bottom) / 2.0);
+        let turned = format!(
+            "text-anchor=\"middle\" font-size=\"13\" transform=\"rotate(-90 {x:.0} {y:.0})\""
+        );
+        text(svg, x, y, &turned, "messages");
+    }
+
+    /// Draws a line as far as it is within the panel, and answers where it ends.
+    fn line(&self, svg: &mut String, points: &[(f64, f64)], pen: &Pen) -> (f64, f64) {
+        let places: Vec<(f64, f64)> = points.iter().map(|p| self.place(p.0, p.1)).collect();
+        path(svg, &places, pen);
+        *places.last().expect("a line has points")
+    }
+
+    /// Names each line at its right end; names that would touch are moved apart.
+    fn names(&self, svg: &mut String, mut ends: Vec<(f64, &str, &Pen)>) {
+        ends.sort_by(|a, b| a.0.total_cmp(&b.0));
+        let right = self.left + WIDE;
+        let mut places: Vec<f64> = ends.iter().map(|end| end.0).collect();
+        for _ in 0..200 {
+            for i in 1..places.len() {
+                let missing = LABEL - (places[i] - places[i - 1]);
+                if missing > 0.0 {
+                    places[i - 1] -= missing / 2.0;
+                    places[i] += missing / 2.0;
+                }
+            }
+        }
+        for (end, y) in ends.iter().zip(places) {
+            path(svg, &[(right + 2.0, end.0), (right + 14.0, y)], &Pen { width: 0.8, ..ONE_EACH });
+            path(svg, &[(right + 14.0, y), (right + 36.0, y)], end.2);
+            text(svg, right + 41.0, y + 4.0, "", end.1);
+        }
     }
 }
 
@@ -152,16 +232,22 @@ fn main() {
          |---|---|---|---|---|---|---|---|\n",
     );
     let mut svg = String::from(
-        "<svg xmlns=\"http://www.w3.org/2000/svg\" width=\"880\" height=\"740\">\n\
-         <rect width=\"880\" height=\"740\" fill=\"white\"/>\n",
+        "<svg xmlns=\"http://www.w3.org/2000/svg\" viewBox=\"0 0 1000 740\" width=\"1000\" \
+         height=\"740\" role=\"img\" font-family=\"sans-serif\" font-size=\"12\" \
+         fill=\"#222222\">\n\
+         <title>Messages by draws taken, under four settings</title>\n\
+         <desc>Four panels with logarithmic axes. In each the messages of three streams, which \
+         nearly coincide, lie below the allowance, and flatten as draws go on.</desc>\n\
+         <rect width=\"1000\" height=\"740\" fill=\"white\"/>\n",
     );
-    let colours = ["#1f77b4", "#2ca02c", "#d62728"];
-    for (panel, (k, c, e)) in SETTINGS.into_iter().enumerate() {
+    for (number, (k, c, e)) in SETTINGS.into_iter().enumerate() {
         let share = (2 * e).min(1000);
         let settings = Settings::from_numbers([k, e, share, 500, c, UNIVERSE]);
-        frame(&mut svg, panel, &format!("k {k}, c {c}, e {e}"));
+        let panel = Panel::new(number, allowance(&settings, MARKS[3]).unwrap());
+        panel.frame(&mut svg, &format!("k {k}, c {c}, share {share} with leeway {e}"));
+        let mut ends = Vec::new();
         let mut granted = Vec::new();
-        for (stream, colour) in STREAMS.iter().zip(colours) {
+        for (stream, pen) in STREAMS.iter().zip(&PENS) {
             let points = count(&settings, stream);
             for mark in MARKS {
                 let messages = at(&points, mark);
@@ -178,14 +264,23 @@ fn main() {
                 .map(|p| (p.0 as f64, allowance(&settings, p.0).unwrap() as f64))
                 .collect();
             let drawn: Vec<(f64, f64)> = points.iter().map(|p| (p.0 as f64, p.1 as f64)).collect();
-            line(&mut svg, panel, &drawn, colour, "");
+            ends.push((panel.line(&mut svg, &drawn, pen).1, *stream, pen));
         }
-        line(&mut svg, panel, &granted, "#000", "stroke-dasharray=\"6 3\"");
-        line(&mut svg, panel, &[(100.0, 100.0), (1e6, 1e6)], "#888", "stroke-dasharray=\"2 3\"");
+        ends.push((panel.line(&mut svg, &granted, &ALLOWANCE).1, "allowance", &ALLOWANCE));
+        // One message a draw leaves a panel that is not so high by its upper edge.
+        let top = 10f64.powi(2 + panel.decades).min(1e6);
+        let end = panel.line(&mut svg, &[(100.0, 100.0), (top, top)], &ONE_EACH);
+        if end.0 < panel.left + WIDE {
+            text(&mut svg, end.0 + 8.0, end.1 + 16.0, "", "one a draw");
+        } else {
+            ends.push((end.1, "one a draw", &ONE_EACH));
+        }
+        panel.names(&mut svg, ends);
     }
-    let legend = "messages by draws taken: blue uniform, green Zipf, red one code at all \
-        decks in turn; dashed the allowance, dotted one message a draw";
-    text(&mut svg, 440.0, 722.0, 12, "middle", legend);
+    let note =
+        "Both axes are logarithmic. Where lines run together the wider ones lie below, so that \
+        none is hidden.";
+    text(&mut svg, 16.0, 726.0, "font-size=\"13\"", note);
     svg.push_str("</svg>\n");
     std::fs::write(&paths[0], table).expect("the table's path can be written");
     std::fs::write(&paths[1], svg).expect("the plot's path can be written");

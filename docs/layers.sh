@@ -38,9 +38,9 @@ function leads(from, to, i, n, own, found) {
 
 BEGIN {
   families = split("ground site coordinator tracker worklist output drawtrack controller " \
-    "single testing", order, " ")
+    "single library", order, " ")
   split("#e8e8e8 #cfe8cf #cfe0f5 #f5ddc5 #f3f0c0 " \
-    "#e6d8ef #f2cfd6 #d6efef #e3dccb #f7f7f7", paint, " ")
+    "#e6d8ef #f2cfd6 #d6efef #e3dccb #dcefa4", paint, " ")
   for (i = 1; i <= families; i++) colour[order[i]] = paint[i]
   step = 78; tall = 30; gap = 14; wide = 1180; margin = 24
 }

@@ -1,6 +1,7 @@
 -- Both factors are positive and small, for settings that pass.
 use Prim.Native.Nat.{_-_, _*_, _≤_}
-use native.Mathlib.Nat.{mul-le-mul}
+use mathlib.Core.Path.{sym}
+use native.Mathlib.Nat.{mul-le-mul, min-eq-left, min-eq-right}
 use native.Mathlib.Omega.{arith}
 use Rattle.model.specs.declared.Settings.{Settings}
 use Rattle.model.proofs.Thresholds.SettingsLaws.{Settled, settled}
@@ -45,6 +46,12 @@ div-most c =
     let f = factors (start .args .settings) (settled (start .args .settings) (start .pre)) in
     omega (arith, mul-le-mul (f .share-some) (f .lag-some))
 
+returns : tie.Need-returns
+returns c = sym (min-eq-right (omega (arith, c .if1 .taken)))
+
+returns-2 : tie.Need-returns-2
+returns-2 c = sym (min-eq-left (omega (arith, c .if1 .left)))
+
 pub most-listed-spec : {M : Type 1} → statement M
 most-listed-spec =
     tie.close
@@ -56,4 +63,6 @@ most-listed-spec =
     (λ c. search needs)
     mul-most-2
     div-most
-    (λ c. search needs) (λ c. search needs) (λ c. search needs))
+    (λ c. search needs)
+    returns
+    returns-2)

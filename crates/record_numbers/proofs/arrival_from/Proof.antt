@@ -1,0 +1,15 @@
+-- Number by number.
+use mathlib.Core.Path.{refl}
+use borrow.Author.Needs.{needs}
+use Rattle.record_numbers.proofs.arrival_from.Statement.{statement}
+use Rattle.record_numbers.proofs.arrival_from.Tie as tie
+
+returns : tie.Need-returns
+returns c = refl
+
+pub arrival-from-spec : {M : Type 1} → statement M
+arrival-from-spec =
+    tie.close
+    (tie.spec
+    (λ c. search needs) (λ c. search needs) (λ c. search needs)
+    returns)

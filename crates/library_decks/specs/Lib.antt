@@ -1,3 +1,2 @@
--- What the calls on decks promise.
-pub mod OneDeck
+-- What the calls on all decks promise.
 pub mod AllDecks

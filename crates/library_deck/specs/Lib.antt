@@ -1,0 +1,2 @@
+-- What the calls on one deck promise.
+pub mod OneDeck

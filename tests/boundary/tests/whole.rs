@@ -70,7 +70,7 @@ fn forged_and_damaged_networks_agree() {
     let met = [SETTING_RANGE, PHI_BELOW_EPSILON, TOO_FEW_COUNTERS, SHORT_MEMORY, INCONSISTENT];
     both.enough(36_000, &met, 100);
     let met = [UNKNOWN_SITE, UNKNOWN_ITEM, UNKNOWN_VALUE, SITE_FULL, MESSAGE_NOT_DUE];
-    both.enough(36_000, &met, 500);
+    both.enough(36_000, &met, 300);
     both.enough(36_000, &[AMOUNT_NOT_DUE, ACCEPTED], 1_000);
 }
 

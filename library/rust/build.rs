@@ -1,6 +1,6 @@
 // Links libtracker.a, which `bash library/build.sh` makes. It is looked for in the folder that the
-// variable DRAW_TRACKER_LIB names, and nowhere else if that is set; then in ../../target/library,
-// where the build puts it in the repository; then in ../lib, where a release has it.
+// variable DRAW_TRACKER_LIB names, and nowhere else if that is set; then in ../lib, where a release
+// has it; then in ../../target/library, where the build puts it in the repository.
 use std::env;
 use std::path::{Path, PathBuf};
 use std::process::exit;
@@ -10,7 +10,7 @@ fn main() {
     let here = PathBuf::from(env::var_os("CARGO_MANIFEST_DIR").expect("cargo names the folder"));
     let folders = match env::var_os("DRAW_TRACKER_LIB") {
         Some(named) => vec![PathBuf::from(named)],
-        None => vec![here.join("../../target/library"), here.join("../lib")],
+        None => vec![here.join("../lib"), here.join("../../target/library")],
     };
     for folder in &folders {
         println!("cargo:rerun-if-changed={}", archive(folder).display());

@@ -14,9 +14,9 @@ const LOG_PLACES: usize = 4096;
 
 /// All decks and the desk in one process, with the memory that they need.
 ///
-/// Draws are taken one by one ([`Bench::draw`], then deliver; or [`Bench::deliver`], which does both)
-/// or many at a time ([`Bench::run`], [`Bench::run_all`]). A single draw with the delivery written
-/// out:
+/// Draws are taken one by one ([`Bench::draw`], then deliver; or [`Bench::deliver`], which does
+/// both) or many at a time ([`Bench::run`], [`Bench::run_all`]). A single draw with the delivery
+/// written out:
 ///
 /// ```
 /// use draw_tracker::{Bench, Draw, Settings};
@@ -78,8 +78,8 @@ impl Bench {
         Ok(Bench { parts })
     }
 
-    /// A bench of these parts. Nothing is tested here: each call tests what it is given, and refuses
-    /// parts that don't belong together (1, 2, 3, 4, 11).
+    /// A bench of these parts. Nothing is tested here: each call tests what it is given, and
+    /// refuses parts that don't belong together (1, 2, 3, 4, 11).
     pub fn from_parts(parts: BenchParts) -> Bench {
         Bench { parts }
     }
@@ -145,7 +145,8 @@ impl Bench {
         }
     }
 
-    /// The next kind 7, or none where the desk doesn't announce. Ask for it while nothing else waits.
+    /// The next kind 7, or none where the desk doesn't announce. Ask for it while nothing else
+    /// waits.
     pub fn announcement(&mut self) -> Result<Option<Message>, Refusal> {
         let BenchParts { settings, desk, desk_memory, .. } = &mut self.parts;
         desk::announcement(settings, desk, desk_memory)
@@ -174,8 +175,8 @@ impl Bench {
         self.run_all_with(draws, &mut log, each)
     }
 
-    /// The same with a log of the caller's. It is stopped by 14 only if the log has no place for the
-    /// messages of one draw even when it is empty.
+    /// The same with a log of the caller's. It is stopped by 14 only if the log has no place for
+    /// the messages of one draw even when it is empty.
     #[must_use = "a run may stop before its last draw"]
     pub fn run_all_with(
         &mut self,

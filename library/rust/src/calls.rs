@@ -15,8 +15,8 @@ use crate::values::{Draw, Message, Settings};
 
 // SAFETY, for every call below: a pointer to a record, a message or a number comes from a reference
 // to one whole object; a pointer with a length is those of one slice; all live through the call.
-// What is written comes from `&mut` or is a local, so it overlaps nothing else. No number in them is
-// undefined to the calls. Where a call needs more, it stands there.
+// What is written comes from `&mut` or is a local, so it overlaps nothing else. No number in them
+// is undefined to the calls. Where a call needs more, it stands there.
 
 /// The messages that a draw sends: none, one or two, in the order in which they go out.
 #[derive(Clone, Copy, Debug, Default, PartialEq, Eq)]
@@ -286,8 +286,8 @@ pub fn run(
     log: &mut [Message],
 ) -> Run {
     let mut counts = Counts::default();
-    // SAFETY: see above; a message is four numbers, so the log is so many numbers long. No slice has
-    // more bytes than half the addresses, so the product is in range.
+    // SAFETY: see above; a message is four numbers, so the log is so many numbers long. No slice
+    // has more bytes than half the addresses, so the product is in range.
     let number = unsafe {
         raw::tracker_run(
             settings,

@@ -1,8 +1,8 @@
 //! The draw tracker of a liquid-handling scheduler, over the proved archive `libtracker.a`.
 //!
-//! Up to 32 decks watch draws of reagent codes. Whenever no message is under way, a desk knows which
-//! codes take at least a share p of all draws, and which volume class is their q-quantile, each
-//! within a leeway e, all in thousandths.
+//! Up to 32 decks watch draws of reagent codes. Whenever no message is under way, a desk knows
+//! which codes take at least a share p of all draws, and which volume class is their q-quantile,
+//! each within a leeway e, all in thousandths.
 //!
 //! - [`Bench`]: all decks and the desk in one process.
 //! - [`Deck`] and [`Desk`]: one party a process; the messages between them go as
@@ -31,9 +31,9 @@
 //!
 //! # Linking
 //! The build looks for `libtracker.a` in the folder that the variable `DRAW_TRACKER_LIB` names; if
-//! that is not set, in `../../target/library` and then in `../lib`, from this crate's folder. The
-//! first is where `bash library/build.sh` puts it, the second where a release has it. The archive
-//! is for x86-64 with the System V calling convention.
+//! that is not set, in `../lib` and then in `../../target/library`, from this crate's folder. The
+//! first is where a release has it, the second where `bash library/build.sh` puts it in the
+//! repository. The archive is for x86-64 with the System V calling convention.
 //!
 //! # Features
 //! The crate is `no_std`. `alloc`, which is on unless default features are off, has the types that

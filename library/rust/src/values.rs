@@ -50,12 +50,14 @@ impl Settings {
     /// How much memory these settings ask for: 1, 2, 3.
     pub fn lengths(&self) -> Result<Lengths, Refusal> {
         let mut lengths = Lengths::default();
-        // SAFETY: both are references to whole objects, and what is written is no part of the other.
+        // SAFETY: both are references to whole objects, and what is written is no part of the
+        // other.
         answer(unsafe { raw::tracker_test_lengths(self, &mut lengths) })?;
         Ok(lengths)
     }
 
-    /// The most messages that so many draws may cost: 1, 2, 3. Class 0 is no draw and doesn't count.
+    /// The most messages that so many draws may cost: 1, 2, 3. Class 0 is no draw and doesn't
+    /// count.
     pub fn allowance(&self, draws: u64) -> Result<u64, Refusal> {
         let Settings { decks, leeway, share, rank, slots, codes } = *self;
         let mut messages = 0;
@@ -116,9 +118,9 @@ pub struct Draw {
 }
 
 impl Draw {
-    /// Reads the first worklist line of some bytes: the draw, and how many bytes its line takes with
-    /// the line feed. 13. Only the line's form is tested; the deck, code and class may be any that
-    /// seven digits hold.
+    /// Reads the first worklist line of some bytes: the draw, and how many bytes its line takes
+    /// with the line feed. 13. Only the line's form is tested; the deck, code and class may be any
+    /// that seven digits hold.
     pub fn parse(bytes: &[u8]) -> Result<(Draw, usize), Refusal> {
         let mut draw = Draw::default();
         let mut used = 0;
@@ -166,8 +168,9 @@ impl Message {
     /// A message on the wire: kind and deck in 4 bytes each, then a and b in 8 each, the least byte
     /// first.
     ///
-    /// Every message that a call hands out is the same after [`Message::from_bytes`]. A kind or deck
-    /// above 2^32 - 1, which none has, goes out as 2^32 - 1: that is refused by the same number.
+    /// Every message that a call hands out is the same after [`Message::from_bytes`]. A kind or
+    /// deck above 2^32 - 1, which none has, goes out as 2^32 - 1: that is refused by the same
+    /// number.
     pub fn to_bytes(&self) -> [u8; Message::BYTES] {
         let word = |number: u64| u32::try_from(number).unwrap_or(u32::MAX).to_le_bytes();
         let mut bytes = [0; Message::BYTES];

@@ -1,5 +1,5 @@
-//! Every refusal once, where the crate can meet it, and that a refused call changes nothing: not the
-//! records, not the memory, not what is to be handed out.
+//! Every refusal once, where the crate can meet it, and that a refused call changes nothing: not
+//! the records, not the memory, not what is to be handed out.
 
 mod common;
 
@@ -203,8 +203,8 @@ fn no_announcement() {
     assert_eq!((answer, desk), (Err(Refusal::MessageNotDue), before));
 }
 
-/// Desk records that the calls never leave are 11, whatever the call; settings and short memory come
-/// before.
+/// Desk records that the calls never leave are 11, whatever the call; settings and short memory
+/// come before.
 #[test]
 fn malformed_desks() {
     let fresh = Bench::start(A).unwrap().into_parts();

@@ -1,6 +1,6 @@
 //! What the calls are lent, on the proved code alone: memory of the least length is accepted, and
-//! one number less is 4; numbers past every end stay; a refused call changes nothing, its record and
-//! what it would hand out included; a coordinator's record that the calls never leave is 11.
+//! one number less is 4; numbers past every end stay; a refused call changes nothing, its record
+//! and what it would hand out included; a coordinator's record that the calls never leave is 11.
 
 use boundary::*;
 use draw_tracker::{calls, DecksRecord, DeskRecord, Settings};
@@ -340,8 +340,8 @@ fn refused_everywhere(numbers: [u64; COORDINATOR_NUMBERS]) {
     }
 }
 
-/// A message's kind and deck are numbers of eight bytes in C: those that four bytes don't hold are 9
-/// and 5, whatever their lower halves.
+/// A message's kind and deck are numbers of eight bytes in C: those that four bytes don't hold are
+/// 9 and 5, whatever their lower halves.
 #[test]
 fn wide_messages() {
     let settings = Settings { decks: 1, leeway: 1000, share: 1000, rank: 500, slots: 6, codes: 10 };

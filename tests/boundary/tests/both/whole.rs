@@ -1,6 +1,6 @@
 //! The calls at a site with all sites' records and memory lent, and the start of one site, beside
-//! the separate implementation, which has a site's own calls: the site is looked up after its number
-//! was tested. What is not that site's stays as it was.
+//! the separate implementation, which has a site's own calls: the site is looked up after its
+//! number was tested. What is not that site's stays as it was.
 
 use boundary::SITE_NUMBERS;
 use reference::message::{Arrival, Message, Outgoing};

@@ -393,7 +393,11 @@ static void decks_checks(void) {
     now.decks.deck[0].pending = 9;
     check(decks_message(message(3, 1, 0, 0)) == 0, "11 is tested of the named deck alone");
     REFUSED(11, decks_draw(draw(0, 10, 1024)), "a draw: 11 before 6");
+    /* Records from k on are not looked at, whatever they hold. */
+    now.decks.deck[2].threshold = now.decks.deck[31].threshold = 0;
     REFUSED(5, decks_draw(draw(2, 7, 3)), "a draw: 5 before 11");
+    REFUSED(5, decks_draw(draw(31, 7, 3)), "a draw at deck 31: 5 before 11");
+    REFUSED(5, decks_message(message(3, 2, 0, 0)), "a message to a deck: 5 before 11");
     REFUSED(11, decks_message(message(2, 0, 0, 0)), "a message to a deck: 11 before 9");
     in_decks--;
     REFUSED(4, decks_draw(draw(2, 10, 1024)), "a draw: 4 before 5");

@@ -12,6 +12,21 @@ use crate::values::{Draw, Message, Settings};
 ///
 /// Its messages go to a [`Desk`](crate::Desk) in another process. Whoever carries them hands over
 /// each once, in the order of going out, and hands the next draw to a deck only when nothing waits.
+///
+/// ```
+/// use draw_tracker::{Deck, Desk, Draw, Message, Settings};
+///
+/// let settings =
+///     Settings { decks: 2, leeway: 1000, share: 1000, rank: 500, slots: 6, codes: 10 };
+/// let mut deck = Deck::start(settings, 1)?; // in one process
+/// let mut desk = Desk::start(settings)?; // in another
+/// for message in deck.draw(Draw { deck: 1, code: 7, class: 3 })? {
+///     let bytes = message.to_bytes(); // over the wire
+///     assert_eq!(desk.receive(Message::from_bytes(&bytes))?, None);
+/// }
+/// assert_eq!(desk.listed()?, [7]);
+/// # Ok::<(), draw_tracker::Refusal>(())
+/// ```
 #[derive(Clone, Debug, PartialEq, Eq)]
 pub struct Deck {
     settings: Settings,

@@ -2,14 +2,15 @@
 //!
 //! They are written by the calls alone. Other numbers in them are never undefined: a call refuses
 //! them (11) or steps them by the same rules; but what the tracker promises of list, class and
-//! messages holds only for what its calls left.
+//! messages holds only for what its calls left. The `Default` of a record is all zeros, a place to
+//! start into; it is not a started record, and calls refuse it (11).
 
 use core::mem::size_of;
 
 use crate::refusal::{reason, Refusal};
 use crate::values::MOST_DECKS;
 
-/// The record of one deck.
+/// The record of one deck. Its default is a place to start into, not a started record.
 #[repr(C)]
 #[derive(Clone, Copy, Debug, Default, PartialEq, Eq)]
 pub struct DeckRecord {
@@ -25,7 +26,8 @@ pub struct DeckRecord {
     pub forgotten: u64,
 }
 
-/// The records of all decks of a bench, those from k on unused.
+/// The records of all decks of a bench, those from k on unused. Its default is a place to start
+/// into, not started records.
 #[repr(C)]
 #[derive(Clone, Copy, Debug, PartialEq, Eq)]
 pub struct DecksRecord {
@@ -41,7 +43,7 @@ impl Default for DecksRecord {
     }
 }
 
-/// The record of the desk.
+/// The record of the desk. Its default is a place to start into, not a started record.
 #[repr(C)]
 #[derive(Clone, Copy, Debug, Default, PartialEq, Eq)]
 pub struct DeskRecord {

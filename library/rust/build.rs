@@ -12,9 +12,6 @@ fn main() {
         Some(named) => vec![PathBuf::from(named)],
         None => vec![here.join("../lib"), here.join("../../target/library")],
     };
-    for folder in &folders {
-        println!("cargo:rerun-if-changed={}", archive(folder).display());
-    }
     let Some(found) = folders.iter().find(|folder| archive(folder).is_file()) else {
         eprintln!("draw-tracker: there is no libtracker.a in:");
         for folder in &folders {
@@ -26,6 +23,9 @@ fn main() {
         eprintln!("variable DRAW_TRACKER_LIB.");
         exit(1);
     };
+    // A folder that is named from here, the crate's own, is another one to the linker.
+    let found = found.canonicalize().expect("the folder is there");
+    println!("cargo:rerun-if-changed={}", archive(&found).display());
     println!("cargo:rustc-link-search=native={}", found.display());
     println!("cargo:rustc-link-lib=static=tracker");
 }

@@ -166,7 +166,8 @@ impl Bench {
     }
 
     /// The same for any number of draws: each message is handed to `each`, in order, and whenever
-    /// the log is full it is emptied and the run goes on. So it stops by anything but 14.
+    /// the log is full it is emptied and the run goes on. So it stops by anything but 14. The log
+    /// is allocated for the call, some thousand messages long.
     #[must_use = "a run may stop before its last draw"]
     pub fn run_all(&mut self, draws: &[Draw], each: impl FnMut(Message)) -> Run {
         // Settings are tested in the run; this only keeps the log small if they are out of range.

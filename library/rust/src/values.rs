@@ -15,7 +15,7 @@ pub const MOST_CODES: u32 = 65536;
 pub const TOP_CLASS: u32 = 1023;
 /// How many volume classes there are, class 0 among them.
 pub const CLASSES: usize = 1024;
-/// The most codes that are ever listed, under any settings.
+/// The most codes that are listed between draws, under any settings.
 pub const MOST_LISTED: usize = 1000;
 
 /// The settings of a bench. Every call is given those that the bench was started with.
@@ -79,7 +79,8 @@ pub struct Lengths {
     pub decks_numbers: u64,
     /// `u64`: the memory of the desk.
     pub desk_numbers: u64,
-    /// `u32`: with so many places a list never meets 12.
+    /// `u32`: with so many places a list that is read between draws never meets 12. In
+    /// mid-delivery, with a kind 1 handed over and its kind 2 waiting, it may.
     pub list_places: u64,
     /// `u64`: the least log with which a run takes a draw, four for each message.
     pub log_numbers: u64,

@@ -287,6 +287,27 @@ fn a_short_list() {
     assert_eq!(desk.listed().unwrap(), (0..10).collect::<Vec<u32>>());
 }
 
+/// In mid-delivery the list may need more places than between draws: the desk has heard of the second
+/// code, and not yet that there are two draws.
+#[test]
+fn a_list_in_mid_delivery() {
+    let settings = Settings { leeway: 333, share: 970, slots: 19, ..A };
+    let mut bench = Bench::start(settings).unwrap();
+    take(&mut bench, P2).unwrap();
+    let sent = bench.draw(Draw { code: 8, ..P2 }).unwrap();
+    assert_eq!(bench.hand_over(sent[0]), Ok(None));
+    let places = settings.lengths().unwrap().list_places as usize;
+    assert_eq!(places, 1);
+    let mut codes = vec![77; places];
+    let answer = calls::desk_list(&settings, bench.desk(), bench.desk_memory(), &mut codes);
+    assert_eq!(answer, Err(Refusal::ListTooShort));
+    assert_eq!(codes, [77]);
+    assert_eq!(bench.listed(), Ok(vec![7, 8]));
+    // At rest neither has its share.
+    bench.hand_over(sent[1]).unwrap();
+    assert_eq!(bench.listed(), Ok(vec![]));
+}
+
 #[test]
 fn a_short_log() {
     let mut bench = Bench::start(A).unwrap();

@@ -8,8 +8,8 @@
 #   lib/       libtracker.a, libcontroller.a
 #   rust/      the crate draw-tracker, which finds ../lib by itself
 #   bin/       drawtrack
-#   doc/       the manual pages
-#   examples/  in C and Rust, with their link lines, and a worklist
+#   doc/       the manual pages: README.md, INTEGRATORS.md, DRAWTRACK.md, GLOSSARY.md and the others
+#   examples/  in C and Rust, with their link lines, and worklists with what drawtrack prints
 #   COMMIT     the commit, and which files differed from it
 #   RATTLE     the kit's version
 #   SHA256SUMS of all other files: `sha256sum -c SHA256SUMS`
@@ -30,8 +30,8 @@ if [ "${1-}" = --built ]; then
   shift
 fi
 commit=$(git -C "$top" rev-parse HEAD) || stop "$top is no git repository, so it has no commit"
-folder=${1-$top/target/release-${commit:0:12}}
-[ ! -e "$folder" ] || [ -z "$(ls -A "$folder")" ] || stop "$folder is there already, and not empty"
+final=${1-$top/target/release-${commit:0:12}}
+[ ! -e "$final" ] || rmdir "$final" 2>/dev/null || stop "$final is there already, and not empty"
 
 if [ "$again" = yes ]; then
   bash "$library/build.sh" || stop "the archives could not be built"
@@ -41,6 +41,9 @@ if [ "$again" = yes ] || [ ! -x "$built/drawtrack" ]; then
   bash "$library/drawtrack/build.sh" || stop "drawtrack could not be built"
 fi
 
+# It has another name until it is whole.
+folder=$final.unfinished
+rm -rf "$folder"
 mkdir -p "$folder" && folder=$(cd "$folder" && pwd) || stop "$folder cannot be made"
 # put FOLDER FILE..: copies files into a folder of the release, each of which must be there.
 put() {
@@ -52,13 +55,21 @@ put() {
 put include "$library/include/controller.h" "$library/include/tracker.h"
 put lib "$built/libtracker.a" "$built/libcontroller.a"
 put bin "$built/drawtrack"
-put doc "$top/README.md"
-for page in INTEGRATORS.md DRAWTRACK.md GLOSSARY.md MESSAGES.md messages.svg layers.svg; do
-  put doc "$top/docs/$page"
-done
+# The manual pages; README.md stands among them here, so its links lose their folder.
+for page in INTEGRATORS.md DRAWTRACK.md GLOSSARY.md; do put doc "$top/docs/$page"; done
+put doc "$top"/docs/*.md "$top"/docs/*.svg "$top/CHANGELOG.md"
+[ ! -d "$top/docs/pictures" ] || put doc/pictures "$top"/docs/pictures/*.svg
+cp "$top/bench/README.md" "$folder/doc/BENCH.md" || stop "no bench/README.md"
+sed 's,](docs/,](,g; s,](bench/README\.md),](BENCH.md),g' "$top/README.md" >"$folder/doc/README.md" ||
+  stop "no README.md"
 put examples "$library/examples/README.md" "$library/examples/bench.c" \
-  "$library/examples/bench.expected" "$library/rust/examples/bench.rs" "$top/examples/one-draw.txt"
-cp "$top/crates/drawtrack/stdout" "$folder/examples/one-draw.expected" || stop "no drawtrack/stdout"
+  "$library/examples/bench.expected" "$library/rust/examples/bench.rs"
+# Worklists, each with what drawtrack prints beside it.
+put examples "$top"/examples/*.txt
+cp "$top/crates/drawtrack/stdout" "$folder/examples/one-draw.out" || stop "no drawtrack/stdout"
+for output in "$top"/examples/*.out; do
+  [ ! -f "$output" ] || put examples "$output"
+done
 # The crate as it stands in the working tree, without what cargo builds.
 mkdir -p "$folder/rust"
 (cd "$library/rust" && git ls-files -z | xargs -0 cp --parents -t "$folder/rust") ||
@@ -78,5 +89,6 @@ rt version >"$folder/RATTLE" 2>&1 || stop "rt version"
 (cd "$folder" && find . -type f ! -name SHA256SUMS | sed 's,^\./,,' | sort | xargs sha256sum) \
   >"$folder/SHA256SUMS" || stop "the sums"
 (cd "$folder" && sha256sum --quiet -c SHA256SUMS) || stop "the sums are not those of the files"
-echo "$folder: $(wc -l <"$folder/SHA256SUMS") files, $(head -n 1 "$folder/RATTLE")"
-cat "$folder/COMMIT"
+mv -T "$folder" "$final" || stop "$final cannot be made"
+echo "$final: $(wc -l <"$final/SHA256SUMS") files, $(head -n 1 "$final/RATTLE")"
+cat "$final/COMMIT"

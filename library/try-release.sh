@@ -72,8 +72,30 @@ program_needs() {
   [ -z "$needs" ]
 }
 try "drawtrack needs nothing but the C library" program_needs
-one_draw() { env -i release/bin/drawtrack <$examples/one-draw.txt; }
-try "drawtrack on a worklist" prints $examples/one-draw.expected one_draw
+# Each worklist that has an output beside it; a refusal may have an exit status of its own.
+worklists() {
+  local worklist tried=0
+  for worklist in $examples/*.txt; do
+    [ -f "${worklist%.txt}.out" ] || continue
+    env -i release/bin/drawtrack <"$worklist" >"$here/printed"
+    diff "$here/printed" "${worklist%.txt}.out" || return
+    tried=$((tried + 1))
+  done
+  [ "$tried" -gt 0 ]
+}
+try "drawtrack on the worklists" worklists
+
+# Every link of a page that leads to a file leads to one of the release.
+links() {
+  local page link lost=0
+  for page in release/doc/*.md; do
+    for link in $(grep -oE '\]\([^)#]+' "$page" | cut -c 3- | grep -v '^https\?:'); do
+      [ -e "release/doc/$link" ] || { echo "$page: $link"; lost=1; }
+    done
+  done
+  return "$lost"
+}
+try "the links of the manual pages" links
 
 # Nothing above wrote into the release.
 try "the release is as it was" sums

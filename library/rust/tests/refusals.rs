@@ -287,8 +287,8 @@ fn a_short_list() {
     assert_eq!(desk.listed().unwrap(), (0..10).collect::<Vec<u32>>());
 }
 
-/// In mid-delivery the list may need more places than between draws: the desk has heard of the second
-/// code, and not yet that there are two draws.
+/// In mid-delivery the list may need more places than between draws: the desk has heard of the
+/// second code, and not yet that there are two draws.
 #[test]
 fn a_list_in_mid_delivery() {
     let settings = Settings { leeway: 333, share: 970, slots: 19, ..A };

@@ -60,8 +60,8 @@ for page in INTEGRATORS.md DRAWTRACK.md GLOSSARY.md; do put doc "$top/docs/$page
 put doc "$top"/docs/*.md "$top"/docs/*.svg "$top/CHANGELOG.md"
 [ ! -d "$top/docs/pictures" ] || put doc/pictures "$top"/docs/pictures/*.svg
 cp "$top/bench/README.md" "$folder/doc/BENCH.md" || stop "no bench/README.md"
-sed 's,](docs/,](,g; s,](bench/README\.md),](BENCH.md),g' "$top/README.md" >"$folder/doc/README.md" ||
-  stop "no README.md"
+sed 's,](docs/,](,g; s,](bench/README\.md),](BENCH.md),g' "$top/README.md" \
+  >"$folder/doc/README.md" || stop "no README.md"
 put examples "$library/examples/README.md" "$library/examples/bench.c" \
   "$library/examples/bench.expected" "$library/rust/examples/bench.rs"
 # Worklists, each with what drawtrack prints beside it.

@@ -2,17 +2,21 @@
 
 use std::hint::black_box;
 
+use draw_tracker::{calls, DeskRecord};
 use reference::coordinator::{self, CoordinatorRecord};
 use reference::message::{Message, COUNT_REPORT, ITEM_REPORT};
 use reference::settings::{threshold_of, Settings};
 
+use crate::sites::{message_of, settings_of};
 use crate::timing::{self, Table};
 
 /// The coordinator with its memory, once for each side.
 #[derive(Clone)]
 struct Coordinator {
     settings: [u32; 6],
+    /// The record of the separate implementation's coordinator, and that of the proved one.
     record: CoordinatorRecord,
+    desk: DeskRecord,
     memory: Vec<u64>,
     list: Vec<u32>,
     /// How many calls it took; they number the items.
@@ -32,7 +36,7 @@ impl Coordinator {
         let threshold = threshold_of(&rules, base);
         let record = CoordinatorRecord { total: base, base, threshold, ..CoordinatorRecord::FRESH };
         let list = vec![0; universe as usize];
-        Coordinator { settings, record, memory, list, taken: 0 }
+        Coordinator { settings, record, desk: desk_of(&record), memory, list, taken: 0 }
     }
 
     fn next(&mut self, kind: u32) -> Message {
@@ -44,6 +48,7 @@ impl Coordinator {
         }
         // Never the last of a round.
         self.record.signals = 3;
+        self.desk.signals = 3;
         Message::new(kind, 5, threshold, 0)
     }
 
@@ -55,17 +60,10 @@ impl Coordinator {
     }
 
     fn receive_proved(&mut self, kind: u32) {
-        let Message { kind, site, a, b } = self.next(kind);
-        let message = boundary::Message { kind, site, a, b };
-        let mut numbers = self.record.to_numbers();
-        let mut out = [0; 5];
-        let settings = black_box(self.settings);
-        let memory = &mut self.memory;
-        let refusal =
-            boundary::receive_at_coordinator(&settings, &mut numbers, message, memory, &mut out);
-        assert_eq!(refusal, 0);
-        self.record = CoordinatorRecord::from_numbers(numbers).expect("a phase");
-        black_box(out);
+        let message = message_of(self.next(kind));
+        let settings = settings_of(black_box(self.settings));
+        let sent = calls::desk_message(&settings, &mut self.desk, &mut self.memory, &message);
+        assert!(black_box(sent).is_ok());
     }
 
     fn list(&mut self) {
@@ -77,13 +75,9 @@ impl Coordinator {
     }
 
     fn list_proved(&mut self) {
-        let settings = black_box(self.settings);
-        let numbers = self.record.to_numbers();
-        let mut out = [0];
-        let (memory, list) = (&self.memory, &mut self.list);
-        let refusal = boundary::list_heavy_hitters(&settings, &numbers, memory, list, &mut out);
-        assert_eq!(refusal, 0);
-        black_box(out);
+        let settings = settings_of(black_box(self.settings));
+        let listed = calls::desk_list(&settings, &self.desk, &self.memory, &mut self.list);
+        assert!(black_box(listed).is_ok());
     }
 
     fn quantile(&mut self) {
@@ -93,11 +87,27 @@ impl Coordinator {
     }
 
     fn quantile_proved(&mut self) {
-        let settings = black_box(self.settings);
-        let numbers = self.record.to_numbers();
-        let mut out = [0; 2];
-        assert_eq!(boundary::read_quantile(&settings, &numbers, &self.memory, &mut out), 0);
-        black_box(out);
+        let settings = settings_of(black_box(self.settings));
+        let class = calls::desk_class(&settings, &self.desk, &self.memory);
+        assert!(black_box(class).is_ok());
+    }
+}
+
+/// The record as the proved calls take it.
+fn desk_of(record: &CoordinatorRecord) -> DeskRecord {
+    let numbers = record.to_numbers();
+    let [total, base, threshold, signals, class, phase, site, low, high, sum] = numbers;
+    DeskRecord {
+        total,
+        base,
+        threshold,
+        signals,
+        class,
+        phase,
+        phase_deck: site,
+        phase_low: low,
+        phase_high: high,
+        phase_sum: sum,
     }
 }
 
@@ -111,7 +121,7 @@ pub fn measure(universe: u32, table: &mut Table) {
         let times = timing::measure(|| proved.receive_proved(kind), || reference.receive(kind));
         table.add(format!("{name}, u {universe}"), times);
         // Both sides did the same.
-        assert_eq!(proved.record, reference.record);
+        assert_eq!(proved.desk, desk_of(&reference.record));
         assert!(proved.memory == reference.memory);
     }
     let (mut proved, mut reference) = (start.clone(), start.clone());

@@ -3,6 +3,7 @@
 
 use std::hint::black_box;
 
+use draw_tracker::{calls, DeckRecord};
 use reference::message::{Arrival, Message, POLL, PROBE};
 use reference::settings::Settings;
 use reference::site::{self, SiteRecord};
@@ -15,7 +16,9 @@ const UNIVERSE: u32 = 65_536;
 #[derive(Clone)]
 struct Site {
     settings: [u32; 6],
+    /// The record of the separate implementation's site, and that of the proved one.
     record: SiteRecord,
+    deck: DeckRecord,
     memory: Vec<u32>,
     /// How many arrivals it took; they number the items.
     taken: u32,
@@ -36,10 +39,11 @@ impl Site {
         let settings = [4, epsilon, 1000, 500, capacity, UNIVERSE];
         let memory = vec![0; Settings::from_numbers(settings).site_memory_len()];
         let record = SiteRecord { threshold: 1_000_000_000, ..SiteRecord::FRESH };
-        let mut site = Site { settings, record, memory, taken: 0 };
+        let mut site = Site { settings, record, deck: DeckRecord::default(), memory, taken: 0 };
         for _ in 0..capacity {
             site.observe(Meets::Replaced);
         }
+        site.deck = deck_of(&site.record);
         site
     }
 
@@ -54,6 +58,7 @@ impl Site {
         };
         if meets == Meets::Unused {
             self.record.used = u64::from(capacity) - 1;
+            self.deck.slots_in_use = self.record.used;
         }
         // Never a touch.
         Arrival { site: 1, item, value: 1 + self.taken % 1023 }
@@ -70,15 +75,9 @@ impl Site {
     /// The arrival on the proved code.
     fn observe_proved(&mut self, meets: Meets) {
         let Arrival { site, item, value } = self.next(meets);
-        let mut numbers = self.record.to_numbers();
-        let mut out = [0; 9];
-        let settings = black_box(self.settings);
-        let arrival = [site, item, value];
-        let refusal =
-            boundary::observe(&settings, &mut numbers, arrival, &mut self.memory, &mut out);
-        assert_eq!(refusal, 0);
-        self.record = SiteRecord::from_numbers(numbers);
-        black_box(out);
+        let settings = settings_of(black_box(self.settings));
+        let sent = calls::deck_draw(&settings, site, &mut self.deck, &mut self.memory, item, value);
+        assert!(black_box(sent).is_ok());
     }
 
     fn receive(&mut self, sent: Message) {
@@ -88,17 +87,29 @@ impl Site {
     }
 
     fn receive_proved(&mut self, sent: Message) {
-        let mut numbers = self.record.to_numbers();
-        let mut out = [0; 5];
-        let settings = black_box(self.settings);
-        let Message { kind, site, a, b } = sent;
-        let sent = boundary::Message { kind, site, a, b };
-        let memory = &self.memory;
-        let refusal = boundary::receive_at_site(&settings, &mut numbers, 1, sent, memory, &mut out);
-        assert_eq!(refusal, 0);
-        self.record = SiteRecord::from_numbers(numbers);
-        black_box(out);
+        let settings = settings_of(black_box(self.settings));
+        let sent = message_of(sent);
+        let reply = calls::deck_message(&settings, 1, &mut self.deck, &self.memory, &sent);
+        assert!(black_box(reply).is_ok());
     }
+}
+
+/// The settings as the proved calls take them.
+pub fn settings_of(numbers: [u32; 6]) -> draw_tracker::Settings {
+    let [decks, leeway, share, rank, slots, codes] = numbers;
+    draw_tracker::Settings { decks, leeway, share, rank, slots, codes }
+}
+
+/// A message as the proved calls take it.
+pub fn message_of(message: Message) -> draw_tracker::Message {
+    let [kind, deck, a, b] = message.to_numbers();
+    draw_tracker::Message { kind, deck, a, b }
+}
+
+/// The record as the proved calls take it.
+fn deck_of(record: &SiteRecord) -> DeckRecord {
+    let [draws, pending, threshold, slots_in_use, forgotten] = record.to_numbers();
+    DeckRecord { draws, pending, threshold, slots_in_use, forgotten }
 }
 
 fn measure_message(full: &Site, sent: Message) -> Times {
@@ -128,7 +139,7 @@ pub fn measure(capacity: u32, table: &mut Table) {
             table.add(format!("the same less a poll, c {capacity}"), step);
         }
         // Both sides did the same.
-        assert_eq!(proved.record, reference.record);
+        assert_eq!(proved.deck, deck_of(&reference.record));
         assert!(proved.memory == reference.memory);
     }
 }

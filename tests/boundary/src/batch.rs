@@ -1,5 +1,9 @@
 //! The batch call: many arrivals, with full delivery after each.
 
+use draw_tracker::raw;
+
+use crate::{coordinator_of, settings_of, sites_of};
+
 /// An arrival as C lays it out, so that a run of them is lent as it stands.
 #[repr(C)]
 #[derive(Clone, Copy, Debug, PartialEq, Eq)]
@@ -9,26 +13,7 @@ pub struct Arrival {
     pub value: u32,
 }
 
-extern "C" {
-    fn testing_run_batch(
-        settings: *const u32,
-        settings_length: usize,
-        sites: *mut u64,
-        sites_length: usize,
-        coordinator: *mut u64,
-        coordinator_length: usize,
-        arrivals: *const Arrival,
-        arrivals_length: usize,
-        site_memory: *mut u32,
-        site_memory_length: usize,
-        coordinator_memory: *mut u64,
-        coordinator_memory_length: usize,
-        log: *mut u64,
-        log_length: usize,
-        out: *mut u64,
-        out_length: usize,
-    ) -> u32;
-}
+const _: () = assert!(size_of::<Arrival>() == size_of::<raw::tracker_draw>());
 
 /// What a batch works on: all records and all lent memory, the log (four numbers a record) and
 /// `out`, which gets the arrivals accepted and the messages written.
@@ -41,29 +26,26 @@ pub struct Batch<'a> {
     pub out: &'a mut [u64],
 }
 
-/// The batch call; both records go back to where they came from.
+/// The batch call, on the records where they stand.
 pub fn run_batch(settings: &[u32], arrivals: &[Arrival], batch: Batch) -> u32 {
     let Batch { sites, coordinator, site_memory, coordinator_memory, log, out } = batch;
-    // SAFETY: each pointer and length are those of one slice that lives through the call, and
-    // slices lent as `&mut` are separate from the others, since the types say so.
+    let out = out.first_chunk_mut::<2>().expect("two counts");
+    // SAFETY: as in lib.rs. An arrival is the call's draw by another name, a message four numbers
+    // of the log, of which there need not be a whole number, and `out` the call's counts.
     unsafe {
-        testing_run_batch(
-            settings.as_ptr(),
-            settings.len(),
-            sites.as_mut_ptr(),
-            sites.len(),
-            coordinator.as_mut_ptr(),
-            coordinator.len(),
-            arrivals.as_ptr(),
+        raw::tracker_run(
+            settings_of(settings),
+            sites_of(sites),
+            coordinator_of(coordinator),
+            arrivals.as_ptr().cast(),
             arrivals.len(),
             site_memory.as_mut_ptr(),
             site_memory.len(),
             coordinator_memory.as_mut_ptr(),
             coordinator_memory.len(),
-            log.as_mut_ptr(),
+            log.as_mut_ptr().cast(),
             log.len(),
-            out.as_mut_ptr(),
-            out.len(),
+            out.as_mut_ptr().cast(),
         )
     }
 }

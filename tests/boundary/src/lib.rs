@@ -1,18 +1,27 @@
-//! Safe functions over the calls that `libtesting.a` and `libtesting_batches.a` export. Records are
-//! plain numbers: settings six, a site's record [`SITE_NUMBERS`], all sites [`SITES_NUMBERS`], the
-//! coordinator's record ten, a message four. Lent numbers may be more; the rest is not looked at.
-//! A call answers document 01's refusal, or [`UNFIT`] where what it is lent does not fit the
-//! boundary.
+//! The calls of `tracker.h` in the words of the tests, over plain numbers: settings six, a site's
+//! record [`SITE_NUMBERS`], all sites [`SITES_NUMBERS`], the coordinator's record
+//! [`COORDINATOR_NUMBERS`], a message four. Lent numbers may be more than that, and the rest must
+//! stay; fewer are no call that C could make, and panic here. A call answers document 01's refusal.
+//!
+//! A refused call changes nothing: where a call writes to a number that no slice here holds, this
+//! is checked here.
 
 mod batch;
 mod delivery;
+mod whole;
+
+use draw_tracker::raw;
 
 pub use batch::{run_batch, Arrival, Batch};
 pub use delivery::{deliver_arrival, Delivery};
 pub use reference::site::{SITES_NUMBERS, SITE_NUMBERS};
+pub use whole::{observe_in, receive_in, start_site};
 
-/// The answer where lent numbers are too few, or don't fit the record's types.
-pub const UNFIT: u32 = 255;
+/// Numbers of the coordinator's record.
+pub const COORDINATOR_NUMBERS: usize = 10;
+
+/// What a number that is handed out holds before the call.
+const UNWRITTEN: u32 = 0x5a5a_5a5a;
 
 /// A message's four numbers.
 #[derive(Clone, Copy, Debug)]
@@ -23,136 +32,79 @@ pub struct Message {
     pub b: u64,
 }
 
-// A slice goes over as its pointer and its length.
-extern "C" {
-    fn testing_start_sites(
-        settings: *const u32,
-        settings_length: usize,
-        memory: *mut u32,
-        memory_length: usize,
-        sites: *mut u64,
-        sites_length: usize,
-    ) -> u32;
-    fn testing_observe(
-        settings: *const u32,
-        settings_length: usize,
-        site: *mut u64,
-        site_length: usize,
-        at: u32,
-        item: u32,
-        value: u32,
-        memory: *mut u32,
-        memory_length: usize,
-        out: *mut u64,
-        out_length: usize,
-    ) -> u32;
-    fn testing_receive_at_site(
-        settings: *const u32,
-        settings_length: usize,
-        site: *mut u64,
-        site_length: usize,
-        which: u32,
-        kind: u32,
-        named: u32,
-        a: u64,
-        b: u64,
-        memory: *const u32,
-        memory_length: usize,
-        out: *mut u64,
-        out_length: usize,
-    ) -> u32;
-    fn testing_start_coordinator(
-        settings: *const u32,
-        settings_length: usize,
-        memory: *mut u64,
-        memory_length: usize,
-        numbers: *mut u64,
-        numbers_length: usize,
-    ) -> u32;
-    fn testing_receive_at_coordinator(
-        settings: *const u32,
-        settings_length: usize,
-        numbers: *mut u64,
-        numbers_length: usize,
-        kind: u32,
-        named: u32,
-        a: u64,
-        b: u64,
-        memory: *mut u64,
-        memory_length: usize,
-        out: *mut u64,
-        out_length: usize,
-    ) -> u32;
-    fn testing_next_announcement(
-        settings: *const u32,
-        settings_length: usize,
-        numbers: *mut u64,
-        numbers_length: usize,
-        memory: *const u64,
-        memory_length: usize,
-        out: *mut u64,
-        out_length: usize,
-    ) -> u32;
-    fn testing_list_heavy_hitters(
-        settings: *const u32,
-        settings_length: usize,
-        numbers: *const u64,
-        numbers_length: usize,
-        memory: *const u64,
-        memory_length: usize,
-        list: *mut u32,
-        list_length: usize,
-        out: *mut u64,
-        out_length: usize,
-    ) -> u32;
-    fn testing_read_margin(
-        settings: *const u32,
-        settings_length: usize,
-        numbers: *const u64,
-        numbers_length: usize,
-        item: u32,
-        memory: *const u64,
-        memory_length: usize,
-    ) -> u32;
-    fn testing_margin(
-        settings: *const u32,
-        settings_length: usize,
-        numbers: *const u64,
-        numbers_length: usize,
-        item: u32,
-        memory: *const u64,
-        memory_length: usize,
-    ) -> i64;
-    fn testing_read_quantile(
-        settings: *const u32,
-        settings_length: usize,
-        numbers: *const u64,
-        numbers_length: usize,
-        memory: *const u64,
-        memory_length: usize,
-        out: *mut u64,
-        out_length: usize,
-    ) -> u32;
-}
-
-// SAFETY, for every call below: each pointer and length are those of one slice that lives through
-// the call, and slices lent as `&mut` are separate from the others, since the types say so.
-
-/// Starts all sites; their records go to `sites`.
-pub fn start_sites(settings: &[u32], memory: &mut [u32], sites: &mut [u64]) -> u32 {
-    unsafe {
-        testing_start_sites(
-            settings.as_ptr(),
-            settings.len(),
-            memory.as_mut_ptr(),
-            memory.len(),
-            sites.as_mut_ptr(),
-            sites.len(),
-        )
+impl Message {
+    fn to_raw(self) -> raw::tracker_message {
+        let (kind, deck) = (u64::from(self.kind), u64::from(self.site));
+        raw::tracker_message { kind, deck, a: self.a, b: self.b }
     }
 }
 
-/// An arrival at a site; `out` gets the number of messages, then two messages.
+// The first numbers of what is lent, as the records that the calls take. SAFETY, for all casts to
+// them: such a record is a row of numbers of one width, so any numbers are one, at the same place
+// and with the same alignment.
+
+fn settings_of(numbers: &[u32]) -> *const raw::tracker_settings {
+    numbers.first_chunk::<6>().expect("six settings").as_ptr().cast()
+}
+
+fn site_of(numbers: &mut [u64]) -> *mut raw::tracker_deck {
+    numbers.first_chunk_mut::<SITE_NUMBERS>().expect("a site's record").as_mut_ptr().cast()
+}
+
+fn sites_of(numbers: &mut [u64]) -> *mut raw::tracker_decks {
+    numbers.first_chunk_mut::<SITES_NUMBERS>().expect("all sites' records").as_mut_ptr().cast()
+}
+
+fn coordinator_of(numbers: &mut [u64]) -> *mut raw::tracker_desk {
+    let record = numbers.first_chunk_mut::<COORDINATOR_NUMBERS>();
+    record.expect("the coordinator's record").as_mut_ptr().cast()
+}
+
+fn coordinator_to_read(numbers: &[u64]) -> *const raw::tracker_desk {
+    let record = numbers.first_chunk::<COORDINATOR_NUMBERS>();
+    record.expect("the coordinator's record").as_ptr().cast()
+}
+
+/// So many messages that a call may write, and the number before them that gets their count.
+struct Out<'a> {
+    numbers: &'a mut [u64],
+    count: u32,
+}
+
+impl Out<'_> {
+    /// One number and so many messages.
+    fn of(numbers: &mut [u64], messages: usize) -> Out<'_> {
+        Out { numbers: &mut numbers[..1 + 4 * messages], count: UNWRITTEN }
+    }
+
+    fn messages(&mut self) -> *mut raw::tracker_message {
+        self.numbers[1..].as_mut_ptr().cast()
+    }
+
+    /// After the call: its count stands before the messages, unless it was refused.
+    fn counted(self, refusal: u32) -> u32 {
+        if refusal == 0 {
+            self.numbers[0] = u64::from(self.count);
+        } else {
+            assert_eq!(self.count, UNWRITTEN, "refused by {refusal}, a call changed its count");
+        }
+        refusal
+    }
+}
+
+// SAFETY, for every call below and in the other files: each pointer and length are those of one
+// slice that lives through the call, or a pointer is to a record within one; what is lent as `&mut`
+// is separate from all else, since the types say so, and locals are.
+
+/// Starts all sites; their records go to `sites`.
+pub fn start_sites(settings: &[u32], memory: &mut [u32], sites: &mut [u64]) -> u32 {
+    let (settings, sites) = (settings_of(settings), sites_of(sites));
+    // SAFETY: see above.
+    unsafe { raw::tracker_start_decks(settings, sites, memory.as_mut_ptr(), memory.len()) }
+}
+
+/// An arrival at a site with its own record and memory; `out` gets the number of messages, then two
+/// messages.
 pub fn observe(
     settings: &[u32],
     site: &mut [u64],
@@ -160,21 +112,23 @@ pub fn observe(
     memory: &mut [u32],
     out: &mut [u64],
 ) -> u32 {
-    unsafe {
-        testing_observe(
-            settings.as_ptr(),
-            settings.len(),
-            site.as_mut_ptr(),
-            site.len(),
+    let mut out = Out::of(out, 2);
+    let messages = out.messages();
+    // SAFETY: see above; two messages have their places.
+    let refusal = unsafe {
+        raw::tracker_deck_draw(
+            settings_of(settings),
             at,
-            item,
-            value,
+            site_of(site),
             memory.as_mut_ptr(),
             memory.len(),
-            out.as_mut_ptr(),
-            out.len(),
+            item,
+            value,
+            messages,
+            &mut out.count,
         )
-    }
+    };
+    out.counted(refusal)
 }
 
 /// A message at site `which`; `out` gets the number of replies, then the reply.
@@ -186,37 +140,29 @@ pub fn receive_at_site(
     memory: &[u32],
     out: &mut [u64],
 ) -> u32 {
-    unsafe {
-        testing_receive_at_site(
-            settings.as_ptr(),
-            settings.len(),
-            site.as_mut_ptr(),
-            site.len(),
+    let mut out = Out::of(out, 1);
+    let reply = out.messages();
+    // SAFETY: see above.
+    let refusal = unsafe {
+        raw::tracker_deck_message(
+            settings_of(settings),
             which,
-            message.kind,
-            message.site,
-            message.a,
-            message.b,
+            site_of(site),
             memory.as_ptr(),
             memory.len(),
-            out.as_mut_ptr(),
-            out.len(),
+            &message.to_raw(),
+            reply,
+            &mut out.count,
         )
-    }
+    };
+    out.counted(refusal)
 }
 
 /// Starts the coordinator; its record goes to `numbers`.
 pub fn start_coordinator(settings: &[u32], memory: &mut [u64], numbers: &mut [u64]) -> u32 {
-    unsafe {
-        testing_start_coordinator(
-            settings.as_ptr(),
-            settings.len(),
-            memory.as_mut_ptr(),
-            memory.len(),
-            numbers.as_mut_ptr(),
-            numbers.len(),
-        )
-    }
+    let (settings, record) = (settings_of(settings), coordinator_of(numbers));
+    // SAFETY: see above.
+    unsafe { raw::tracker_start_desk(settings, record, memory.as_mut_ptr(), memory.len()) }
 }
 
 /// A message at the coordinator; `out` gets the number of messages, then the message.
@@ -227,43 +173,41 @@ pub fn receive_at_coordinator(
     memory: &mut [u64],
     out: &mut [u64],
 ) -> u32 {
-    unsafe {
-        testing_receive_at_coordinator(
-            settings.as_ptr(),
-            settings.len(),
-            numbers.as_mut_ptr(),
-            numbers.len(),
-            message.kind,
-            message.site,
-            message.a,
-            message.b,
+    let mut out = Out::of(out, 1);
+    let sent = out.messages();
+    // SAFETY: see above.
+    let refusal = unsafe {
+        raw::tracker_desk_message(
+            settings_of(settings),
+            coordinator_of(numbers),
             memory.as_mut_ptr(),
             memory.len(),
-            out.as_mut_ptr(),
-            out.len(),
+            &message.to_raw(),
+            sent,
+            &mut out.count,
         )
-    }
+    };
+    out.counted(refusal)
 }
 
-/// The next kind 7; `out` gets the number of messages, then the message.
+/// The next kind 7; `out` gets the number of messages, which is 1, then the message.
 pub fn next_announcement(
     settings: &[u32],
     numbers: &mut [u64],
     memory: &[u64],
     out: &mut [u64],
 ) -> u32 {
-    unsafe {
-        testing_next_announcement(
-            settings.as_ptr(),
-            settings.len(),
-            numbers.as_mut_ptr(),
-            numbers.len(),
-            memory.as_ptr(),
-            memory.len(),
-            out.as_mut_ptr(),
-            out.len(),
-        )
+    let mut out = Out::of(out, 1);
+    let (settings, record, sent) = (settings_of(settings), coordinator_of(numbers), out.messages());
+    // SAFETY: see above.
+    let refusal = unsafe {
+        raw::tracker_desk_announcement(settings, record, memory.as_ptr(), memory.len(), sent)
+    };
+    // The call has no count: where it accepts there is one message.
+    if refusal == 0 {
+        out.count = 1;
     }
+    out.counted(refusal)
 }
 
 /// The heavy hitters; `out` gets their number.
@@ -274,62 +218,68 @@ pub fn list_heavy_hitters(
     list: &mut [u32],
     out: &mut [u64],
 ) -> u32 {
-    unsafe {
-        testing_list_heavy_hitters(
-            settings.as_ptr(),
-            settings.len(),
-            numbers.as_ptr(),
-            numbers.len(),
+    let mut count = UNWRITTEN as usize;
+    // SAFETY: see above.
+    let refusal = unsafe {
+        raw::tracker_desk_list(
+            settings_of(settings),
+            coordinator_to_read(numbers),
             memory.as_ptr(),
             memory.len(),
             list.as_mut_ptr(),
             list.len(),
-            out.as_mut_ptr(),
-            out.len(),
+            &mut count,
         )
+    };
+    if refusal == 0 {
+        out[0] = count as u64;
+    } else {
+        assert_eq!(count, UNWRITTEN as usize, "refused by {refusal}, the list changed its count");
     }
+    refusal
 }
 
-/// The refusal of a margin, and the margin.
+/// The refusal of a margin, and the margin, which is 0 where it is refused.
 pub fn read_margin(settings: &[u32], numbers: &[u64], item: u32, memory: &[u64]) -> (u32, i64) {
-    let (settings_at, numbers_at) = (settings.as_ptr(), numbers.as_ptr());
-    let (settings_length, numbers_length) = (settings.len(), numbers.len());
-    let (memory_at, memory_length) = (memory.as_ptr(), memory.len());
-    unsafe {
-        let refusal = testing_read_margin(
-            settings_at,
-            settings_length,
-            numbers_at,
-            numbers_length,
+    let unwritten = -i64::from(UNWRITTEN);
+    let mut margin = unwritten;
+    // SAFETY: see above.
+    let refusal = unsafe {
+        raw::tracker_desk_margin(
+            settings_of(settings),
+            coordinator_to_read(numbers),
+            memory.as_ptr(),
+            memory.len(),
             item,
-            memory_at,
-            memory_length,
-        );
-        let margin = testing_margin(
-            settings_at,
-            settings_length,
-            numbers_at,
-            numbers_length,
-            item,
-            memory_at,
-            memory_length,
-        );
-        (refusal, margin)
+            &mut margin,
+        )
+    };
+    if refusal == 0 {
+        return (0, margin);
     }
+    assert_eq!(margin, unwritten, "refused by {refusal}, the margin changed");
+    (refusal, 0)
 }
 
 /// The quantile; `out` gets 1 and its value, or 0 and 0.
 pub fn read_quantile(settings: &[u32], numbers: &[u64], memory: &[u64], out: &mut [u64]) -> u32 {
-    unsafe {
-        testing_read_quantile(
-            settings.as_ptr(),
-            settings.len(),
-            numbers.as_ptr(),
-            numbers.len(),
+    let mut value = UNWRITTEN;
+    // SAFETY: see above.
+    let refusal = unsafe {
+        raw::tracker_desk_class(
+            settings_of(settings),
+            coordinator_to_read(numbers),
             memory.as_ptr(),
             memory.len(),
-            out.as_mut_ptr(),
-            out.len(),
+            &mut value,
         )
+    };
+    if refusal != 0 {
+        assert_eq!(value, UNWRITTEN, "refused by {refusal}, the quantile changed");
+    } else if value == raw::TRACKER_NO_CLASS {
+        out[..2].copy_from_slice(&[0, 0]);
+    } else {
+        out[..2].copy_from_slice(&[1, u64::from(value)]);
     }
+    refusal
 }

@@ -1,5 +1,5 @@
 //! Document 01's instances P2 to P5 by the batch call on the proved code, request N1's of a code
-//! that leaves unsent, and what of a batch does not fit the boundary.
+//! that leaves unsent, and a batch on records that the calls never leave.
 
 use boundary::*;
 
@@ -136,34 +136,26 @@ fn a_code_leaves_unsent() {
     assert_eq!((network.coordinator_memory[7], unsent), (6, vec![0, 1, 1, 1, 1, 1]));
 }
 
-/// Lent numbers that are too few for the boundary itself: 255, and nothing is changed.
+/// A coordinator's record that the calls never leave is 11, and nothing is changed but the counts.
 #[test]
-fn short_arrays_of_a_batch() {
+fn malformed_coordinators_of_a_batch() {
     let fresh = Network::start();
-    for (sites, coordinator, out, settings) in [
-        (SITES_NUMBERS - 1, 10, 2, 6),
-        (0, 10, 2, 6),
-        (SITES_NUMBERS, 9, 2, 6),
-        (SITES_NUMBERS, 10, 1, 6),
-        (SITES_NUMBERS, 10, 0, 6),
-        (SITES_NUMBERS, 10, 2, 5),
+    for (place, number) in [
+        (3, 1 << 32),
+        (4, 1 << 32),
+        (5, 4),
+        (6, 1 << 32),
+        (6, 1),
+        (7, 1 << 32),
+        (8, u64::MAX),
+        (9, 1),
     ] {
         let mut network = fresh.clone();
-        network.sites.truncate(sites);
-        network.coordinator.truncate(coordinator);
-        network.out.truncate(out);
-        let before = network.clone();
-        assert_eq!(network.run(&A[..settings], &[P2]), UNFIT);
-        assert_eq!(network, before);
-    }
-    for (place, number) in
-        [(3, 1 << 32), (4, 1 << 32), (5, 4), (6, 1 << 32), (7, 1 << 32), (8, u64::MAX)]
-    {
-        let mut network = fresh.clone();
         network.coordinator[place] = number;
-        let before = network.clone();
-        assert_eq!(network.run(&A, &[P2]), UNFIT);
-        assert_eq!(network, before);
+        let mut after = network.clone();
+        after.out = vec![0, 0];
+        assert_eq!(network.run(&A, &[P2]), 11, "{place} {number}");
+        assert_eq!(network, after);
     }
 }
 

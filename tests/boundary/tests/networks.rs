@@ -88,7 +88,7 @@ fn damaged_networks_agree() {
     let met = [SETTING_RANGE, PHI_BELOW_EPSILON, TOO_FEW_COUNTERS, SHORT_MEMORY];
     both.enough(15_000, &met, 50);
     both.enough(15_000, &[INCONSISTENT], 5_000);
-    both.enough(15_000, &[boundary::UNFIT as u8], 50);
+    assert!(both.wide >= 50);
 }
 
 /// A change to a network at rest; false where it can't be made.

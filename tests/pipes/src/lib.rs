@@ -6,16 +6,15 @@
 
 use std::io::{ErrorKind, Read, Result, Write};
 
-/// Bytes of a message: kind and deck, 4 each, then a and b, 8 each.
-pub const MESSAGE_BYTES: usize = 24;
+use draw_tracker::{DeckRecord, DeskRecord, Message, Refusal, Settings};
 
 /// A message as it travels.
-pub type MessageBytes = [u8; MESSAGE_BYTES];
+pub type MessageBytes = [u8; Message::BYTES];
 
 /// What a process is asked for.
 #[derive(Clone, Copy, Debug)]
 pub enum Request {
-    /// A draw for a site: deck, code, class.
+    /// An arrival for a site: deck, code, class.
     Arrival([u32; 3]),
     /// A message for the process.
     Message(MessageBytes),
@@ -23,31 +22,6 @@ pub enum Request {
     Read,
     /// Record and memory.
     State,
-}
-
-pub fn to_bytes(message: boundary::Message) -> MessageBytes {
-    let mut bytes = [0; MESSAGE_BYTES];
-    bytes[..4].copy_from_slice(&message.kind.to_le_bytes());
-    bytes[4..8].copy_from_slice(&message.site.to_le_bytes());
-    bytes[8..16].copy_from_slice(&message.a.to_le_bytes());
-    bytes[16..].copy_from_slice(&message.b.to_le_bytes());
-    bytes
-}
-
-pub fn from_bytes(bytes: MessageBytes) -> boundary::Message {
-    let word = |at: usize| u32::from_le_bytes([0, 1, 2, 3].map(|place| bytes[at + place]));
-    let long = |at: usize| u64::from(word(at)) | u64::from(word(at + 4)) << 32;
-    boundary::Message { kind: word(0), site: word(4), a: long(8), b: long(16) }
-}
-
-/// The message of four numbers that a call leaves behind the number of messages.
-pub fn message_of(numbers: &[u64]) -> boundary::Message {
-    boundary::Message {
-        kind: numbers[0] as u32,
-        site: numbers[1] as u32,
-        a: numbers[2],
-        b: numbers[3],
-    }
 }
 
 pub fn write_request(pipe: &mut impl Write, request: Request) -> Result<()> {
@@ -85,11 +59,19 @@ pub fn read_request(pipe: &mut impl Read) -> Result<Option<Request>> {
     Ok(Some(request))
 }
 
-pub fn write_answer(pipe: &mut impl Write, refusal: u32, messages: &[MessageBytes]) -> Result<()> {
+/// Writes what a call answered: its refusal, which has no messages, or 0 and the messages.
+pub fn write_answer(
+    pipe: &mut impl Write,
+    answer: std::result::Result<Vec<Message>, Refusal>,
+) -> Result<()> {
+    let (refusal, messages) = match answer {
+        Ok(messages) => (0, messages),
+        Err(refusal) => (refusal.number(), Vec::new()),
+    };
     pipe.write_all(&refusal.to_le_bytes())?;
     pipe.write_all(&(messages.len() as u32).to_le_bytes())?;
     for message in messages {
-        pipe.write_all(message)?;
+        pipe.write_all(&message.to_bytes())?;
     }
     pipe.flush()
 }
@@ -101,9 +83,10 @@ pub fn read_answer(pipe: &mut impl Read) -> Result<(u32, Vec<MessageBytes>)> {
     Ok((refusal, messages))
 }
 
-pub fn write_numbers(pipe: &mut impl Write, refusal: u32, numbers: &[u64]) -> Result<()> {
+pub fn write_numbers(pipe: &mut impl Write, numbers: &[u64]) -> Result<()> {
     let mut bytes = Vec::new();
-    bytes.extend(refusal.to_le_bytes());
+    // No refusal.
+    bytes.extend(0_u32.to_le_bytes());
     bytes.extend((numbers.len() as u32).to_le_bytes());
     bytes.extend(numbers.iter().flat_map(|number| number.to_le_bytes()));
     pipe.write_all(&bytes)?;
@@ -126,12 +109,50 @@ fn read_u32(pipe: &mut impl Read) -> Result<u32> {
 }
 
 fn read_message(pipe: &mut impl Read) -> Result<MessageBytes> {
-    let mut bytes = [0; MESSAGE_BYTES];
+    let mut bytes = [0; Message::BYTES];
     pipe.read_exact(&mut bytes)?;
     Ok(bytes)
 }
 
-/// The numbers that a process is started with.
-pub fn arguments() -> Vec<u32> {
-    std::env::args().skip(1).map(|word| word.parse().expect("a number")).collect()
+/// The settings and the other numbers that a process is started with.
+pub fn arguments() -> (Settings, Vec<u32>) {
+    let mut numbers = std::env::args().skip(1).map(|word| word.parse().expect("a number"));
+    let mut next = || numbers.next().expect("six settings");
+    let settings = settings([next(), next(), next(), next(), next(), next()]);
+    (settings, numbers.collect())
+}
+
+/// The settings of these numbers.
+pub fn settings([decks, leeway, share, rank, slots, codes]: [u32; 6]) -> Settings {
+    Settings { decks, leeway, share, rank, slots, codes }
+}
+
+/// A site's record and memory as plain numbers.
+pub fn site_numbers(record: &DeckRecord, memory: &[u32]) -> Vec<u64> {
+    let record =
+        [record.draws, record.pending, record.threshold, record.slots_in_use, record.forgotten];
+    record.into_iter().chain(memory.iter().map(|&number| u64::from(number))).collect()
+}
+
+/// The coordinator's record and memory as plain numbers.
+pub fn coordinator_numbers(record: &DeskRecord, memory: &[u64]) -> Vec<u64> {
+    let record = [
+        record.total,
+        record.base,
+        record.threshold,
+        record.signals,
+        record.class,
+        record.phase,
+        record.phase_deck,
+        record.phase_low,
+        record.phase_high,
+        record.phase_sum,
+    ];
+    record.into_iter().chain(memory.iter().copied()).collect()
+}
+
+/// The class (1 and its number, or 0 and 0), then the listed codes.
+pub fn read_numbers_of(class: Option<u32>, listed: &[u32]) -> Vec<u64> {
+    let class = class.map_or([0, 0], |class| [1, u64::from(class)]);
+    class.into_iter().chain(listed.iter().map(|&code| u64::from(code))).collect()
 }

@@ -7,8 +7,8 @@
 mod touches;
 mod trial;
 
-use boundary::{Arrival, Batch, SITES_NUMBERS, SITE_NUMBERS};
-use pipes::{to_bytes, MessageBytes};
+use draw_tracker::{Bench, Draw};
+use pipes::{coordinator_numbers, read_numbers_of, site_numbers, MessageBytes};
 use reference::message::TOUCH;
 use touches::value_or_touch;
 use trial::{Random, Trial};
@@ -25,46 +25,23 @@ struct Batched {
 }
 
 fn batched(settings: [u32; 6], worklist: &[[u32; 3]]) -> Batched {
-    let [k, _, _, _, c, u] = settings.map(|number| number as usize);
-    let site_words = 4 * c + 1024;
-    let (mut site_memory, mut coordinator_memory) = (vec![0; k * site_words], vec![0; u + 1024]);
-    let (mut sites, mut coordinator) = (vec![0; SITES_NUMBERS], vec![0; 10]);
-    let (mut log, mut out) = (vec![0; 4 * (23 * k + 2) * worklist.len()], [0; 2]);
-    assert_eq!(boundary::start_sites(&settings, &mut site_memory, &mut sites), 0);
-    let refusal = boundary::start_coordinator(&settings, &mut coordinator_memory, &mut coordinator);
-    assert_eq!(refusal, 0);
-    let arrivals: Vec<Arrival> =
-        worklist.iter().map(|&[site, item, value]| Arrival { site, item, value }).collect();
-    let batch = Batch {
-        sites: &mut sites,
-        coordinator: &mut coordinator,
-        site_memory: &mut site_memory,
-        coordinator_memory: &mut coordinator_memory,
-        log: &mut log,
-        out: &mut out,
+    let mut bench = Bench::start(pipes::settings(settings)).expect("the bench starts");
+    let draws: Vec<Draw> =
+        worklist.iter().map(|&[deck, code, class]| Draw { deck, code, class }).collect();
+    let mut messages = Vec::new();
+    let run = bench.run_all(&draws, |message| messages.push(message.to_bytes()));
+    assert_eq!((run.accepted, run.written, run.stopped), (draws.len(), messages.len(), None));
+    assert_eq!(bench.messages(), messages.len() as u64);
+    let site = |number: u32| {
+        let record = bench.deck(number).expect("a site");
+        site_numbers(record, bench.deck_memory(number).expect("a site"))
     };
-    assert_eq!(boundary::run_batch(&settings, &arrivals, batch), 0);
-    assert_eq!(out, [worklist.len() as u64, sites[SITES_NUMBERS - 1]]);
-    let (mut list, mut quantile, mut count) = (vec![0; u], [0; 2], [0]);
-    let memory = &coordinator_memory;
-    assert_eq!(boundary::read_quantile(&settings, &coordinator, memory, &mut quantile), 0);
-    let refusal =
-        boundary::list_heavy_hitters(&settings, &coordinator, memory, &mut list, &mut count);
-    assert_eq!(refusal, 0);
-    let listed = list[..count[0] as usize].iter().map(|&item| u64::from(item));
-    let site = |number: usize| {
-        let memory = &site_memory[site_words * number..][..site_words];
-        let record = sites[SITE_NUMBERS * number..][..SITE_NUMBERS].iter().copied();
-        record.chain(memory.iter().map(|&number| u64::from(number))).collect()
-    };
+    let class = bench.class().expect("a class or none");
     Batched {
-        messages: log[..4 * out[1] as usize]
-            .chunks_exact(4)
-            .map(|numbers| to_bytes(pipes::message_of(numbers)))
-            .collect(),
-        read: quantile.into_iter().chain(listed).collect(),
-        sites: (0..k).map(site).collect(),
-        coordinator: [&coordinator[..], memory].concat(),
+        messages,
+        read: read_numbers_of(class, &bench.listed().expect("a list")),
+        sites: (0..settings[0]).map(site).collect(),
+        coordinator: coordinator_numbers(bench.desk(), bench.desk_memory()),
     }
 }
 

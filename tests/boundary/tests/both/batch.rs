@@ -1,7 +1,7 @@
 //! The batch call on the proved code and on the separate implementation, through a lent slice of
 //! arrivals as C lays them out.
 
-use boundary::{Batch, SITES_NUMBERS, UNFIT};
+use boundary::{Batch, SITES_NUMBERS};
 use reference::coordinator::CoordinatorRecord;
 use reference::message::{Arrival, Message};
 use reference::network::BatchAnswer;
@@ -9,7 +9,7 @@ use reference::refusal;
 use reference::settings::Settings;
 use reference::site::Sites;
 
-use super::{fits, with_junk, Both, JUNK};
+use super::{is_wide, with_junk, Both, JUNK};
 use crate::support::TestNetwork;
 
 /// What stands in the separate implementation's log before a call.
@@ -38,8 +38,8 @@ impl Records {
         Records { sites, coordinator: with_junk(network.coordinator.to_numbers()) }
     }
 
-    /// After a call with this answer: the records go to the network, and nothing else has changed.
-    pub fn hand_back(&self, network: &mut TestNetwork, answer: u32) {
+    /// After a call: the records go to the network, and nothing else has changed.
+    pub fn hand_back(&self, network: &mut TestNetwork) {
         assert_eq!(self.sites[SITES_NUMBERS..], [JUNK; 2]);
         assert_eq!(self.coordinator[10..], [JUNK; 2]);
         let mut numbers = [0; SITES_NUMBERS];
@@ -49,9 +49,7 @@ impl Records {
         numbers.copy_from_slice(&self.coordinator[..10]);
         network.coordinator = CoordinatorRecord::from_numbers(numbers).expect("a phase");
         // Numbers that the phase has not are 0.
-        if answer != UNFIT {
-            assert_eq!(network.coordinator.to_numbers(), numbers);
-        }
+        assert_eq!(network.coordinator.to_numbers(), numbers);
     }
 }
 
@@ -71,18 +69,12 @@ impl Both {
         let (number, out) = proved_batch(&mut proved, arrivals, &mut log);
 
         let mut written = vec![UNWRITTEN; log_numbers / 4];
-        let answer = if fits(&network.coordinator) {
-            network.run_batch(arrivals, &mut written)
-        } else {
-            BatchAnswer { accepted: 0, written: 0, refusal: UNFIT as u8 }
-        };
+        self.wide += u64::from(is_wide(&network.coordinator));
+        let answer = network.run_batch(arrivals, &mut written);
         self.count(number, answer.refusal, "run_batch");
         let call = || format!("run_batch {:?} {arrivals:?}", before.settings);
-        if answer.refusal == UNFIT as u8 {
-            assert_eq!(out, [JUNK; 3], "{}", call());
-        } else {
-            assert_eq!(out, [answer.accepted as u64, answer.written as u64, JUNK], "{}", call());
-        }
+        // The counts are written whatever the answer.
+        assert_eq!(out, [answer.accepted as u64, answer.written as u64, JUNK], "{}", call());
         assert!(proved == *network, "{}", call());
         let numbers: Vec<u64> =
             written[..answer.written].iter().flat_map(|message| message.to_numbers()).collect();
@@ -134,6 +126,6 @@ fn proved_batch(
         out: &mut out,
     };
     let refusal = boundary::run_batch(&numbers_of(&network.settings), &lent, batch);
-    records.hand_back(network, refusal);
+    records.hand_back(network);
     (refusal, out)
 }

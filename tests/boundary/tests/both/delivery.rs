@@ -3,14 +3,14 @@
 
 use std::collections::VecDeque;
 
-use boundary::{Delivery, UNFIT};
+use boundary::Delivery;
 use reference::coordinator::Phase;
 use reference::message::{Arrival, Message};
 use reference::refusal::{ACCEPTED, UNKNOWN_SITE};
 use reference::site;
 
 use super::batch::{numbers_of, Records};
-use super::{fits, Both, JUNK};
+use super::{is_wide, Both, JUNK};
 use crate::support::TestNetwork;
 
 /// Why the arrival was refused, if it was; the number of a call that stopped its delivery, if one
@@ -35,17 +35,14 @@ impl Both {
         let before = network.clone();
         let mut proved = network.clone();
         let (number, out) = proved_delivery(&mut proved, next);
-        let delivered = if fits(&network.coordinator) {
-            by_single_calls(network, next)
-        } else {
-            Delivered::refused(UNFIT as u8)
-        };
+        self.wide += u64::from(is_wide(&network.coordinator));
+        let delivered = by_single_calls(network, next);
         self.count(number, delivered.refusal, "deliver_arrival");
         let call = || format!("deliver_arrival {:?} {next:?}", before.settings);
-        let (carried, stopped) = if number == UNFIT {
-            (JUNK, JUNK)
-        } else {
+        let (carried, stopped) = if delivered.refusal == ACCEPTED {
             (delivered.messages.len() as u64, u64::from(delivered.stopped))
+        } else {
+            (JUNK, JUNK)
         };
         assert_eq!(out, [carried, stopped, JUNK], "{}", call());
         assert!(proved == *network, "{}", call());
@@ -70,7 +67,7 @@ fn proved_delivery(network: &mut TestNetwork, next: Arrival) -> (u32, [u64; 3]) 
     let numbers_of_arrival = [next.site, next.item, next.value];
     let answer =
         boundary::deliver_arrival(&numbers_of(&network.settings), numbers_of_arrival, delivery);
-    records.hand_back(network, answer);
+    records.hand_back(network);
     (answer, out)
 }
 

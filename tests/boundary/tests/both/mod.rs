@@ -1,14 +1,16 @@
 //! Every call made on the proved code and on the separate implementation, with the same numbers:
 //! answers, records and every place of lent memory are the same afterwards. What is lent has some
-//! numbers more than a call needs, which must keep what they held.
+//! numbers more than a call needs, which must keep what they held; where a call is refused, all
+//! numbers must.
 
 // Each test file uses a part of this module only.
 #![allow(dead_code)]
 
 pub mod batch;
 pub mod delivery;
+pub mod whole;
 
-use boundary::{SITES_NUMBERS, SITE_NUMBERS, UNFIT};
+use boundary::{COORDINATOR_NUMBERS, SITES_NUMBERS, SITE_NUMBERS};
 use reference::coordinator::{self, CoordinatorRecord};
 use reference::message::{Arrival, Message, Outgoing};
 use reference::refusal;
@@ -20,20 +22,22 @@ use crate::support::account::{check_draw, counters_of};
 /// What stands in lent numbers before a call, and stays where the call has nothing to say.
 const JUNK: u64 = 77;
 
-/// How many calls were made, and how often each refusal was met.
+/// How many calls were made, how often each refusal was met, and how many calls were given a record
+/// of the coordinator with a number that four bytes don't hold.
 pub struct Both {
     pub calls: u64,
-    pub refusals: [u64; 256],
+    pub refusals: [u64; 15],
+    pub wide: u64,
 }
 
 impl Both {
     pub fn new() -> Both {
-        Both { calls: 0, refusals: [0; 256] }
+        Both { calls: 0, refusals: [0; 15], wide: 0 }
     }
 
     /// Fails unless there were so many calls, with each of these refusals met often enough.
     pub fn enough(&self, calls: u64, refusals: &[u8], often: u64) {
-        println!("{} calls, refusals {:?}", self.calls, &self.refusals[..15]);
+        println!("{} calls, refusals {:?}, {} wide", self.calls, self.refusals, self.wide);
         assert!(self.calls >= calls, "{} calls only", self.calls);
         for &number in refusals {
             let times = self.refusals[usize::from(number)];
@@ -53,7 +57,8 @@ impl Both {
         let proved = boundary::start_sites(&settings, &mut proved_memory, &mut numbers);
         let (refusal, sites) = site::start_sites(&Settings::from_numbers(settings), memory);
         self.count(proved, refusal, "start_sites");
-        assert_eq!(numbers, with_junk(sites.to_numbers()));
+        let started = refusal == refusal::ACCEPTED;
+        assert_eq!(numbers, if started { with_junk(sites.to_numbers()) } else { [JUNK; _] });
         assert!(proved_memory == memory, "start_sites {settings:?}");
         refusal
     }
@@ -88,10 +93,7 @@ impl Both {
         self.count(proved, outgoing.refusal, "observe");
         let call = || format!("observe {settings:?} {arrival:?} {before:?}");
         assert_eq!(numbers, site_numbers(record), "{}", call());
-        assert_eq!(out[0], outgoing.count as u64, "{}", call());
-        assert_eq!(out[1..5], outgoing.messages[0].to_numbers(), "{}", call());
-        assert_eq!(out[5..9], outgoing.messages[1].to_numbers(), "{}", call());
-        assert_eq!(out[9..], [JUNK; 2]);
+        assert_eq!(out, messages_out(&outgoing), "{}", call());
         assert!(proved_memory == memory, "{}", call());
         if outgoing.refusal == refusal::ACCEPTED && arrival.is_draw() {
             let after = counters_of(record, memory);
@@ -123,18 +125,19 @@ impl Both {
         let call = || format!("receive {settings:?} {which} {message:?} {before:?}");
         assert_eq!(numbers, site_numbers(record), "{}", call());
         assert_eq!(record.dropped, before.dropped, "{}", call());
-        assert_eq!(out, message_out(&outgoing), "{}", call());
+        assert_eq!(out, messages_out(&outgoing), "{}", call());
         outgoing
     }
 
     pub fn start_coordinator(&mut self, settings: [u32; 6], memory: &mut [u64]) -> u8 {
         let mut proved_memory = memory.to_vec();
-        let mut numbers = [JUNK; 11];
+        let mut numbers = [JUNK; COORDINATOR_NUMBERS + 1];
         let proved = boundary::start_coordinator(&settings, &mut proved_memory, &mut numbers);
         let rules = Settings::from_numbers(settings);
         let (refusal, record) = coordinator::start_coordinator(&rules, memory);
         self.count(proved, refusal, "start_coordinator");
-        assert_eq!(numbers, with_junk(record.to_numbers()));
+        let started = refusal == refusal::ACCEPTED;
+        assert_eq!(numbers, if started { with_junk(record.to_numbers()) } else { [JUNK; _] });
         assert!(proved_memory == memory, "start_coordinator {settings:?}");
         refusal
     }
@@ -157,17 +160,12 @@ impl Both {
             &mut proved_memory,
             &mut out,
         );
-        let outgoing = if fits(record) {
-            let rules = Settings::from_numbers(settings);
-            let outgoing = coordinator::receive(&rules, message, record, memory);
-            assert_eq!(out, message_out(&outgoing), "{settings:?} {message:?} {before:?}");
-            outgoing
-        } else {
-            assert_eq!(out, [JUNK; 6]);
-            Outgoing::none(UNFIT as u8)
-        };
+        self.wide += u64::from(is_wide(record));
+        let rules = Settings::from_numbers(settings);
+        let outgoing = coordinator::receive(&rules, message, record, memory);
         self.count(proved, outgoing.refusal, "receive at the coordinator");
         let call = || format!("receive {settings:?} {message:?} {before:?}");
+        assert_eq!(out, messages_out(&outgoing), "{}", call());
         assert_eq!(numbers, with_junk(record.to_numbers()), "{}", call());
         assert!(proved_memory == memory, "{}", call());
         outgoing
@@ -183,15 +181,10 @@ impl Both {
         let mut numbers = with_junk::<10, 11>(record.to_numbers());
         let mut out = [JUNK; 6];
         let proved = boundary::next_announcement(&settings, &mut numbers, memory, &mut out);
-        let outgoing = if fits(record) {
-            let rules = Settings::from_numbers(settings);
-            let outgoing = coordinator::next_announcement(&rules, record, memory);
-            assert_eq!(out, message_out(&outgoing), "{settings:?} {before:?}");
-            outgoing
-        } else {
-            assert_eq!(out, [JUNK; 6]);
-            Outgoing::none(UNFIT as u8)
-        };
+        self.wide += u64::from(is_wide(record));
+        let rules = Settings::from_numbers(settings);
+        let outgoing = coordinator::next_announcement(&rules, record, memory);
+        assert_eq!(out, messages_out(&outgoing), "{settings:?} {before:?}");
         self.count(proved, outgoing.refusal, "next_announcement");
         assert_eq!(numbers, with_junk(record.to_numbers()), "{settings:?} {before:?}");
         outgoing
@@ -212,17 +205,10 @@ impl Both {
         let proved =
             boundary::list_heavy_hitters(&settings, &numbers, memory, &mut proved_list, &mut out);
         let rules = Settings::from_numbers(settings);
-        let listed = if fits(record) {
-            coordinator::list_heavy_hitters(&rules, record, memory, &mut list)
-        } else {
-            Err(UNFIT as u8)
-        };
+        self.wide += u64::from(is_wide(record));
+        let listed = coordinator::list_heavy_hitters(&rules, record, memory, &mut list);
         self.count(proved, listed.err().unwrap_or(refusal::ACCEPTED), "list");
-        let written = match listed {
-            Ok(count) => count as u64,
-            Err(refusal) if u32::from(refusal) == UNFIT => JUNK,
-            Err(_) => 0,
-        };
+        let written = listed.map_or(JUNK, |count| count as u64);
         assert_eq!(out, [written, JUNK], "list {settings:?} {record:?}");
         assert!(proved_list == list, "list {settings:?} {record:?}");
         listed
@@ -237,11 +223,8 @@ impl Both {
     ) -> Result<i64, u8> {
         let (proved, value) = boundary::read_margin(&settings, &record.to_numbers(), item, memory);
         let rules = Settings::from_numbers(settings);
-        let margin = if fits(record) {
-            coordinator::read_margin(&rules, record, memory, item)
-        } else {
-            Err(UNFIT as u8)
-        };
+        self.wide += u64::from(is_wide(record));
+        let margin = coordinator::read_margin(&rules, record, memory, item);
         self.count(proved, margin.err().unwrap_or(refusal::ACCEPTED), "margin");
         assert_eq!(value, margin.unwrap_or(0), "margin {settings:?} {record:?} {item}");
         margin
@@ -256,26 +239,23 @@ impl Both {
         let mut out = [JUNK; 3];
         let proved = boundary::read_quantile(&settings, &record.to_numbers(), memory, &mut out);
         let rules = Settings::from_numbers(settings);
-        let quantile = if fits(record) {
-            coordinator::read_quantile(&rules, record, memory)
-        } else {
-            Err(UNFIT as u8)
-        };
+        self.wide += u64::from(is_wide(record));
+        let quantile = coordinator::read_quantile(&rules, record, memory);
         self.count(proved, quantile.err().unwrap_or(refusal::ACCEPTED), "quantile");
         let expected = match quantile {
             Ok(Some(value)) => [1, u64::from(value), JUNK],
-            Err(refusal) if u32::from(refusal) == UNFIT => [JUNK; 3],
-            _ => [0, 0, JUNK],
+            Ok(None) => [0, 0, JUNK],
+            Err(_) => [JUNK; 3],
         };
         assert_eq!(out, expected, "quantile {settings:?} {record:?}");
         quantile
     }
 }
 
-/// Whether the numbers fit the proved record, which holds some of them in four bytes.
-fn fits(record: &CoordinatorRecord) -> bool {
+/// Whether a number is wide that the rules hold in four bytes: then the record is inconsistent.
+fn is_wide(record: &CoordinatorRecord) -> bool {
     let [_, _, _, signals, quantile, _, site, low, high, _] = record.to_numbers();
-    [signals, quantile, site, low, high].iter().all(|&number| u32::try_from(number).is_ok())
+    [signals, quantile, site, low, high].iter().any(|&number| u32::try_from(number).is_err())
 }
 
 fn with_junk<const FEW: usize, const MORE: usize>(numbers: [u64; FEW]) -> [u64; MORE] {
@@ -294,8 +274,17 @@ fn sent(message: Message) -> boundary::Message {
     boundary::Message { kind, site, a, b }
 }
 
-/// What a call with one message leaves in six lent numbers.
-fn message_out(outgoing: &Outgoing<1>) -> [u64; 6] {
-    let [kind, site, a, b] = outgoing.messages[0].to_numbers();
-    [outgoing.count as u64, kind, site, a, b, JUNK]
+/// What a call leaves in lent numbers of which the last are none of its own: the number of messages
+/// and all its places for them, where it accepts; nothing else.
+fn messages_out<const PLACES: usize, const NUMBERS: usize>(
+    outgoing: &Outgoing<PLACES>,
+) -> [u64; NUMBERS] {
+    let mut out = [JUNK; NUMBERS];
+    if outgoing.refusal == refusal::ACCEPTED {
+        out[0] = outgoing.count as u64;
+        for (place, message) in out[1..].chunks_exact_mut(4).zip(&outgoing.messages) {
+            place.copy_from_slice(&message.to_numbers());
+        }
+    }
+    out
 }

@@ -3,65 +3,31 @@
 
 use std::io::{stdin, stdout, BufReader, BufWriter, Result};
 
-use boundary::{SITES_NUMBERS, SITE_NUMBERS};
-use pipes::{from_bytes, message_of, read_request, to_bytes, write_answer, write_numbers, Request};
-
-/// A site's record and memory.
-#[derive(Clone, PartialEq)]
-struct Site {
-    record: [u64; SITE_NUMBERS],
-    memory: Vec<u32>,
-}
-
-impl Site {
-    /// The part of this site, of all sites started fresh.
-    fn start(settings: &[u32], number: u32) -> Site {
-        let length = 4 * settings[4] as usize + 1024;
-        let mut memory = vec![0; length * settings[0] as usize];
-        let mut sites = [0; SITES_NUMBERS];
-        assert_eq!(boundary::start_sites(settings, &mut memory, &mut sites), 0);
-        let mut record = [0; SITE_NUMBERS];
-        record.copy_from_slice(&sites[SITE_NUMBERS * number as usize..][..SITE_NUMBERS]);
-        Site { record, memory: memory[length * number as usize..][..length].to_vec() }
-    }
-
-    fn numbers(&self) -> Vec<u64> {
-        self.record.iter().copied().chain(self.memory.iter().map(|&n| u64::from(n))).collect()
-    }
-}
+use draw_tracker::{Deck, Draw, Message};
+use pipes::{read_request, site_numbers, write_answer, write_numbers, Request};
 
 fn main() -> Result<()> {
-    let arguments = pipes::arguments();
-    let (settings, number) = (&arguments[..6], arguments[6]);
-    let mut site = Site::start(settings, number);
+    let (settings, numbers) = pipes::arguments();
+    let mut site = Deck::start(settings, numbers[0]).expect("the site starts");
     let (mut input, mut output) = (BufReader::new(stdin()), BufWriter::new(stdout()));
     while let Some(request) = read_request(&mut input)? {
         let before = site.clone();
-        let mut out = [0; 9];
-        let Site { record, memory } = &mut site;
-        let refusal = match request {
-            Request::Arrival(arrival) => {
-                boundary::observe(settings, record, arrival, memory, &mut out)
+        let answer = match request {
+            Request::Arrival([deck, code, class]) => {
+                site.draw(Draw { deck, code, class }).map(|sent| sent.to_vec())
             }
             Request::Message(bytes) => {
-                let message = from_bytes(bytes);
-                boundary::receive_at_site(settings, record, number, message, memory, &mut out)
+                site.receive(Message::from_bytes(&bytes)).map(|reply| reply.into_iter().collect())
             }
             Request::State => {
-                write_numbers(&mut output, 0, &site.numbers())?;
+                write_numbers(&mut output, &site_numbers(site.record(), site.memory()))?;
                 continue;
             }
             Request::Read => panic!("a site reads nothing"),
         };
         // A refused call changes nothing.
-        assert!(refusal == 0 || site == before);
-        assert!(refusal == 0 || out == [0; 9]);
-        let sent: Vec<_> = out[1..]
-            .chunks_exact(4)
-            .take(out[0] as usize)
-            .map(|numbers| to_bytes(message_of(numbers)))
-            .collect();
-        write_answer(&mut output, refusal, &sent)?;
+        assert!(answer.is_ok() || site == before);
+        write_answer(&mut output, answer)?;
     }
     Ok(())
 }

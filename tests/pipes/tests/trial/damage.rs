@@ -1,6 +1,6 @@
 //! Damaged arrivals and messages, each with the number that document 01 gives for it.
 
-use boundary::Message;
+use draw_tracker::Message;
 
 const UNKNOWN_SITE: u32 = 5;
 const UNKNOWN_ITEM: u32 = 6;
@@ -28,7 +28,7 @@ impl Known {
     /// A message that is carried. Only kind 7 tells anything.
     pub fn see(&mut self, message: Message) {
         if message.kind == 7 {
-            self.thresholds[message.site as usize] = message.a;
+            self.thresholds[message.deck as usize] = message.a;
             self.announced = message.a;
         }
     }
@@ -37,10 +37,10 @@ impl Known {
     pub fn report(&self, site: u32, item: u32, value: u32, of_item: bool) -> Message {
         let threshold = self.announced;
         if of_item {
-            return Message { kind: 1, site, a: u64::from(item), b: threshold };
+            return Message { kind: 1, deck: u64::from(site), a: u64::from(item), b: threshold };
         }
         let value = if threshold == 1 { u64::from(value) } else { 0 };
-        Message { kind: 2, site, a: threshold, b: value }
+        Message { kind: 2, deck: u64::from(site), a: threshold, b: value }
     }
 }
 
@@ -66,8 +66,8 @@ pub fn damaged_messages(known: &Known, due: Message) -> Vec<(Message, u32)> {
         damaged.push((message, number));
     };
     // Unknown kinds; those that go the other way, or are not due in this phase.
-    let wrong: &[u32] = match due.kind {
-        1 | 2 => &[0, 3, 4, 5, 6, 7, 8, u32::MAX],
+    let wrong: &[u64] = match due.kind {
+        1 | 2 => &[0, 3, 4, 5, 6, 7, 8, u32::MAX as u64],
         4 => &[0, 1, 2, 3, 5, 6, 7, 8],
         6 => &[0, 1, 2, 3, 4, 5, 7, 8],
         _ => &[0, 1, 2, 4, 6, 8, 255],
@@ -75,14 +75,15 @@ pub fn damaged_messages(known: &Known, due: Message) -> Vec<(Message, u32)> {
     for &kind in wrong {
         add(NOT_DUE, &|message| message.kind = kind);
     }
-    for site in [known.sites, u32::MAX] {
-        add(UNKNOWN_SITE, &|message| message.site = site);
+    let sites = u64::from(known.sites);
+    for site in [sites, u64::from(u32::MAX)] {
+        add(UNKNOWN_SITE, &|message| message.deck = site);
         // 5 comes before 9.
-        add(UNKNOWN_SITE, &|message| (message.site, message.kind) = (site, 0));
+        add(UNKNOWN_SITE, &|message| (message.deck, message.kind) = (site, 0));
     }
     // Reports are due from every site, all else from one or for one only.
-    if known.sites > 1 && due.kind > 2 {
-        add(NOT_DUE, &|message| message.site = (message.site + 1) % known.sites);
+    if sites > 1 && due.kind > 2 {
+        add(NOT_DUE, &|message| message.deck = (message.deck + 1) % sites);
     }
     match due.kind {
         1 => {
@@ -127,7 +128,7 @@ pub fn damaged_messages(known: &Known, due: Message) -> Vec<(Message, u32)> {
             add(AMOUNT, &|message| message.b = 1_000_000_001);
         }
         _ => {
-            let present = known.thresholds[due.site as usize];
+            let present = known.thresholds[due.deck as usize];
             add(AMOUNT, &|message| message.a = present - 1);
             add(AMOUNT, &|message| message.a = 1_000_000_001);
         }

@@ -6,9 +6,8 @@ use std::collections::VecDeque;
 use std::io::{BufReader, Read};
 use std::process::{Child, ChildStdin, ChildStdout, Command, Stdio};
 
-use pipes::{
-    from_bytes, read_answer, read_numbers, to_bytes, write_request, MessageBytes, Request,
-};
+use draw_tracker::Message;
+use pipes::{read_answer, read_numbers, write_request, MessageBytes, Request};
 use reference::message::TOUCH;
 
 use damage::{damaged_arrivals, damaged_messages, Known};
@@ -122,10 +121,11 @@ impl Trial {
 
     /// The process that a message is for: the coordinator, or the site that the message names.
     fn receiver(&mut self, bytes: MessageBytes) -> &mut Process {
-        let message = from_bytes(bytes);
-        match message.kind {
-            3 | 5 | 7 => &mut self.sites[message.site as usize],
-            _ => &mut self.coordinator,
+        let message = Message::from_bytes(&bytes);
+        if message.is_for_deck() {
+            &mut self.sites[message.deck as usize]
+        } else {
+            &mut self.coordinator
         }
     }
 
@@ -142,9 +142,9 @@ impl Trial {
             self.try_touch(arrival);
             self.try_damaged_message(bytes);
             self.messages.push(bytes);
-            self.known.see(from_bytes(bytes));
+            self.known.see(Message::from_bytes(&bytes));
             let (refusal, sent) = self.receiver(bytes).messages(Request::Message(bytes));
-            assert_eq!(refusal, 0, "{:?}", from_bytes(bytes));
+            assert_eq!(refusal, 0, "{:?}", Message::from_bytes(&bytes));
             waiting.extend(sent);
         }
     }
@@ -164,17 +164,17 @@ impl Trial {
         if self.random.below(4) != 0 {
             return;
         }
-        let choices = damaged_messages(&self.known, from_bytes(due));
+        let choices = damaged_messages(&self.known, Message::from_bytes(&due));
         let (damaged, number) = self.random.pick(&choices);
         let receiver = self.receiver(due);
-        let answer = receiver.messages(Request::Message(to_bytes(damaged)));
+        let answer = receiver.messages(Request::Message(damaged.to_bytes()));
         self.refused(answer, number, &format!("{damaged:?}"));
     }
 
     /// Between arrivals reports are due at the coordinator, and damaged ones refused.
     fn try_damaged_reports(&mut self, [site, item, value]: [u32; 3]) {
         let report = self.known.report(site, item, value, self.random.below(2) == 0);
-        self.try_damaged_message(to_bytes(report));
+        self.try_damaged_message(report.to_bytes());
     }
 
     fn try_damaged_arrival(&mut self, arrival: [u32; 3]) {

@@ -1,5 +1,6 @@
-/* The draw tracker: decks, desk and the messages between them, in C or C++. Link with libtracker.a;
- * `bash library/build.sh` makes it. x86-64, System V calling convention; no other library is needed.
+/* The draw tracker: decks, desk and the messages between them, in C or C++. Link with libtracker.a,
+ * which `bash library/build.sh` makes, and never with libcontroller.a beside it. x86-64, System V
+ * calling convention; no other library is needed.
  *
  * Up to 32 decks watch draws of reagent codes. Whenever no message is under way, the desk knows
  * which codes take at least a share p of all draws, and which volume class is their q-quantile,
@@ -121,14 +122,14 @@ typedef struct {
 #define TRACKER_MOST_MESSAGES(decks) (23 * (size_t)(decks) + 2) /* of one draw */
 #define TRACKER_MESSAGE_NUMBERS 4
 #define TRACKER_LOG_NUMBERS(decks) (TRACKER_MESSAGE_NUMBERS * TRACKER_MOST_MESSAGES(decks))
-#define TRACKER_MOST_LISTED 1000 /* under any settings */
+#define TRACKER_MOST_LISTED 1000 /* between draws, under any settings */
 
 /* The same as a call, for settings that are read at run time. */
 typedef struct {
     uint64_t deck_numbers;  /* uint32_t: the memory of one deck */
     uint64_t decks_numbers; /* uint32_t: of all k decks, one after another, deck 0 first */
     uint64_t desk_numbers;  /* uint64_t: the memory of the desk */
-    uint64_t list_places;   /* uint32_t: with so many places a list never meets 12 */
+    uint64_t list_places;   /* uint32_t: with so many a list between draws never meets 12 */
     uint64_t log_numbers;   /* uint64_t: the least log with which tracker_run takes a draw */
 } tracker_lengths;
 
@@ -217,9 +218,9 @@ typedef struct {
 /* Takes draws in their order, delivers everything after each, and writes each message to the log;
  * decks->messages grows by as many. Stops at the first draw that is refused: `counts`, records,
  * memory and log then have what the draws before it brought. `counts` is always written; 1, 2, 3, 4
- * and 11 come before the first draw, with 0 and 0. `log_numbers` is 4 for each message: sizeof log
- * / sizeof(uint64_t). On 14 take the messages out of the log and go on at draws + accepted; a log
- * of TRACKER_LOG_NUMBERS(k) always takes a draw. 1, 2, 3, 4, 11, 5, 6, 7, 8, 14. */
+ * and 11 come before the first draw, with 0 and 0. `log_numbers` is 4 for each message that the log
+ * has a place for. On 14 take the messages out of the log and go on at draws + accepted; a log of
+ * TRACKER_LOG_NUMBERS(k) numbers always takes a draw. 1, 2, 3, 4, 11, 5, 6, 7, 8, 14. */
 uint32_t tracker_run(const tracker_settings *settings, tracker_decks *decks, tracker_desk *desk,
                      const tracker_draw *draws, size_t count, uint32_t *deck_memory,
                      size_t deck_numbers, uint64_t *desk_memory, size_t desk_numbers,
@@ -244,7 +245,7 @@ uint32_t tracker_desk_margin(const tracker_settings *settings, const tracker_des
 uint32_t tracker_desk_class(const tracker_settings *settings, const tracker_desk *desk,
                             const uint64_t *memory, size_t numbers, uint32_t *volume_class);
 
-/* ---- Records as the calls see them: rows of numbers of one width ------------------------------ */
+/* ---- Records as the calls see them: rows of numbers of one width ----------------------------- */
 
 #if defined(__cplusplus) ? __cplusplus >= 201103L : __STDC_VERSION__ >= 201112L
 #ifdef __cplusplus

@@ -78,6 +78,7 @@ aligned() {
     objcopy --set-section-alignment '.text.*=64' "$made/lib$crate.a" "$out/parts/$crate.a" || return
   done
 }
+rm -rf "$out/parts"
 mkdir -p "$out/parts"
 declared "$headers/controller.h" "$headers/tracker.h" >"$out/names"
 if aligned &&

@@ -3,4 +3,5 @@ pub mod Limits
 pub mod Begin
 pub mod Advance
 pub mod Course
+pub mod Ending
 pub mod Claims

@@ -10,6 +10,7 @@ ghost use Rattle.model.specs.Transcript.{beyondProgram};
 ghost use Rattle.drawtrack_steps.specs.Outcome.{buffers};
 ghost use Rattle.drawtrack_session.specs.Begin.{shorterThanLimits, startRefusalOf, freshSession, BeginSays};
 ghost use Rattle.drawtrack_session.specs.Advance.{AdvanceSays};
+ghost use Rattle.drawtrack_session.specs.Ending.{startLine};
 use drawtrack_steps::Moved;
 use drawtrack_steps::Session;
 use model::ARRIVAL_MESSAGES;
@@ -51,6 +52,12 @@ pub const SESSION_LOG_NUMBERS: usize = MESSAGE_WIDTH
 pub const SESSION_LIST_PLACES: usize = 1000;
 
 pub const SESSION_OUT_BYTES: usize = 8192;
+
+// Lines of the input, counted from 1: the settings line is the first. 0 stands for the worklist as
+// a whole.
+pub const WHOLE_WORKLIST: usize = 0;
+
+pub const SETTINGS_LINE: usize = 1;
 
 // The most bytes of an input that matter: 48 of a settings line, 8192 of a worklist and one more.
 pub const SESSION_INPUT_BYTES: usize = 8241;
@@ -108,6 +115,20 @@ fn start_refusal(
     NO_REFUSAL
 }
 
+// Which line is refused where `begin` refuses an input: that of the settings; but where these are
+// served, 4 is of the worklist, which is too long.
+pub fn start_line(settings: Settings, refusal: u32) -> usize
+    ensures { λ r. ⌜ r ≡ startLine settings refusal ⌝ }
+{
+    if refusal == MEMORY_TOO_SHORT {
+        if beyond_limits(settings, 0) {
+            return SETTINGS_LINE;
+        }
+        return WHOLE_WORKLIST;
+    }
+    SETTINGS_LINE
+}
+
 // A session before the first line of the worklist, with fresh records.
 fn fresh_session(settings: Settings, at: usize) -> Session
     ensures { λ r. ⌜ r ≡ freshSession settings at ⌝ }
@@ -122,6 +143,7 @@ fn fresh_session(settings: Settings, at: usize) -> Session
     let phase = Phase::Idle;
     Session {
         going: true,
+        refusal: NO_REFUSAL,
         settings: settings,
         sites: Sites {
             records: [site; SITE_RECORDS],

@@ -1,9 +1,7 @@
 -- Each arm writes the words that the table has for its number.
-use mathlib.Core.Path.{_≡_, sym, ap, subst}
-use mathlib.Core.List.{List}
+use mathlib.Core.Path.{_≡_, sym, ap}
 use Prim.Native.Nat.{ℕ, _+_, _≤_}
 use native.Mathlib.Omega.{arith}
-use lib.ListN.{length}
 use borrow.Author.Needs.{needs}
 use Rattle.laws.proofs.Writing.{put-as}
 use Rattle.output_words.specs.Words.{wordsOf}
@@ -133,4 +131,5 @@ put-words-spec =
     (λ c. put-as (sym (ap wordsOf (c .before .before .before .before .before .match .keys15)))
     (c .before .before .put-text15 .ensures))
     (λ c. search needs)
-    (λ c. put-as (sym (words-past _ (past (c .before .before .before .before .before)))) (c .before .before .put-text16 .ensures)))
+    (λ c. put-as (sym (words-past _ (past (c .before .before .before .before .before))))
+    (c .before .before .put-text16 .ensures)))

@@ -34,8 +34,9 @@ returns-2 : tie.Need-returns-2
 returns-2 c =
     let args = c .before .before .before .before .before .before .args in
     let put = c .before .before .put-reason .ensures in
-    let length-is = put .place-after ∙ zero-add (length (reasonLine (args .line) (args .refusal))) in
-    let long : reasonRoom ≤ length (args .out .now) = c .before .before .before .before .if1 .left in
+    let line = reasonLine (args .line) (args .refusal) in
+    let length-is = put .place-after ∙ zero-add (length line) in
+    let long = c .before .before .before .before .if1 .left in
     record {
       is = rw (le-leb reasonRoom (length (args .out .now)) long)
           (λ i. writtenTo (length-is i) (put .out i));

@@ -1,14 +1,14 @@
--- The program's loop over the calls of a session: what it is lent, where it stands, and what comes
--- of it.
+-- The loop over the calls of a session: what it is lent, where it stands, and what comes of it.
 --
---   ServeAsks ..                       the input and the memory that the program lends
+--   ServeAsks ..                   the input and the memory that the run lends
 --   Situation                      a session, and what the calls so far left in lent memory
 --   afterBegin input given         after `begin`
 --   afterCalls input first n       after n calls of `advance` more; 0: `first` itself
+--   servedOf taken session turns   what is said of a session that stopped then
 --   Serving ..                     the loop after so many turns
---   ServeSays ..                   the promise
+--   ServedWhole, ServeSays ..      the promise
 use mathlib.Core.Path.{_≡_}
-use mathlib.Core.Bool.{Bool, false}
+use mathlib.Core.Bool.{Bool, true, false}
 use mathlib.Core.List.{List, []}
 use Prim.Native.Nat.{ℕ, zero, suc, _≤_}
 use lib.ListN.{length, take}
@@ -20,6 +20,8 @@ use Rattle.drawtrack_session.specs.Limits.{siteRoom, coordinatorRoom, logRoom, 
 use Rattle.drawtrack_session.specs.Begin.{beginOf}
 use Rattle.drawtrack_session.specs.Advance.{lineOf}
 use Rattle.drawtrack_session.specs.Course.{Course}
+use Rattle.drawtrack_session.specs.Ending.{Ending, endingAt, endingLine, ending, Front}
+use Rattle.drawtrack_run.specs.declared.Served.{Served}
 
 -- "Its memory serves k up to 4, c up to 100, u up to 1000 and a worklist up to 8192 bytes": of the
 -- input no more bytes than matter; log, list and output for the longest answer.
@@ -77,20 +79,44 @@ pub record Serving (input : List ℕ) (first now : Situation) (turns : ℕ) : Ty
   pub course : Course input turns (now .session) (now .left .siteMemory)
       (now .left .coordinatorMemory) bytes
   pub now-is : now ≡ afterCalls input first turns
+  pub few-turns : turns ≤ inputRoom
 
 -- ---- The promise
 
--- The calls are a course of the session that has ended: `begin`, and then a call for each turn.
--- What they leave in every place of lent memory follows from the input and from what was lent.
--- Their bytes, one after the other, are the transcript of the input; also of a longer one, of which
--- it is the first bytes.
-pub record ServeSays (input : List ℕ) (given left : Buffers) (answer : Bool) : Type 0 where
-  pub answer-false : answer ≡ false
+-- Whether every write was taken, why the session was refused, and at which line of the input it
+-- stopped.
+abbrev pub servedOf : Bool → Session → ℕ → Served
+servedOf taken session turns = record {
+  taken = taken;
+  refusal = session .refusal;
+  line = endingLine (session .settings) (session .refusal) turns;
+}
+
+abbrev pub endingIn : Served → Ending
+endingIn answer = endingAt (answer .refusal) (answer .line)
+
+-- Where every write was taken, the session has ended. The bytes handed out are the transcript of
+-- the input, and the refusal and its line are those of the input; also of a longer one, of which it
+-- is the first bytes.
+pub record ServedWhole (input bytes : List ℕ) (session : Session) (answer : Served) : Type 0 where
+  pub ended : session .going ≡ false
+  pub bytes-are : bytes ≡ transcript input
+  pub ending-is : endingIn answer ≡ ending input
+  pub first-bytes : (whole : List ℕ) → input ≡ take inputRoom whole → bytes ≡ transcript whole
+  pub first-ending : (whole : List ℕ)
+      → input ≡ take inputRoom whole
+      → endingIn answer ≡ ending whole
+
+-- The calls are a course of the session: `begin`, and then a call for each turn. What they leave in
+-- every place of lent memory follows from the input and from what was lent. Their bytes, one after
+-- the other, are handed out: the front of the transcript, and all of it where every write was
+-- taken.
+pub record ServeSays (input : List ℕ) (given left : Buffers) (answer : Served) : Type 0 where
   pub turns : ℕ
   pub session : Session
-  pub ended : session .going ≡ false
   pub bytes : List ℕ
   pub course : Course input turns session (left .siteMemory) (left .coordinatorMemory) bytes
   pub left-is : situation session left ≡ afterCalls input (afterBegin input given) turns
-  pub bytes-are : bytes ≡ transcript input
-  pub first-bytes : (whole : List ℕ) → input ≡ take inputRoom whole → bytes ≡ transcript whole
+  pub answer-is : answer ≡ servedOf (answer .taken) session turns
+  pub front : Front bytes (transcript input)
+  pub whole : answer .taken ≡ true → ServedWhole input bytes session answer

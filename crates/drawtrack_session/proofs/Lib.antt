@@ -10,6 +10,7 @@ pub mod LineRightLaws
 pub mod BegunLaws
 pub mod Standing
 pub mod EndingLaws
+pub mod EndingInstances
 pub mod CourseLaws
 pub mod KeptLaws
 pub mod Theorem

@@ -4,4 +4,5 @@ pub mod Begin
 pub mod Advance
 pub mod Course
 pub mod Ending
+pub mod EndingInstances
 pub mod Claims

@@ -1,4 +1,4 @@
--- The loop over a session's calls: they are a course of the session, so it ends before its turns do.
+-- The loop over a session's calls: they are a course of it, so the loop ends before its turns do.
 --
 --   line-first, line-later         the line at which a session stopped
 --   begun-within, advanced-within  what a call wrote is in the output
@@ -120,7 +120,9 @@ module _ (input : List ℕ) (given : Buffers) (siteMemory coordinatorMemory out 
           input-is (serving .course))
           over;
       first-ending = λ whole input-is.
-          ends over ∙ ap ending input-is ∙ session-claims .ending-enough inputRoom whole (omega arith);
+          ends over
+          ∙ ap ending input-is
+          ∙ session-claims .ending-enough inputRoom whole (omega arith);
     }
 
     pub serves : (taken : Bool) (answer-then : Served)

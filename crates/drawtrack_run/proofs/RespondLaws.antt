@@ -20,7 +20,7 @@ use Rattle.output_words.specs.Words.{reasonLine, reasonRoom, ReasonSays}
 use Rattle.drawtrack_steps.specs.Outcome.{Buffers}
 use Rattle.drawtrack_session.specs.Limits.{inputRoom}
 use Rattle.drawtrack_session.specs.Ending.{Ending, ending}
-use Rattle.drawtrack_run.specs.declared.Served.{Served}
+use Rattle.drawtrack_run.specs.declared.Stopped.{Stopped}
 use Rattle.drawtrack_run.specs.declared.Response.{Response}
 use Rattle.drawtrack_run.specs.Serving.{endingIn, ServeSays}
 use Rattle.drawtrack_run.specs.Responding.{statusOf, statusFailed, reasonOf, writtenFirst, RespondSays, RunSays, failed, answered}
@@ -41,7 +41,7 @@ respond-unread read input given before none = record {
 }
 
 module _ (read : Bool) (input : List ℕ) (given left : Buffers) (before : List ℕ)
-    (all-read : read ≡ true) (served : Served) (says : ServeSays input given left served) where
+    (all-read : read ≡ true) (served : Stopped) (says : ServeSays input given left served) where
   pub respond-lost : served .taken ≡ false
       → RespondSays read input given left before before failure
   respond-lost lost = record {

@@ -19,27 +19,28 @@ use Rattle.drawtrack_session.specs.Limits.{inputRoom}
 use Rattle.drawtrack_session.specs.Begin.{BeginSays}
 use Rattle.drawtrack_session.specs.Advance.{AdvanceSays}
 use Rattle.drawtrack_session.specs.Course.{Course, begun, advanced}
-use Rattle.drawtrack_session.specs.Ending.{Ending, firstLine, startLine, endingAt, endingLine, ending}
+use Rattle.output_words.specs.Words.{firstLine}
+use Rattle.drawtrack_session.specs.Ending.{Ending, startLine, endingAt, endingLine, ending}
 use Rattle.drawtrack_session.proofs.Theorem.{session-claims}
-use Rattle.drawtrack_run.specs.declared.Served.{Served}
-use Rattle.drawtrack_run.specs.Serving.{ServeAsks, Situation, situation, begunWith, withoutLists, afterBegin, situationOf, afterCall, afterCalls, Serving, servedOf, ServedWhole, ServeSays}
+use Rattle.drawtrack_run.specs.declared.Stopped.{Stopped}
+use Rattle.drawtrack_run.specs.Serving.{ServeAsks, Situation, situation, begunWith, withoutLists, afterBegin, situationOf, afterCall, afterCalls, Serving, stoppedOf, AllTaken, ServeSays}
 
 -- ---- The line at which a session stopped
 
 module _ (taken : Bool) (session : Session) where
-  abbrev stoppedAt : ℕ → Served
+  abbrev stoppedAt : ℕ → Stopped
   stoppedAt line = record { taken = taken; refusal = session .refusal; line = line }
 
   pub line-first : (turns line : ℕ)
       → turns ≡ 0
       → line ≡ startLine (session .settings) (session .refusal)
-      → stoppedAt line ≡ servedOf taken session turns
+      → stoppedAt line ≡ stoppedOf taken session turns
   line-first turns line none is =
-      ap stoppedAt is ∙ ap (servedOf taken session) (sym none)
+      ap stoppedAt is ∙ ap (stoppedOf taken session) (sym none)
 
   pub line-later : (turns : ℕ)
       → (turns ≡ 0 → ⊥)
-      → stoppedAt (turns + 1) ≡ servedOf taken session turns
+      → stoppedAt (turns + 1) ≡ stoppedOf taken session turns
   line-later zero some = absurd (some refl)
   line-later (suc calls) some =
       let one-more : suc calls + 1 ≡ calls + firstLine = omega arith in
@@ -103,9 +104,9 @@ module _ (input : List ℕ) (given : Buffers) (siteMemory coordinatorMemory out 
         sym (session-claims .ends-so input turns session (left .siteMemory)
         (left .coordinatorMemory) (serving .bytes) short (serving .course) over)
 
-    served-whole : session .going ≡ false
-        → ServedWhole input (serving .bytes) session (servedOf true session turns)
-    served-whole over = record {
+    all-taken : session .going ≡ false
+        → AllTaken input (serving .bytes) session (stoppedOf true session turns)
+    all-taken over = record {
       ended = over;
       bytes-are =
           session-claims .writes-transcript input turns session (left .siteMemory)
@@ -125,8 +126,8 @@ module _ (input : List ℕ) (given : Buffers) (siteMemory coordinatorMemory out 
           ∙ session-claims .ending-enough inputRoom whole (omega arith);
     }
 
-    pub serves : (taken : Bool) (answer-then : Served)
-        → answer-then ≡ servedOf taken session turns
+    pub serves : (taken : Bool) (answer-then : Stopped)
+        → answer-then ≡ stoppedOf taken session turns
         → (taken ≡ true → session .going ≡ false)
         → ServeSays input given left answer-then
     serves taken answer-then is over =
@@ -144,8 +145,8 @@ module _ (input : List ℕ) (given : Buffers) (siteMemory coordinatorMemory out 
               (left .coordinatorMemory) (serving .bytes) short (serving .course);
           whole = λ all.
               subst (λ (done : Bool).
-              ServedWhole input (serving .bytes) session (servedOf done session turns))
-              (sym all) (served-whole (over all));
+              AllTaken input (serving .bytes) session (stoppedOf done session turns))
+              (sym all) (all-taken (over all));
         })
 
 -- ---- A turn

@@ -17,7 +17,7 @@ use Rattle.output_words.specs.Words.{reasonLine, reasonRoom}
 use Rattle.drawtrack_steps.specs.Outcome.{Buffers}
 use Rattle.drawtrack_session.specs.Limits.{inputRoom}
 use Rattle.drawtrack_session.specs.Ending.{Ending, ending}
-use Rattle.drawtrack_run.specs.declared.Served.{Served}
+use Rattle.drawtrack_run.specs.declared.Stopped.{Stopped}
 use Rattle.drawtrack_run.specs.declared.Response.{Response}
 use Rattle.drawtrack_run.specs.Serving.{ServeAsks, ServeSays}
 
@@ -46,7 +46,7 @@ pub record RespondAsks (input : List ℕ) (given : Buffers) (reason : List ℕ) 
 
 -- What came of the session's calls; `failed` says that a write was not taken.
 pub record Responded (input : List ℕ) (given left : Buffers) (failed : Bool) : Type 0 where
-  pub answer : Served
+  pub answer : Stopped
   pub says : ServeSays input given left answer
   pub taken : failed ≡ false → answer .taken ≡ true
   pub lost : failed ≡ true → answer .taken ≡ false

@@ -4,9 +4,9 @@
 --   Situation                      a session, and what the calls so far left in lent memory
 --   afterBegin input given         after `begin`
 --   afterCalls input first n       after n calls of `advance` more; 0: `first` itself
---   servedOf taken session turns   what is said of a session that stopped then
+--   stoppedOf taken session turns  what is said of a session that stopped then
 --   Serving ..                     the loop after so many turns
---   ServedWhole, ServeSays ..      the promise
+--   AllTaken, ServeSays ..         the promise
 use mathlib.Core.Path.{_≡_}
 use mathlib.Core.Bool.{Bool, true, false}
 use mathlib.Core.List.{List, []}
@@ -21,7 +21,7 @@ use Rattle.drawtrack_session.specs.Begin.{beginOf}
 use Rattle.drawtrack_session.specs.Advance.{lineOf}
 use Rattle.drawtrack_session.specs.Course.{Course}
 use Rattle.drawtrack_session.specs.Ending.{Ending, endingAt, endingLine, ending, Front}
-use Rattle.drawtrack_run.specs.declared.Served.{Served}
+use Rattle.drawtrack_run.specs.declared.Stopped.{Stopped}
 
 -- "Its memory serves k up to 4, c up to 100, u up to 1000 and a worklist up to 8192 bytes": of the
 -- input no more bytes than matter; log, list and output for the longest answer.
@@ -85,20 +85,20 @@ pub record Serving (input : List ℕ) (first now : Situation) (turns : ℕ) : Ty
 
 -- Whether every write was taken, why the session was refused, and at which line of the input it
 -- stopped.
-abbrev pub servedOf : Bool → Session → ℕ → Served
-servedOf taken session turns = record {
+abbrev pub stoppedOf : Bool → Session → ℕ → Stopped
+stoppedOf taken session turns = record {
   taken = taken;
   refusal = session .refusal;
   line = endingLine (session .settings) (session .refusal) turns;
 }
 
-abbrev pub endingIn : Served → Ending
+abbrev pub endingIn : Stopped → Ending
 endingIn answer = endingAt (answer .refusal) (answer .line)
 
 -- Where every write was taken, the session has ended. The bytes handed out are the transcript of
 -- the input, and the refusal and its line are those of the input; also of a longer one, of which it
 -- is the first bytes.
-pub record ServedWhole (input bytes : List ℕ) (session : Session) (answer : Served) : Type 0 where
+pub record AllTaken (input bytes : List ℕ) (session : Session) (answer : Stopped) : Type 0 where
   pub ended : session .going ≡ false
   pub bytes-are : bytes ≡ transcript input
   pub ending-is : endingIn answer ≡ ending input
@@ -111,12 +111,12 @@ pub record ServedWhole (input bytes : List ℕ) (session : Session) (answer : Se
 -- every place of lent memory follows from the input and from what was lent. Their bytes, one after
 -- the other, are handed out: the front of the transcript, and all of it where every write was
 -- taken.
-pub record ServeSays (input : List ℕ) (given left : Buffers) (answer : Served) : Type 0 where
+pub record ServeSays (input : List ℕ) (given left : Buffers) (answer : Stopped) : Type 0 where
   pub turns : ℕ
   pub session : Session
   pub bytes : List ℕ
   pub course : Course input turns session (left .siteMemory) (left .coordinatorMemory) bytes
   pub left-is : situation session left ≡ afterCalls input (afterBegin input given) turns
-  pub answer-is : answer ≡ servedOf (answer .taken) session turns
+  pub answer-is : answer ≡ stoppedOf (answer .taken) session turns
   pub front : Front bytes (transcript input)
-  pub whole : answer .taken ≡ true → ServedWhole input bytes session answer
+  pub whole : answer .taken ≡ true → AllTaken input bytes session answer

@@ -5,11 +5,11 @@ ghost use Rattle.model.specs.Lent.{before, after};
 ghost use mathlib.Core.Path.{_≡_};
 ghost use Prim.Native.Nat.{_≤_};
 ghost use lib.ListN.{length};
-ghost use Rattle.drawtrack_run.specs.Descriptors.{ReadTurn, WriteTurn, ReadSays};
+ghost use Rattle.drawtrack_run.specs.Descriptors.{ReadSomeSays, WriteSomeSays, ReadAllSays};
 
 // What one call came to: whether nothing is missing after it, whether another is to follow, and how
 // many bytes it moved. After a call that failed neither holds.
-pub struct Turn {
+pub struct Transfer {
     pub whole: bool,
     pub going: bool,
     pub moved: usize,
@@ -23,10 +23,10 @@ pub struct Read {
 }
 
 // A call that answered -1: it is made again if a signal interrupted it.
-fn moved_nothing() -> Turn
+fn moved_nothing() -> Transfer
     ensures { λ r. ⌜ r .moved ≡ 0 ⌝ }
 {
-    Turn {
+    Transfer {
         whole: false,
         going: os::errno() == libc::EINTR,
         moved: 0,
@@ -34,10 +34,10 @@ fn moved_nothing() -> Turn
 }
 
 // A call that moved so many of the bytes that were left.
-fn moved_some(moved: usize, left: usize) -> Turn
+fn moved_some(moved: usize, left: usize) -> Transfer
     ensures { λ r. ⌜ r .moved ≡ moved ⌝ }
 {
-    Turn {
+    Transfer {
         whole: moved == left,
         going: moved != left,
         moved: moved,
@@ -45,9 +45,9 @@ fn moved_some(moved: usize, left: usize) -> Turn
 }
 
 // One read, into the bytes from a place on. An answer of 0 is the end of the input.
-fn read_some(from: i32, bytes: &mut [u8], at: usize) -> Turn
+fn read_some(from: i32, bytes: &mut [u8], at: usize) -> Transfer
     requires { ⌜ at ≤ length (now bytes) ⌝ }
-    ensures { λ r. ⌜ ReadTurn at (before bytes) (after bytes) r ⌝ }
+    ensures { λ r. ⌜ ReadSomeSays at (before bytes) (after bytes) r ⌝ }
 {
     let got = libc::read(from, &mut bytes[at..]);
     if got < 0 {
@@ -63,17 +63,17 @@ fn read_some(from: i32, bytes: &mut [u8], at: usize) -> Turn
 // Reads an input into the lent bytes, until it ends or these are full. A loop that is proved has to
 // end, so the turns are counted down from a number that no run uses up.
 pub fn read_all(from: i32, bytes: &mut [u8]) -> Read
-    ensures { λ r. ⌜ ReadSays (after bytes) r ⌝ }
+    ensures { λ r. ⌜ ReadAllSays (after bytes) r ⌝ }
 {
     let mut length: usize = 0;
     let mut whole = false;
     let mut going = true;
     let mut turns = u64::MAX;
     while going && turns > 0 {
-        let turn = read_some(from, bytes, length);
-        length += turn.moved;
-        whole = turn.whole;
-        going = turn.going;
+        let transfer = read_some(from, bytes, length);
+        length += transfer.moved;
+        whole = transfer.whole;
+        going = transfer.going;
         turns -= 1;
     }
     Read {
@@ -83,9 +83,9 @@ pub fn read_all(from: i32, bytes: &mut [u8]) -> Read
 }
 
 // One write, of the bytes from a place on. An answer of 0 is a failure: nothing was taken.
-fn write_some(to: i32, bytes: &[u8], at: usize) -> Turn
+fn write_some(to: i32, bytes: &[u8], at: usize) -> Transfer
     requires { ⌜ at ≤ length (now bytes) ⌝ }
-    ensures { λ r. ⌜ WriteTurn at (before bytes) r ⌝ }
+    ensures { λ r. ⌜ WriteSomeSays at (before bytes) r ⌝ }
 {
     let put = libc::write(to, &bytes[at..]);
     if put < 0 {
@@ -93,7 +93,7 @@ fn write_some(to: i32, bytes: &[u8], at: usize) -> Turn
     }
     let moved = io::count(put, &bytes[at..]);
     if moved == 0 {
-        return Turn {
+        return Transfer {
             whole: false,
             going: false,
             moved: 0,
@@ -109,10 +109,10 @@ pub fn write_all(to: i32, bytes: &[u8]) -> bool {
     let mut going = bytes.len() != 0;
     let mut turns = u64::MAX;
     while going && turns > 0 {
-        let turn = write_some(to, bytes, done);
-        done += turn.moved;
-        whole = turn.whole;
-        going = turn.going;
+        let transfer = write_some(to, bytes, done);
+        done += transfer.moved;
+        whole = transfer.whole;
+        going = transfer.going;
         turns -= 1;
     }
     whole

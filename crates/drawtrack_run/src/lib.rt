@@ -14,8 +14,8 @@ ghost use lib.ListN.{length};
 ghost use Rattle.drawtrack_steps.specs.Outcome.{buffers};
 ghost use Rattle.drawtrack_session.specs.Limits.{inputRoom};
 ghost use Rattle.output_words.specs.Words.{reasonRoom};
-ghost use Rattle.drawtrack_run.specs.Descriptors.{ReadSays};
-ghost use Rattle.drawtrack_run.specs.Serving.{ServeAsks, ServeSays, servedOf};
+ghost use Rattle.drawtrack_run.specs.Descriptors.{ReadAllSays};
+ghost use Rattle.drawtrack_run.specs.Serving.{ServeAsks, ServeSays, stoppedOf};
 ghost use Rattle.drawtrack_run.specs.Responding.{RespondAsks, RespondSays, RunSays};
 use descriptors::Read;
 use descriptors::read_all;
@@ -42,7 +42,7 @@ pub const STATUS_FAILED: u32 = 2;
 
 // What came of the calls of a session: whether every write was taken, the refusal or 0, and the
 // line of the input at which it ended.
-pub struct Served {
+pub struct Stopped {
     pub taken: bool,
     pub refusal: u32,
     pub line: usize,
@@ -57,7 +57,7 @@ pub struct Response {
 
 // Reads the input; where that fails says so.
 fn take_in(input: i32, bytes: &mut [u8]) -> Read
-    ensures { λ r. ⌜ ReadSays (after bytes) r ⌝ }
+    ensures { λ r. ⌜ ReadAllSays (after bytes) r ⌝ }
 {
     let read = read_all(input, bytes);
     if read.whole {
@@ -80,19 +80,19 @@ fn hand_out(written: usize, out: &[u8]) -> bool
 }
 
 // What came of a session that stopped after so many calls of `advance`.
-fn stopped_at(taken: bool, session: Session, turns: usize) -> Served
+fn stopped_at(taken: bool, session: Session, turns: usize) -> Stopped
     requires { ⌜ turns ≤ inputRoom ⌝ }
-    ensures { λ r. ⌜ r ≡ servedOf taken session turns ⌝ }
+    ensures { λ r. ⌜ r ≡ stoppedOf taken session turns ⌝ }
 {
     if turns == 0 {
         let settings = session.settings;
-        return Served {
+        return Stopped {
             taken: taken,
             refusal: session.refusal,
             line: drawtrack_session::start_line(settings, session.refusal),
         };
     }
-    Served {
+    Stopped {
         taken: taken,
         refusal: session.refusal,
         line: turns + 1,
@@ -110,7 +110,7 @@ fn serve(
     log: &mut [u64],
     list: &mut [u32],
     out: &mut [u8],
-) -> Served
+) -> Stopped
     requires { ⌜ ServeAsks (now input) (buffers (now «site_memory») (now «coordinator_memory»)
         (now log)
         (now list) (now out)) ⌝ }

@@ -29,7 +29,8 @@ use Rattle.drawtrack_steps.specs.declared.Session.{Session}
 use Rattle.drawtrack_steps.specs.declared.Moved.{Moved}
 use Rattle.drawtrack_steps.specs.Outcome.{Buffers}
 use Rattle.drawtrack_session.specs.Course.{linePiece, endRefusal, accepts, LineRight, Follows, Course, begun, advanced}
-use Rattle.drawtrack_session.specs.Ending.{firstLine, endingAt, endingFrom, ending}
+use Rattle.output_words.specs.Words.{firstLine}
+use Rattle.drawtrack_session.specs.Ending.{endingAt, endingFrom, ending}
 use Rattle.drawtrack_session.proofs.BegunLaws.{begin-right}
 use Rattle.drawtrack_session.proofs.RefusalLaws.{malformed-refusal, step-small}
 use Rattle.drawtrack_session.proofs.LineRightLaws.{line-right}

@@ -24,7 +24,8 @@ use Rattle.model.proofs.Touches.DrawLaws.{line-taken}
 use Rattle.model.proofs.Worklists.TranscriptLaws.{lengthRefusal, refusal-some, refusal-long, input-decides}
 use Rattle.output_transcript.proofs.LineBounds.{message-lines-append}
 use Rattle.drawtrack_steps.specs.declared.Session.{Session}
-use Rattle.drawtrack_session.specs.Ending.{endingAt, startLine, firstLine, endingFrom, endingWith, endingOf, ending, Ending, Front, Last, EndsInResults, EndsAs}
+use Rattle.output_words.specs.Words.{firstLine}
+use Rattle.drawtrack_session.specs.Ending.{endingAt, startLine, endingFrom, endingWith, endingOf, ending, Ending, Front, Last, EndsInResults, EndsAs}
 use Rattle.drawtrack_session.proofs.Standing.{ahead, Stands}
 
 -- ---- The front

@@ -1,6 +1,5 @@
 -- How an input ends: with results or by a refusal, and at which line (document 01's section
--- "Worklist"). Lines of the input are counted from 1, as an editor counts them: the settings line
--- is 1, the first line of the worklist 2. 0 stands for the worklist as a whole.
+-- "Worklist"). Lines are those of the input, as crate output_words numbers them.
 --
 --   Ending, endingAt refusal line        a refusal, 0 for none, and a line
 --   startLine settings refusal           where a session is refused before any draw
@@ -19,6 +18,7 @@ use Rattle.model.specs.Refusals.{noRefusal, memoryTooShort, malformedLine}
 use Rattle.model.specs.Lines.{Fields, malformed, fields, readFields, settingsOf, Worklist, ended, malformedAt, next, readWorklist}
 use Rattle.model.specs.Runs.{Run, freshRun, runOne, lineRefusalIn}
 use Rattle.model.specs.Transcript.{refusedLine, resultLines, beyondProgram, programRefusal}
+use Rattle.output_words.specs.Words.{wholeWorklist, settingsLine, firstLine}
 
 pub record Ending : Type 0 where
   pub refusal : ℕ
@@ -28,15 +28,6 @@ abbrev pub endingAt : ℕ → ℕ → Ending
 endingAt refusal line = record { refusal = refusal; line = line }
 
 -- ---- Lines of the input
-
-abbrev pub wholeWorklist : ℕ
-wholeWorklist = 0
-
-abbrev pub settingsLine : ℕ
-settingsLine = 1
-
-abbrev pub firstLine : ℕ
-firstLine = 2
 
 -- Before any draw the settings line is refused; but where the program serves the settings, 4 is of
 -- a worklist that is too long.

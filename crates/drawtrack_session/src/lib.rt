@@ -25,6 +25,8 @@ use model::Settings;
 use model::SiteRecord;
 use model::Sites;
 use model::Word;
+use output_words::SETTINGS_LINE;
+use output_words::WHOLE_WORKLIST;
 use worklist_reader::SettingsRead;
 
 // The program's limits: "Its memory serves k up to 4, c up to 100, u up to 1000 and a worklist up
@@ -52,12 +54,6 @@ pub const SESSION_LOG_NUMBERS: usize = MESSAGE_WIDTH
 pub const SESSION_LIST_PLACES: usize = 1000;
 
 pub const SESSION_OUT_BYTES: usize = 8192;
-
-// Lines of the input, counted from 1: the settings line is the first. 0 stands for the worklist as
-// a whole.
-pub const WHOLE_WORKLIST: usize = 0;
-
-pub const SETTINGS_LINE: usize = 1;
 
 // The most bytes of an input that matter: 48 of a settings line, 8192 of a worklist and one more.
 pub const SESSION_INPUT_BYTES: usize = 8241;

@@ -5,7 +5,8 @@
 --   bytesOf text                a text's bytes
 --   refusalWords                the words of each number from 0 on
 --   wordsOf refusal             the words of a number; past the table `unknown refusal`
---   placeWords line             a line of the input: 0 the worklist, 1 the settings line
+--   wholeWorklist, settingsLine, firstLine     0, 1 and 2, which is the worklist's first line
+--   placeWords line             a line of the input in words
 --   reasonLine line refusal     the whole line
 --   reasonRoom                  128 bytes, more than any such line of machine numbers takes
 --   ReasonSays ..               the promise of the call that writes it
@@ -54,7 +55,18 @@ wordsOf refusal = bytesOf (getD refusalWords refusal "unknown refusal")
 
 -- ---- Where
 
--- Lines of the input are counted from 1; the settings line is the first.
+-- Lines of the input are counted from 1, as an editor counts them; 0 stands for the worklist as a
+-- whole.
+abbrev pub wholeWorklist : ℕ
+wholeWorklist = 0
+
+abbrev pub settingsLine : ℕ
+settingsLine = 1
+
+abbrev pub firstLine : ℕ
+firstLine = 2
+
+-- By these numbers.
 abbrev pub placeWords : ℕ → List ℕ
 placeWords zero = bytesOf "worklist"
 placeWords (suc zero) = bytesOf "settings line"

@@ -27,6 +27,12 @@ use output_lines::put_text;
 // More bytes than any line of a reason takes.
 pub const REASON_BYTES: usize = 128;
 
+// Lines of the input, counted from 1: the settings line is the first. 0 stands for the worklist as
+// a whole.
+pub const WHOLE_WORKLIST: usize = 0;
+
+pub const SETTINGS_LINE: usize = 1;
+
 // Writes the words of a refusal, where they fit.
 fn put_words(refusal: u32, out: &mut [u8], at: usize) -> usize
     requires { ⌜ at + length (wordsOf refusal) ≤ length (now out) ⌝ }
@@ -57,10 +63,10 @@ fn put_place(line: usize, out: &mut [u8], at: usize) -> usize
     requires { ⌜ at + length (placeWords line) ≤ length (now out) ⌝ }
     ensures { λ r. ⌜ Put (placeWords line) at (before out) (after out) r ⌝ }
 {
-    if line == 0 {
+    if line == WHOLE_WORKLIST {
         return put_text(b"worklist", out, at);
     }
-    if line == 1 {
+    if line == SETTINGS_LINE {
         return put_text(b"settings line", out, at);
     }
     let after_word = put_text(b"line", out, at);
@@ -82,8 +88,7 @@ fn put_reason(line: usize, refusal: u32, out: &mut [u8]) -> usize
 }
 
 // Writes the line of a reason to the first of the lent bytes, if these are as many as any such line
-// takes, and answers how many it takes; otherwise writes nothing and answers 0. Lines are those of
-// the input, from 1: 1 is the settings line, and 0 stands for the worklist as a whole.
+// takes, and answers how many it takes; otherwise writes nothing and answers 0.
 pub fn write_reason(line: usize, refusal: u32, out: &mut [u8]) -> usize
     ensures { λ r. ⌜ ReasonSays line refusal (before out) (after out) r ⌝ }
 {

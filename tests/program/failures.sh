@@ -162,6 +162,24 @@ wants '' 'drawtrack: more than one file name\n'
 code $?
 tried "two file names" 2
 
+# ---- The page's command that mends a file
+
+printf '\xEF\xBB\xBF1;1000;1000;500;6;10\r\n\r\n 0; 7;3\t\r\n\n' >"$folder/export.txt"
+wants 'refused 13\n' 'drawtrack: settings line: refused 13: malformed line\n'
+"$program" "$folder/export.txt" >"$folder/out" 2>"$folder/error"
+code $?
+tried "a file from a spreadsheet" 1
+
+mend=$(grep -m 1 "^sed -e" docs/DRAWTRACK.md)
+printf '0;7;3' >>"$folder/export.txt"
+(cd "$folder" && eval "$mend")
+{ printf '%b' "$input"; printf '0;7;3\n'; } >"$folder/mended"
+"$program" "$folder/mended" >"$folder/want-out"
+: >"$folder/want-error"
+"$program" "$folder/worklist.txt" >"$folder/out" 2>"$folder/error"
+code $?
+tried "the same, mended" 0
+
 # ---- Injected failures
 
 if ! strace -o "$folder/trace" true 2>/dev/null; then

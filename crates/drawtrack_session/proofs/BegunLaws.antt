@@ -148,6 +148,8 @@ module _ (input : List ℕ) (given : Buffers)
         (omega (arith, rule-is, begin-small input found)) out-long
         ∙ rw some (ap refusedLine rule-is);
     going = rw some;
+    refusal = rule-is;
+    settings = refl;
     begun = λ fine. absurd (false≢true (sym some ∙ fine));
   }
 
@@ -159,6 +161,8 @@ module _ (input : List ℕ) (given : Buffers)
       record {
         bytes = rw fine;
         going = rw fine;
+        refusal = sym (eqb-true rule 0 fine);
+        settings = refl;
         begun = λ _. record {
           settings-are = refl;
           represents =

@@ -1,6 +1,6 @@
--- The calls of a session put together: the invariant of a course, and its theorem.
+-- The calls of a session put together: where a course stands after a line, and after any calls.
 --
---   Goes, Stands      where a course stands: it goes on, or it has ended
+--   line-stands       a line more
 --   stands-of         where the course of any calls stands
 use mathlib.Core.Path.{_≡_, refl, sym, ap, _∙_}
 use mathlib.Core.Bool.{Bool, true, false, false≢true}
@@ -13,11 +13,12 @@ use borrow.Author.Tests.{eqb-true, lt-ltb}
 use Rattle.model.specs.declared.Settings.{Settings}
 use Rattle.model.specs.declared.Arrival.{Arrival}
 use Rattle.model.specs.Choice.{isZero}
+use Rattle.model.specs.Refusals.{noRefusal, malformedLine}
 use Rattle.model.specs.Draws.{drawsOf}
 use Rattle.model.specs.Network.{afterLine}
-use Rattle.model.specs.Lines.{Fields, malformed, fields, readFields, settingsOf, Worklist, readFrom}
+use Rattle.model.specs.Lines.{Fields, malformed, fields, readFields, Worklist, readFrom}
 use Rattle.model.specs.Runs.{Run, runOf, runOne, lineRefusalIn}
-use Rattle.model.specs.Transcript.{messageLines, refusedLine, transcriptFrom, transcriptWith, transcript}
+use Rattle.model.specs.Transcript.{messageLines, refusedLine, transcriptFrom, transcript}
 use Rattle.model.proofs.Runs.RunLaws.{runFrom-append, runFrom-draws}
 use Rattle.model.proofs.Touches.DrawLaws.{line-taken}
 use Rattle.output_transcript.proofs.LineBounds.{message-lines-append}
@@ -27,82 +28,13 @@ use Rattle.worklist_reader.proofs.WalkLaws.{walk-claims}
 use Rattle.drawtrack_steps.specs.declared.Session.{Session}
 use Rattle.drawtrack_steps.specs.declared.Moved.{Moved}
 use Rattle.drawtrack_steps.specs.Outcome.{Buffers}
-use Rattle.drawtrack_session.specs.Course.{Represents, linePiece, accepts, beginRefusal, beginPiece, BeginRight, LineRight, Follows, Course, begun, advanced}
+use Rattle.drawtrack_session.specs.Course.{linePiece, endRefusal, accepts, LineRight, Follows, Course, begun, advanced}
+use Rattle.output_words.specs.Words.{firstLine}
+use Rattle.drawtrack_session.specs.Ending.{endingAt, endingFrom, ending}
 use Rattle.drawtrack_session.proofs.BegunLaws.{begin-right}
 use Rattle.drawtrack_session.proofs.RefusalLaws.{malformed-refusal, step-small}
 use Rattle.drawtrack_session.proofs.LineRightLaws.{line-right}
-
--- ---- Where a course stands
-
--- The worklist that begins at the session's place.
-abbrev ahead : List ℕ → Session → Worklist
-ahead input session =
-    readFrom (length (drop (session .at) input)) (session .line) (drop (session .at) input)
-
-pub record Goes (input : List ℕ) (n : ℕ) (session : Session)
-    (siteMemory coordinatorMemory bytes : List ℕ) : Type 0 where
-  pub arrivals : List Arrival
-  pub stands : Represents session siteMemory coordinatorMemory arrivals
-  pub bytes-are : bytes ≡ messageLines (runOf (session .settings) arrivals .messages)
-  pub rest-is : transcript input
-      ≡ transcriptFrom (session .settings) (runOf (session .settings) arrivals)
-      (ahead input session)
-  pub far : 6 * n ≤ session .at
-  pub few : 6 * n ≤ length input
-  pub line-few : session .line ≤ n
-
-pub record Stands (input : List ℕ) (n : ℕ) (session : Session)
-    (siteMemory coordinatorMemory bytes : List ℕ) : Type 0 where
-  pub goes : session .going ≡ true → Goes input n session siteMemory coordinatorMemory bytes
-  pub ended : session .going ≡ false → bytes ≡ transcript input
-
--- ---- The beginning
-
-module _ (input : List ℕ) (left : Buffers) (answer : Moved)
-    (right : BeginRight input left answer) where
-  abbrev at-start : List ℕ
-  at-start = take (answer .written) (left .out)
-
-  begin-ended : (found : Fields) → readFields 6 input ≡ found
-      → isZero (beginRefusal input found) ≡ false
-      → beginPiece input found ≡ transcript input
-  begin-ended malformed is refused = rw is
-  begin-ended (fields numbers worklist) is refused = rw (is, refused, transcriptWith)
-
-  begin-goes : (found : Fields) → readFields 6 input ≡ found
-      → isZero (beginRefusal input found) ≡ true
-      → Goes input 0 (answer .session) (left .siteMemory) (left .coordinatorMemory) at-start
-  begin-goes malformed is fine = absurd (false≢true fine)
-  begin-goes (fields numbers worklist) is fine =
-      let whole : isZero (beginRefusal input (readFields 6 input)) ≡ true = rw is fine in
-      let start = right .begun whole in
-      let settings-are : answer .session .settings ≡ settingsOf numbers =
-      rw is at (start .settings-are) in
-      let rest : drop (answer .session .at) input ≡ worklist = rw is at (start .worklist) in
-      let read : transcript input
-      ≡ transcriptFrom (settingsOf numbers) (runOf (settingsOf numbers) [])
-      (readFrom (length worklist) 0 worklist) = rw (is, fine, transcriptWith) in
-      record {
-        arrivals = [];
-        stands = start .represents;
-        bytes-are = right .bytes ∙ rw whole;
-        rest-is = read
-            ∙ sym (λ i.
-            transcriptFrom (settings-are i) (runOf (settings-are i) [])
-            (readFrom (length (rest i)) (start .first-line i) (rest i)));
-        far = omega arith;
-        few = omega arith;
-        line-few = omega (arith, start .first-line);
-      }
-
-  begin-stands : Stands input 0 (answer .session) (left .siteMemory) (left .coordinatorMemory)
-      at-start
-  begin-stands = record {
-    goes = λ going. begin-goes (readFields 6 input) refl (sym (right .going) ∙ going);
-    ended = λ over.
-        let refused = sym (right .going) ∙ over in
-        right .bytes ∙ begin-ended (readFields 6 input) refl refused;
-  }
+use Rattle.drawtrack_session.proofs.Standing.{Goes, Stands, begin-stands}
 
 -- ---- A line
 
@@ -137,6 +69,12 @@ module _ (input : List ℕ) (n : ℕ) (session : Session)
       ∙ ap (transcriptFrom settings run)
       (walk-claims .step-reads input (session .at) (session .line) line-small)
 
+  ending-then : ending input ≡ endingFrom settings run (n + firstLine) (thenRead step others)
+  ending-then =
+      there .ending-is
+      ∙ ap (endingFrom settings run (n + firstLine))
+      (walk-claims .step-reads input (session .at) (session .line) line-small)
+
   -- What was written before, and this line's piece.
   bytes-then : now-written ≡ messageLines (run .messages) ++ linePiece settings run step
   bytes-then =
@@ -162,6 +100,37 @@ module _ (input : List ℕ) (n : ℕ) (session : Session)
       (ap (λ (refusal : ℕ). messageLines (run .messages) ++ refusedLine refusal) is
       ∙ sym (rest-then ∙ rw (none, bad)))
 
+  -- By the refusal of the line, at the line.
+  ends-so : (found : Bool) → step .found ≡ found
+      → (fine : Bool) → isZero (endRefusal settings run step) ≡ fine
+      → accepts settings run step ≡ false
+      → ending input ≡ endingAt (answer .session .refusal) (n + firstLine)
+  ends-so true found true fine over =
+      let rule : isZero (lineRefusalIn settings (run .network) (step .arrival)) ≡ true =
+      rw found at fine in
+      absurd (false≢true (sym over ∙ (rw (found, rule))))
+  ends-so true found false refused over =
+      let rule : isZero (lineRefusalIn settings (run .network) (step .arrival)) ≡ false =
+      rw found at refused in
+      let is : endRefusal settings run step
+      ≡ lineRefusalIn settings (run .network) (step .arrival) = rw found in
+      ending-then
+      ∙ (rw (found, rule, endingFrom))
+      ∙ sym (ap (λ (refusal : ℕ). endingAt refusal (n + firstLine)) (right .refusal ∙ is))
+  ends-so false none true fine over =
+      let none-left : isZero (step .refusal) ≡ true = rw none at fine in
+      let is : endRefusal settings run step ≡ noRefusal = eqb-true _ 0 fine in
+      ending-then
+      ∙ (rw (none, none-left))
+      ∙ sym (ap (λ (refusal : ℕ). endingAt refusal (n + firstLine)) (right .refusal ∙ is))
+  ends-so false none false bad over =
+      let some-left : isZero (step .refusal) ≡ false = rw none at bad in
+      let is : endRefusal settings run step ≡ malformedLine =
+      rw none (malformed-refusal input (session .at) (session .line) some-left) in
+      ending-then
+      ∙ (rw (none, some-left))
+      ∙ sym (ap (λ (refusal : ℕ). endingAt refusal (n + firstLine)) (right .refusal ∙ is))
+
   -- ---- It goes on
 
   goes-on : step .found ≡ true
@@ -179,6 +148,7 @@ module _ (input : List ℕ) (n : ℕ) (session : Session)
       .messages-are in
       let far-then = walk-claims .goes-on input (session .at) (session .line) found in
       let same = follows .settings-same in
+      let one-more : n + firstLine + 1 ≡ suc n + firstLine = omega arith in
       record {
         arrivals = arrivals-then;
         stands = follows .represents;
@@ -194,6 +164,16 @@ module _ (input : List ℕ) (n : ℕ) (session : Session)
             ∙ sym (λ i. transcriptFrom settings (run-then i) others)
             ∙ sym (λ i.
             transcriptFrom (same i) (runOf (same i) arrivals-then)
+            (readFrom (length (drop (follows .at-after i) input)) (follows .line-after i)
+            (drop (follows .at-after i) input)));
+        ending-is =
+            ending-then
+            ∙ (rw (found, fine, endingFrom))
+            ∙ sym (λ i. endingFrom settings (run-then i) (n + firstLine + 1) others)
+            ∙ ap (λ (line : ℕ). endingFrom settings (runOf settings arrivals-then) line others)
+            one-more
+            ∙ sym (λ i.
+            endingFrom (same i) (runOf (same i) arrivals-then) (suc n + firstLine)
             (readFrom (length (drop (follows .at-after i) input)) (follows .line-after i)
             (drop (follows .at-after i) input)));
         far = omega (arith, there .far, far-then .ahead, follows .at-after);
@@ -228,18 +208,21 @@ module _ (input : List ℕ) (n : ℕ) (session : Session)
       record {
         goes = λ _. goes-on found fine (right .follows both);
         ended = λ over. absurd (false≢true (sym over ∙ going));
+        ended-so = λ over. absurd (false≢true (sym over ∙ going));
       }
   line-stands true found false refused =
       let over : answer .session .going ≡ false = right .going ∙ rw (found, refused) in
       record {
         goes = λ going. absurd (false≢true (sym over ∙ going));
         ended = λ _. ends-refused found refused;
+        ended-so = λ _. ends-so true found _ refl (sym (right .going) ∙ over);
       }
   line-stands false none fine _ =
       let over : answer .session .going ≡ false = right .going ∙ rw none in
       record {
         goes = λ going. absurd (false≢true (sym over ∙ going));
         ended = λ _. ends-read none (isZero (step .refusal)) refl;
+        ended-so = λ _. ends-so false none _ refl (sym (right .going) ∙ over);
       }
 
 -- ---- All calls

@@ -142,6 +142,7 @@ module _ {session : Session} {given : Buffers} {arrivals : List Arrival}
     abbrev next : Session
     next = record {
       going = true;
+      refusal = noRefusal;
       settings = session .settings;
       sites = answer .held .sites;
       coordinator = answer .held .coordinator;
@@ -183,6 +184,7 @@ module _ {session : Session} {given : Buffers} {arrivals : List Arrival}
         (record {
           session = record {
             going = true;
+            refusal = noRefusal;
             settings = session .settings;
             sites = sites i;
             coordinator = coordinator i;

@@ -8,6 +8,9 @@ pub mod DrawLaws
 pub mod ResultLaws
 pub mod LineRightLaws
 pub mod BegunLaws
+pub mod Standing
+pub mod EndingLaws
+pub mod EndingInstances
 pub mod CourseLaws
 pub mod KeptLaws
 pub mod Theorem

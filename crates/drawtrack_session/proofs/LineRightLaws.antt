@@ -65,6 +65,7 @@ module _ {session : Session} {given : Buffers} {arrivals : List Arrival}
           (room .out-long)
           ∙ rw (found, some) (ap refusedLine (rule-is stands room step));
       going = rw (found, some);
+      refusal = rule-is stands room step ∙ sym (rw found);
       follows = λ both. absurd (false≢true (rw (found, some) at both));
     }
 
@@ -87,6 +88,7 @@ module _ {session : Session} {given : Buffers} {arrivals : List Arrival}
               ∙ joined-messages sent
               ∙ rw (found, fine) (ap messageLines (sent-are stands room step none));
           going = rw (found, fine);
+          refusal = sym (eqb-true rule 0 fine) ∙ sym (rw found);
           follows = λ _. record {
             settings-same = refl;
             at-after = refl;
@@ -118,6 +120,7 @@ module _ {session : Session} {given : Buffers} {arrivals : List Arrival}
         (record {
           bytes = results-right stands room ∙ rw (none, fine);
           going = rw none;
+          refusal = sym (eqb-true (step .refusal) 0 fine) ∙ sym (rw none);
           follows = λ both. absurd (false≢true (rw none at both));
         })
 
@@ -126,6 +129,7 @@ module _ {session : Session} {given : Buffers} {arrivals : List Arrival}
     malformed-right small some = record {
       bytes = refused-line (step .refusal) (given .out) small (room .out-long) ∙ rw (none, some);
       going = rw none;
+      refusal = sym (rw none);
       follows = λ both. absurd (false≢true (rw none at both));
     }
 

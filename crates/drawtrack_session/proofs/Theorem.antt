@@ -12,6 +12,7 @@ use Rattle.drawtrack_session.proofs.KeptLaws.{Kept, begin-keeps-of, lin
 use Rattle.drawtrack_session.proofs.RefusalLaws.{step-small}
 use Rattle.drawtrack_session.proofs.BegunLaws.{begin-right}
 use Rattle.drawtrack_session.proofs.LineRightLaws.{line-right}
+use Rattle.drawtrack_session.proofs.EndingLaws.{front-of, ending-enough-of, transcript-ends-of}
 use Rattle.drawtrack_session.proofs.CourseLaws.{stands-of}
 
 pub session-claims : SessionClaims
@@ -27,6 +28,9 @@ session-claims = record {
   advances = λ input session given left answer arrivals stands room says.
       line-right stands room _ left answer (step-small input (session .at) (session .line))
       (says .line);
+  begins-transcript = λ input n session siteMemory coordinatorMemory bytes short course.
+      front-of input n session siteMemory coordinatorMemory bytes
+      (stands-of input n session siteMemory coordinatorMemory bytes short course);
   writes-transcript = λ input n session siteMemory coordinatorMemory bytes short course over.
       stands-of input n session siteMemory coordinatorMemory bytes short course .ended over;
   reads-enough = λ most whole n session siteMemory coordinatorMemory bytes enough short course over.
@@ -37,4 +41,8 @@ session-claims = record {
       ∙ transcript-claims .input-enough most whole enough;
   ends = λ input n session siteMemory coordinatorMemory bytes short course going.
       stands-of input n session siteMemory coordinatorMemory bytes short course .goes going .few;
+  ends-so = λ input n session siteMemory coordinatorMemory bytes short course over.
+      stands-of input n session siteMemory coordinatorMemory bytes short course .ended-so over;
+  ending-enough = λ most whole enough. ending-enough-of most whole (omega (arith, enough));
+  transcript-ends = transcript-ends-of;
 }

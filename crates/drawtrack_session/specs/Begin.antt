@@ -55,6 +55,7 @@ beginRefusalOf input found given =
 abbrev pub freshSession : Settings → ℕ → Session
 freshSession settings at = record {
   going = true;
+  refusal = noRefusal;
   settings = settings;
   sites = freshSites;
   coordinator = coordinatorRecord (freshCoordinator settings);

@@ -16,11 +16,12 @@ use Rattle.drawtrack_session.specs.Limits.{siteRoom, coordinatorRoom, ou
 use Rattle.drawtrack_session.specs.Begin.{firstSession, BeginSays}
 use Rattle.drawtrack_session.specs.Advance.{AdvanceSays}
 use Rattle.drawtrack_session.specs.Course.{Represents, Room, BeginRight, LineRight, Course}
+use Rattle.drawtrack_session.specs.Ending.{Front, EndsAs, endingAt, endingLine, ending}
 
 -- The last call of a session, refused or not: the session stands where it stood, with its records,
--- and both memories and the log are as they were.
+-- and knows why it ended; both memories and the log are as they were.
 pub record LastKept (session : Session) (given left : Buffers) (answer : Moved) : Type 0 where
-  pub session-stopped : answer .session ≡ stopped session
+  pub session-stopped : answer .session ≡ stopped session (answer .session .refusal)
   pub site-memory : left .siteMemory ≡ given .siteMemory
   pub coordinator-memory : left .coordinatorMemory ≡ given .coordinatorMemory
   pub log : left .log ≡ given .log
@@ -56,7 +57,13 @@ pub record SessionClaims : Type 0 where
       → LineRight session (stepAt input (session .at) (session .line)) left arrivals answer
   -- ---- All calls
 
-  -- Once the session has ended, the bytes written, call after call, are the program's transcript.
+  -- The bytes written so far, call after call, are the first ones of the program's transcript.
+  pub begins-transcript : (input : List ℕ) (n : ℕ) (session : Session)
+      (siteMemory coordinatorMemory bytes : List ℕ)
+      → length input ≤ lastLine
+      → Course input n session siteMemory coordinatorMemory bytes
+      → Front bytes (transcript input)
+  -- Once the session has ended, they are all of it.
   pub writes-transcript : (input : List ℕ) (n : ℕ) (session : Session)
       (siteMemory coordinatorMemory bytes : List ℕ)
       → length input ≤ lastLine
@@ -78,3 +85,19 @@ pub record SessionClaims : Type 0 where
       → Course input n session siteMemory coordinatorMemory bytes
       → session .going ≡ true
       → 6 * n ≤ length input
+  -- ---- How it ends
+
+  -- Once the session has ended, its refusal and its line are those of the input.
+  pub ends-so : (input : List ℕ) (n : ℕ) (session : Session)
+      (siteMemory coordinatorMemory bytes : List ℕ)
+      → length input ≤ lastLine
+      → Course input n session siteMemory coordinatorMemory bytes
+      → session .going ≡ false
+      → ending input
+      ≡ endingAt (session .refusal) (endingLine (session .settings) (session .refusal) n)
+  -- The first 8241 bytes decide that too.
+  pub ending-enough : (most : ℕ) (whole : List ℕ)
+      → inputRoom ≤ most
+      → ending (take most whole) ≡ ending whole
+  -- The transcript of every input ends with `refused` and that number, or with results.
+  pub transcript-ends : (input : List ℕ) → EndsAs (ending input .refusal) (transcript input)

@@ -4,6 +4,7 @@
 --                                    the session stands after these draws
 --   Room given                       log, list and output are long enough for the program's limits
 --   linePiece settings run step      the bytes that a line of the worklist brings
+--   endRefusal settings run step     why the line ends the session, or 0
 --   beginPiece input found           the bytes before the first line: none, or a refusal
 --   Course input n session siteMemory coordinatorMemory bytes
 --                                    after `begin` and n calls of `advance`, with the session and
@@ -84,6 +85,8 @@ pub record Begun (input siteMemory coordinatorMemory : List ℕ) (session : Sess
 pub record BeginRight (input : List ℕ) (left : Buffers) (answer : Moved) : Type 0 where
   pub bytes : take (answer .written) (left .out) ≡ beginPiece input (readFields 6 input)
   pub going : answer .session .going ≡ isZero (beginRefusal input (readFields 6 input))
+  pub refusal : answer .session .refusal ≡ beginRefusal input (readFields 6 input)
+  pub settings : answer .session .settings ≡ settingsIn (readFields 6 input)
   pub begun : isZero (beginRefusal input (readFields 6 input)) ≡ true
       → Begun input (left .siteMemory) (left .coordinatorMemory) (answer .session)
 
@@ -103,6 +106,11 @@ linePiece settings run step =
     if step .found then drawPiece settings run (step .arrival)
     else if isZero (step .refusal) then resultLines settings run
     else refusedLine (step .refusal)
+
+-- Why a line ends the session: the refusal of its draw or touch, or 13; 0 at the end.
+abbrev pub endRefusal : Settings → Run → Step → ℕ
+endRefusal settings run step =
+    if step .found then lineRefusalIn settings (run .network) (step .arrival) else step .refusal
 
 -- A session goes on after an accepted draw or touch alone.
 abbrev pub accepts : Settings → Run → Step → Bool
@@ -126,6 +134,8 @@ pub record LineRight (session : Session) (step : Step) (left : Buffers) (arrival
       ≡ linePiece (session .settings) (runOf (session .settings) arrivals) step
   pub going : answer .session .going
       ≡ accepts (session .settings) (runOf (session .settings) arrivals) step
+  pub refusal : answer .session .refusal
+      ≡ endRefusal (session .settings) (runOf (session .settings) arrivals) step
   pub follows : accepts (session .settings) (runOf (session .settings) arrivals) step ≡ true
       → Follows session step left arrivals (answer .session)
 

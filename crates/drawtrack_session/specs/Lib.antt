@@ -3,4 +3,6 @@ pub mod Limits
 pub mod Begin
 pub mod Advance
 pub mod Course
+pub mod Ending
+pub mod EndingInstances
 pub mod Claims

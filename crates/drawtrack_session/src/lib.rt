@@ -10,6 +10,7 @@ ghost use Rattle.model.specs.Transcript.{beyondProgram};
 ghost use Rattle.drawtrack_steps.specs.Outcome.{buffers};
 ghost use Rattle.drawtrack_session.specs.Begin.{shorterThanLimits, startRefusalOf, freshSession, BeginSays};
 ghost use Rattle.drawtrack_session.specs.Advance.{AdvanceSays};
+ghost use Rattle.drawtrack_session.specs.Ending.{startLine};
 use drawtrack_steps::Moved;
 use drawtrack_steps::Session;
 use model::ARRIVAL_MESSAGES;
@@ -24,6 +25,8 @@ use model::Settings;
 use model::SiteRecord;
 use model::Sites;
 use model::Word;
+use output_words::SETTINGS_LINE;
+use output_words::WHOLE_WORKLIST;
 use worklist_reader::SettingsRead;
 
 // The program's limits: "Its memory serves k up to 4, c up to 100, u up to 1000 and a worklist up
@@ -108,6 +111,20 @@ fn start_refusal(
     NO_REFUSAL
 }
 
+// Which line is refused where `begin` refuses an input: that of the settings; but where these are
+// served, 4 is of the worklist, which is too long.
+pub fn start_line(settings: Settings, refusal: u32) -> usize
+    ensures { λ r. ⌜ r ≡ startLine settings refusal ⌝ }
+{
+    if refusal == MEMORY_TOO_SHORT {
+        if beyond_limits(settings, 0) {
+            return SETTINGS_LINE;
+        }
+        return WHOLE_WORKLIST;
+    }
+    SETTINGS_LINE
+}
+
 // A session before the first line of the worklist, with fresh records.
 fn fresh_session(settings: Settings, at: usize) -> Session
     ensures { λ r. ⌜ r ≡ freshSession settings at ⌝ }
@@ -122,6 +139,7 @@ fn fresh_session(settings: Settings, at: usize) -> Session
     let phase = Phase::Idle;
     Session {
         going: true,
+        refusal: NO_REFUSAL,
         settings: settings,
         sites: Sites {
             records: [site; SITE_RECORDS],

@@ -77,7 +77,7 @@ module _ (session : Session) (memory listBefore listAfter : List ℕ) (listed : 
         → LineWritten (listedLine (take (listed .count) listAfter)) 0 before out₁ p₁
         → LineWritten (endLine (classWord ++ quantileWord (read .quantile))) p₁ out₁ out₂ p₂
         → LineWritten (countedLine messagesWord (session .sites .messages)) p₂ out₂ after p₃
-        → moved ≡ ended session p₃
+        → moved ≡ ended session noRefusal p₃
         → FinishSays session memory listBefore before listAfter after moved
     finish-listed out₁ out₂ p₁ p₂ p₃ first second third moved-is =
         let classLine = endLine (classWord ++ quantileWord (read .quantile)) in
@@ -89,7 +89,7 @@ module _ (session : Session) (memory listBefore listAfter : List ℕ) (listed : 
         ∙ (λ i. linesAfter (atStart before)
         (listedLine (items-are i)
         ∷ (endLine (classWord ++ quantileWord (quantile-is i)) ∷ (countLine ∷ [])))) in
-        let ends = moved-is ∙ ap (λ (w : Written). ended session (w .place)) all in
+        let ends = moved-is ∙ ap (λ (w : Written). ended session noRefusal (w .place)) all in
         record {
           is = λ siteMemory log.
               (λ i. outcome (ends i) (buffers siteMemory memory log (list-is i) (all i .out)))

@@ -20,10 +20,10 @@ joined-messages (message ∷ messages) =
     ap (λ (later : List ℕ). messageLine message ++ later) (joined-messages messages)
 
 pub refused-of : (session : Session) (refusal place : ℕ) (before after : List ℕ) (moved : Moved)
-    → moved ≡ ended session place
+    → moved ≡ ended session refusal place
     → writtenTo place after ≡ lineAfter (atStart before) (refusedLine refusal)
     → (given : Buffers)
     → outcome moved (withOut given after) ≡ refusedOf session refusal (withOut given before)
 refused-of session refusal place before after moved is line given =
-    let moved-is = is ∙ ap (λ (written : Written). ended session (written .place)) line in
+    let moved-is = is ∙ ap (λ (written : Written). ended session refusal (written .place)) line in
     (λ i. outcome (moved-is i) (withOut given (line i .out)))

@@ -166,6 +166,7 @@ module _ (session : Session) (step : Step) (given : Buffers) (answer : BatchHeld
     taken written = record {
       session = record {
         going = true;
+        refusal = noRefusal;
         settings = session .settings;
         sites = answer .held .sites;
         coordinator = answer .held .coordinator;
@@ -192,6 +193,7 @@ module _ (session : Session) (step : Step) (given : Buffers) (answer : BatchHeld
               (record {
                 session = record {
                   going = true;
+                  refusal = noRefusal;
                   settings = session .settings;
                   sites = sites i;
                   coordinator = coordinator i;

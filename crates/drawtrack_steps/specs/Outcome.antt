@@ -4,7 +4,7 @@
 --
 --   Buffers, Outcome                 what a call is lent; its answer, and what it leaves
 --   heldOf session ..                the session's records with both memories
---   ended session written            the session goes on no more
+--   ended session refusal written    the session goes on no more
 --   refusedOf session refusal given  the outcome of a refusal
 --   RefuseSays ..                       the promise of the call that makes it
 use mathlib.Core.Path.{_≡_}
@@ -66,10 +66,11 @@ pub record SameLengths (given left : Buffers) : Type 0 where
 
 -- ---- A refusal
 
--- The session as it was, but it goes on no more.
-abbrev pub stopped : Session → Session
-stopped session = record {
+-- The session as it was, but it goes on no more, by a refusal or by 0.
+abbrev pub stopped : Session → ℕ → Session
+stopped session refusal = record {
   going = false;
+  refusal = refusal;
   settings = session .settings;
   sites = session .sites;
   coordinator = session .coordinator;
@@ -77,14 +78,14 @@ stopped session = record {
   line = session .line;
 }
 
-abbrev pub ended : Session → ℕ → Moved
-ended session written = record { session = stopped session; written = written }
+abbrev pub ended : Session → ℕ → ℕ → Moved
+ended session refusal written = record { session = stopped session refusal; written = written }
 
 -- "On a refusal it writes `refused` and the number .., and stops."
 abbrev pub refusedOf : Session → ℕ → Buffers → Outcome
 refusedOf session refusal given =
     let written = lineAfter (atStart (given .out)) (refusedLine refusal) in
-    outcome (ended session (written .place)) (withOut given (written .out))
+    outcome (ended session refusal (written .place)) (withOut given (written .out))
 
 -- For whatever the call is not lent.
 pub record RefuseSays (session : Session) (refusal : ℕ) (before after : List ℕ) (answer : Moved)

@@ -54,6 +54,7 @@ takenOf session step given =
     (record {
       session = record {
         going = true;
+        refusal = noRefusal;
         settings = session .settings;
         sites = sitesAfter call;
         coordinator = coordinatorRecord (batch .network .coordinator);
@@ -89,7 +90,7 @@ abbrev pub listedOf : Session → Buffers → Outcome
 listedOf session given =
     let coordinator = sessionCoordinator session given in
     let written = linesAfter (atStart (given .out)) (resultLinesOf session coordinator) in
-    outcome (ended session (written .place))
+    outcome (ended session noRefusal (written .place))
     (buffers (given .siteMemory) (given .coordinatorMemory) (given .log)
     (overwrite (heavyHitters (session .settings) coordinator) (given .list)) (written .out))
 

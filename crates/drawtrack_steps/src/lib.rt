@@ -19,10 +19,11 @@ use model::Sites;
 use model::Word;
 use worklist_reader::Step;
 
-// Where a session stands: whether it goes on, the settings, the records of the network, the place
-// of its reader in the input and the number of the line there.
+// Where a session stands: whether it goes on, why it was refused or 0, the settings, the records of
+// the network, the place of its reader in the input and the number of the line there.
 pub struct Session {
     pub going: bool,
+    pub refusal: u32,
     pub settings: Settings,
     pub sites: Sites,
     pub coordinator: CoordinatorRecord,
@@ -52,12 +53,13 @@ fn put_messages(log: &[u64], count: usize, out: &mut [u8]) -> usize
     place
 }
 
-// A session that has ended, after so many bytes.
-fn stop(session: Session, written: usize) -> Moved
-    ensures { λ r. ⌜ r ≡ ended session written ⌝ }
+// A session that has ended, by a refusal or by 0, after so many bytes.
+fn stop(session: Session, refusal: u32, written: usize) -> Moved
+    ensures { λ r. ⌜ r ≡ ended session refusal written ⌝ }
 {
     let mut ended = session;
     ended.going = false;
+    ended.refusal = refusal;
     Moved {
         session: ended,
         written: written,
@@ -69,7 +71,7 @@ pub fn refuse(session: Session, refusal: u32, out: &mut [u8]) -> Moved
     ensures { λ r. ⌜ RefuseSays session refusal (before out) (after out) r ⌝ }
 {
     let written = output_transcript::write_refused(refusal, out, 0);
-    stop(session, written)
+    stop(session, refusal, written)
 }
 
 // Takes the draw of a line: its messages, or why it is refused.
@@ -107,6 +109,7 @@ pub fn take_draw(
     let coordinator_then = answer.coordinator;
     let next = Session {
         going: true,
+        refusal: NO_REFUSAL,
         settings: settings,
         sites: sites_then,
         coordinator: coordinator_then,
@@ -136,5 +139,5 @@ pub fn finish(session: Session, memory: &[u64], list: &mut [u32], out: &mut [u8]
     let quantile = read.quantile;
     let after_class = output_transcript::write_class(quantile, out, after_list);
     let written = output_transcript::write_count(session.sites.messages, out, after_class);
-    stop(session, written)
+    stop(session, NO_REFUSAL, written)
 }

@@ -1,7 +1,7 @@
 // Lines of words and numbers, written into a lent buffer from a place on. Each call answers the
 // place after its line; where the line doesn't fit, nothing is written and the answer is the place
-// that was given. The functions named `put` ask for the room and are this crate's own; those named
-// `write` test for it.
+// that was given. The functions named `write` test for the room; those named `put` ask for it and
+// are internal: this crate's own, and two of them `output_words`'s.
 
 ghost use Rattle.model.specs.Lent.{before, after};
 ghost use mathlib.Core.Path.{_≡_};
@@ -34,8 +34,8 @@ fn spaced_length(n: u64) -> usize
     count_decimal(n) + 1
 }
 
-// Copies bytes from a place on, where they fit.
-fn put_text(text: &[u8], out: &mut [u8], at: usize) -> usize
+// Copies bytes from a place on, where they fit. Internal.
+pub fn put_text(text: &[u8], out: &mut [u8], at: usize) -> usize
     requires { ⌜ at + length (now text) ≤ length (now out) ⌝ }
     ensures { λ r. ⌜ Put (before text) at (before out) (after out) r ⌝ }
 {
@@ -47,8 +47,8 @@ fn put_text(text: &[u8], out: &mut [u8], at: usize) -> usize
     at + done
 }
 
-// Writes a number with a space before it, where they fit.
-fn put_spaced(n: u64, out: &mut [u8], at: usize) -> usize
+// Writes a number with a space before it, where they fit. Internal.
+pub fn put_spaced(n: u64, out: &mut [u8], at: usize) -> usize
     requires { ⌜ at + length (space ∷ decimal n) ≤ length (now out) ⌝ }
     ensures { λ r. ⌜ Put (space ∷ decimal n) at (before out) (after out) r ⌝ }
 {

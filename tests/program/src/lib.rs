@@ -3,6 +3,8 @@
 #[path = "../../reference/tests/support/touches.rs"]
 mod touches;
 
+pub mod reason;
+
 use std::io::Write;
 use std::path::{Path, PathBuf};
 use std::process::{Command, Stdio};
@@ -41,18 +43,41 @@ impl Random {
     }
 }
 
-/// Where the gate leaves the built program.
-pub fn built_program() -> PathBuf {
-    Path::new(env!("CARGO_MANIFEST_DIR")).join("../../target/bin/drawtrack")
+fn below_root(path: &str) -> PathBuf {
+    Path::new(env!("CARGO_MANIFEST_DIR")).join("../..").join(path)
 }
 
-/// What the built program writes for this input.
+/// Where the gate leaves the proved program, which has no exit status.
+pub fn proved_program() -> PathBuf {
+    below_root("target/bin/drawtrack")
+}
+
+/// Where library/drawtrack/build.sh leaves the same run under a `main` of C.
+pub fn program_with_status() -> PathBuf {
+    below_root("target/library/drawtrack")
+}
+
+/// What a program wrote, and its exit status.
+#[derive(Debug, PartialEq)]
+pub struct Answer {
+    pub written: Vec<u8>,
+    pub said: String,
+    pub status: i32,
+}
+
+/// What the proved program writes for this input.
 pub fn run_program(input: &[u8]) -> Vec<u8> {
-    let mut child = Command::new(built_program())
+    run(&proved_program(), input).written
+}
+
+/// What a program answers for this input.
+pub fn run(program: &Path, input: &[u8]) -> Answer {
+    let mut child = Command::new(program)
         .stdin(Stdio::piped())
         .stdout(Stdio::piped())
+        .stderr(Stdio::piped())
         .spawn()
-        .expect("rt check drawtrack has built the program");
+        .expect("rt check drawtrack and library/drawtrack/build.sh have built the programs");
     let mut stdin = child.stdin.take().expect("its input is a pipe");
     let bytes = input.to_vec();
     // The program reads no more than it needs, so a longer input may meet a closed pipe.
@@ -61,8 +86,11 @@ pub fn run_program(input: &[u8]) -> Vec<u8> {
     });
     let output = child.wait_with_output().expect("it ends");
     writer.join().expect("the writer ends");
-    assert!(output.status.success(), "it never traps: {:?}", output.status);
-    output.stdout
+    Answer {
+        written: output.stdout,
+        said: String::from_utf8(output.stderr).expect("it says text"),
+        status: output.status.code().expect("it never traps"),
+    }
 }
 
 /// Settings that pass and that the program serves.

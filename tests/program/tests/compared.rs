@@ -1,7 +1,9 @@
-//! The built program `drawtrack` against the separate implementation, byte for byte, on inputs of
-//! every sort. PROGRAM_INPUTS and PROGRAM_SEED ask for more of them, and for others.
+//! The built programs, proved and with an exit status, against the separate implementation, byte
+//! for byte, on inputs of every sort. PROGRAM_INPUTS and PROGRAM_SEED ask for more of them, and for
+//! others.
 
-use program::{input, run_program, Random};
+use program::reason::reason;
+use program::{input, program_with_status, proved_program, run, run_program, Answer, Random};
 use reference::drawtrack::transcript;
 
 fn number(name: &str, otherwise: u64) -> u64 {
@@ -14,15 +16,14 @@ fn same_transcript() {
     let mut random = Random::new(seed);
     for sort in 0..number("PROGRAM_INPUTS", 320) {
         let bytes = input(&mut random, sort);
-        let expected = transcript(&bytes);
-        let written = run_program(&bytes);
-        assert!(
-            written == expected,
-            "seed {seed}, input {sort}: {:?}\nprogram: {}\nreference: {}",
-            String::from_utf8_lossy(&bytes),
-            String::from_utf8_lossy(&written),
-            String::from_utf8_lossy(&expected)
-        );
+        let said = reason(&bytes);
+        let status = i32::from(!said.is_empty());
+        let expected = Answer { written: transcript(&bytes), said, status };
+        let answer = run(&program_with_status(), &bytes);
+        let text = String::from_utf8_lossy(&bytes).into_owned();
+        assert_eq!(answer, expected, "seed {seed}, input {sort}: {text:?}");
+        let proved = run(&proved_program(), &bytes);
+        assert_eq!(proved, Answer { status: 0, ..expected }, "seed {seed}, input {sort}: {text:?}");
     }
 }
 

@@ -1,8 +1,9 @@
 -- Laws of the program's transcript, and the theorem on every input: its first 8241 bytes decide it.
 --
---   transcript-malformed, -settings   the transcript by its settings line
---   transcript-with-refused, -accepted   and by what the program refuses before any arrival
---   transcript-with-long              a worklist of more than 8192 bytes is refused unread
+--   transcript-with-refused           the transcript of what is refused before any arrival
+--   refusal-long, -some               a worklist of more than 8192 bytes is refused unread
+--   input-decides                     the first bytes decide whatever the settings line and the
+--                                     first bytes of the worklist do
 --   transcript-claims                 the theorem (specs/TranscriptClaims.antt)
 use mathlib.Core.Path.{_≡_, refl, sym, ap, _∙_}
 use mathlib.Core.Bool.{Bool, true, false, or-true}
@@ -22,18 +23,6 @@ use Rattle.model.specs.Runs.{freshRun}
 use Rattle.model.specs.Transcript.{transcript, transcriptOf, transcriptWith, transcriptFrom, beyondProgram, programRefusal, refusedLine}
 use Rattle.model.specs.TranscriptClaims.{TranscriptClaims}
 use Rattle.model.proofs.Worklists.LineTaken.{FieldsTaken, fields-taken}
-
--- ---- By the settings line
-
-pub transcript-malformed : (input : List ℕ)
-    → readFields 6 input ≡ malformed
-    → transcript input ≡ refusedLine malformedLine
-transcript-malformed input bad = ap transcriptOf bad
-
-pub transcript-settings : (input numbers worklist : List ℕ)
-    → readFields 6 input ≡ fields numbers worklist
-    → transcript input ≡ transcriptWith (settingsOf numbers) worklist
-transcript-settings input numbers worklist here = ap transcriptOf here
 
 -- ---- By the program's refusal
 
@@ -58,20 +47,28 @@ transcript-with-refused settings worklist refusal is some =
 abbrev pub lengthRefusal : Settings → ℕ
 lengthRefusal settings = settingsRefusal settings orElse memoryTooShort
 
-length-refusal-some : (first : ℕ) → 0 < (first orElse memoryTooShort)
-length-refusal-some zero = omega arith
-length-refusal-some (suc first) = omega arith
+pub refusal-some : (settings : Settings) → 0 < lengthRefusal settings
+refusal-some settings = by-first (settingsRefusal settings)
+  where
+    by-first : (first : ℕ) → 0 < (first orElse memoryTooShort)
+    by-first zero = omega arith
+    by-first (suc first) = omega arith
 
-pub transcript-with-long : (settings : Settings) (worklist : List ℕ)
+pub refusal-long : (settings : Settings) (worklist : List ℕ)
+    → 8192 < length worklist
+    → programRefusal settings worklist ≡ lengthRefusal settings
+refusal-long settings worklist long =
+    let beyond : beyondProgram settings (length worklist) ≡ true
+    = simp (lt-ltb 8192 (length worklist) long, or-true) in
+    ap (λ (test : Bool). settingsRefusal settings orElse when test memoryTooShort orElse noRefusal)
+    beyond
+
+transcript-with-long : (settings : Settings) (worklist : List ℕ)
     → 8192 < length worklist
     → transcriptWith settings worklist ≡ refusedLine (lengthRefusal settings)
 transcript-with-long settings worklist long =
-    let beyond : beyondProgram settings (length worklist) ≡ true
-    = simp (lt-ltb 8192 (length worklist) long, or-true) in
     transcript-with-refused settings worklist (lengthRefusal settings)
-    (ap (λ (test : Bool). settingsRefusal settings orElse when test memoryTooShort orElse noRefusal)
-    beyond)
-    (length-refusal-some (settingsRefusal settings))
+    (refusal-long settings worklist long) (refusal-some settings)
 
 -- Two worklists of which one is the other's first 8193 bytes or more.
 transcript-with-take : (settings : Settings) (worklist : List ℕ) (most : ℕ)
@@ -91,10 +88,11 @@ transcript-with-take settings worklist most enough = by-length (decLe (length wo
 
 module _ (most : ℕ) (input : List ℕ) (enough : 8241 ≤ most) where
   -- The settings line stands within the first bytes: they read it too.
-  settings-of-front : (numbers worklist : List ℕ)
-      → FieldsTaken lineFeed 6 input numbers worklist
-      → transcript (take most input) ≡ transcriptWith (settingsOf numbers) worklist
-  settings-of-front numbers worklist taken =
+  front-reads : (numbers worklist : List ℕ)
+      → (taken : FieldsTaken lineFeed 6 input numbers worklist)
+      → readFields 6 (take most input)
+      ≡ fields numbers (take (most - length (taken .front)) worklist)
+  front-reads numbers worklist taken =
       let line = taken .front in
       let left = most - length line in
       let both : most ≡ length line + left = omega (arith, taken .at-most) in
@@ -102,9 +100,7 @@ module _ (most : ℕ) (input : List ℕ) (enough : 8241 ≤ most) where
       = ap (take most) (taken .splits)
       ∙ ap (λ (n : ℕ). take n (line ++ worklist)) both
       ∙ take-append-add line worklist left in
-      transcript-settings (take most input) numbers (take left worklist)
-      (ap (readFields 6) front ∙ taken .reads (take left worklist))
-      ∙ transcript-with-take (settingsOf numbers) worklist left (omega (arith, taken .at-most))
+      ap (readFields 6) front ∙ taken .reads (take left worklist)
 
   -- What the first bytes read, the whole input reads.
   settings-of-whole : (numbers rest : List ℕ)
@@ -129,18 +125,25 @@ module _ (most : ℕ) (input : List ℕ) (enough : 8241 ≤ most) where
           let never : _≡_ {A = ℕ} 0 1 = cc in
           absurd (omega arith)
 
-  input-enough-of : transcript (take most input) ≡ transcript input
-  input-enough-of = by-settings (readFields 6 input) refl
+  -- An answer by the settings line and what follows it: if of the worklist 8193 bytes decide it, so
+  -- do these bytes of the input.
+  pub input-decides : {A : Type 0} (answer : Fields → A)
+      → ((numbers worklist : List ℕ) (left : ℕ)
+      → 8193 ≤ left
+      → answer (fields numbers (take left worklist)) ≡ answer (fields numbers worklist))
+      → answer (readFields 6 (take most input)) ≡ answer (readFields 6 input)
+  input-decides {A} answer decides = by-settings (readFields 6 input) refl
     where
       by-settings : (found : Fields)
           → readFields 6 input ≡ found
-          → transcript (take most input) ≡ transcript input
-      by-settings malformed bad =
-          transcript-malformed (take most input) (malformed-of-front bad)
-          ∙ sym (transcript-malformed input bad)
+          → answer (readFields 6 (take most input)) ≡ answer (readFields 6 input)
+      by-settings malformed bad = ap answer (malformed-of-front bad ∙ sym bad)
       by-settings (fields numbers worklist) here =
-          settings-of-front numbers worklist (fields-taken lineFeed 6 input numbers worklist here)
-          ∙ sym (transcript-settings input numbers worklist here)
+          let taken = fields-taken lineFeed 6 input numbers worklist here in
+          ap answer (front-reads numbers worklist taken)
+          ∙ decides numbers worklist (most - length (taken .front))
+          (omega (arith, taken .at-most))
+          ∙ sym (ap answer here)
 
 -- ---- The theorem
 
@@ -154,5 +157,7 @@ settings-length-of input numbers worklist here =
 pub transcript-claims : TranscriptClaims
 transcript-claims = record {
   settings-length = settings-length-of;
-  input-enough = λ most input enough. input-enough-of most input (omega arith);
+  input-enough = λ most input enough.
+      input-decides most input (omega arith) transcriptOf
+      (λ numbers. transcript-with-take (settingsOf numbers));
 }

@@ -1,2 +1,0 @@
--- The program's loop ends.
-pub mod ServingLaws

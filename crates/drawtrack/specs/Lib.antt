@@ -1,2 +1,0 @@
--- What the program's loop is lent, and where it stands.
-pub mod Serving

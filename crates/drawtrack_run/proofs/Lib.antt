@@ -1,0 +1,3 @@
+-- The loop over a session's calls ends, and the responses to an input.
+pub mod ServingLaws
+pub mod RespondLaws

@@ -1,0 +1,23 @@
+-- Reading and writing descriptors: the counts. No contract of the C functions speaks of a byte.
+--
+--   ReadSomeSays at before after transfer     one read into lent bytes from a place on
+--   WriteSomeSays at bytes transfer           one write of bytes from a place on
+--   ReadAllSays after read                    a whole reading
+use mathlib.Core.Path.{_≡_}
+use mathlib.Core.List.{List}
+use Prim.Native.Nat.{ℕ, _+_, _≤_}
+use lib.ListN.{length, take}
+use Rattle.drawtrack_run.specs.declared.descriptors.Transfer.{Transfer}
+use Rattle.drawtrack_run.specs.declared.descriptors.Read.{Read}
+
+-- What was read before stays; what is new fits.
+pub record ReadSomeSays (at : ℕ) (before after : List ℕ) (transfer : Transfer) : Type 0 where
+  pub fits : at + transfer .moved ≤ length after
+  pub front : take at after ≡ take at before
+
+pub record WriteSomeSays (at : ℕ) (bytes : List ℕ) (transfer : Transfer) : Type 0 where
+  pub fits : at + transfer .moved ≤ length bytes
+
+-- What was read stands in the first of the lent bytes.
+pub record ReadAllSays (after : List ℕ) (read : Read) : Type 0 where
+  pub fits : read .length ≤ length after

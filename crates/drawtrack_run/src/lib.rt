@@ -1,0 +1,219 @@
+// The run of the program `drawtrack`: it reads its input to the end, or as many bytes of it as
+// matter, writes to standard output what the calls of a session write, and says on standard error
+// where and why the input is refused, or what failed. The one library that stands on the kit's io,
+// os and libc: the contracts of the C functions that read and write are assumed, and speak of how
+// many bytes were moved and of no byte. So what is proved is what the run does with the bytes that
+// it read, and which bytes it hands to the writing calls; that these are the bytes of the
+// descriptors is tested (tests/program).
+mod descriptors;
+
+ghost use Rattle.model.specs.Lent.{before, after};
+ghost use mathlib.Core.Path.{_≡_};
+ghost use Prim.Native.Nat.{_≤_};
+ghost use lib.ListN.{length};
+ghost use Rattle.drawtrack_steps.specs.Outcome.{buffers};
+ghost use Rattle.drawtrack_session.specs.Limits.{inputRoom};
+ghost use Rattle.output_words.specs.Words.{reasonRoom};
+ghost use Rattle.drawtrack_run.specs.Descriptors.{ReadAllSays};
+ghost use Rattle.drawtrack_run.specs.Serving.{ServeAsks, ServeSays, stoppedOf};
+ghost use Rattle.drawtrack_run.specs.Responding.{RespondAsks, RespondSays, RunSays};
+use descriptors::Read;
+use descriptors::read_all;
+use descriptors::write_all;
+use drawtrack_session::SESSION_COORDINATOR_NUMBERS;
+use drawtrack_session::SESSION_INPUT_BYTES;
+use drawtrack_session::SESSION_LIST_PLACES;
+use drawtrack_session::SESSION_LOG_NUMBERS;
+use drawtrack_session::SESSION_OUT_BYTES;
+use drawtrack_session::SESSION_SITE_NUMBERS;
+use drawtrack_steps::Session;
+use libc::STDERR_FILENO;
+use libc::STDOUT_FILENO;
+use model::NO_REFUSAL;
+use model::Word;
+use output_words::REASON_BYTES;
+
+// What the run answers: results, a refusal, or that reading or writing failed.
+pub const STATUS_RESULTS: u32 = 0;
+
+pub const STATUS_REFUSED: u32 = 1;
+
+pub const STATUS_FAILED: u32 = 2;
+
+// What came of the calls of a session: whether every write was taken, the refusal or 0, and the
+// line of the input at which it ended.
+pub struct Stopped {
+    pub taken: bool,
+    pub refusal: u32,
+    pub line: usize,
+}
+
+// What the run answers, whether anything failed, and how many bytes of the reason it wrote.
+pub struct Response {
+    pub failed: bool,
+    pub status: u32,
+    pub said: usize,
+}
+
+// Reads the input; where that fails says so.
+fn take_in(input: i32, bytes: &mut [u8]) -> Read
+    ensures { λ r. ⌜ ReadAllSays (after bytes) r ⌝ }
+{
+    let read = read_all(input, bytes);
+    if read.whole {
+        return read;
+    }
+    os::fail(b"drawtrack: input failed");
+    read
+}
+
+// Writes the bytes that a call wrote to standard output; where that fails says so, and answers
+// false.
+fn hand_out(written: usize, out: &[u8]) -> bool
+    requires { ⌜ written ≤ length (now out) ⌝ }
+{
+    if write_all(STDOUT_FILENO, &out[..written]) {
+        return true;
+    }
+    os::fail(b"drawtrack: output failed");
+    false
+}
+
+// What came of a session that stopped after so many calls of `advance`.
+fn stopped_at(taken: bool, session: Session, turns: usize) -> Stopped
+    requires { ⌜ turns ≤ inputRoom ⌝ }
+    ensures { λ r. ⌜ r ≡ stoppedOf taken session turns ⌝ }
+{
+    if turns == 0 {
+        let settings = session.settings;
+        return Stopped {
+            taken: taken,
+            refusal: session.refusal,
+            line: drawtrack_session::start_line(settings, session.refusal),
+        };
+    }
+    Stopped {
+        taken: taken,
+        refusal: session.refusal,
+        line: turns + 1,
+    }
+}
+
+// A call for each line, until the session has ended or a write was not taken; what each wrote is
+// handed out. Each line after which it goes on takes six bytes or more, so it ends long before the
+// turns do. The calls make a course of the session, and their bytes, one after the other, are the
+// transcript of the input; where a write was not taken, its front.
+fn serve(
+    input: &[u8],
+    site_memory: &mut [Word],
+    coordinator_memory: &mut [u64],
+    log: &mut [u64],
+    list: &mut [u32],
+    out: &mut [u8],
+) -> Stopped
+    requires { ⌜ ServeAsks (now input) (buffers (now «site_memory») (now «coordinator_memory»)
+        (now log)
+        (now list) (now out)) ⌝ }
+    ensures { λ r. ⌜ ServeSays (before input)
+        (buffers (before «site_memory») (before «coordinator_memory») (before log)
+        (before list) (before out)) (buffers (after «site_memory»)
+        (after «coordinator_memory») (after log) (after list) (after out))
+        r ⌝ }
+{
+    let first = drawtrack_session::begin(input, site_memory, coordinator_memory, out);
+    let mut taken = hand_out(first.written, out);
+    let mut session = first.session;
+    let mut turns: usize = 0;
+    while taken && session.going && turns < SESSION_INPUT_BYTES {
+        let moved = drawtrack_session::advance(
+            session,
+            input,
+            site_memory,
+            coordinator_memory,
+            log,
+            list,
+            out,
+        );
+        taken = hand_out(moved.written, out);
+        session = moved.session;
+        turns += 1;
+    }
+    stopped_at(taken, session, turns)
+}
+
+// The response to an input, if all of it was read: the session's calls, handed out, and the reason
+// of a refusal in the lent bytes. An input that was not read to its end gives no results: nothing
+// is handed out, and all that was lent is as it was.
+fn respond(
+    read: bool,
+    input: &[u8],
+    site_memory: &mut [Word],
+    coordinator_memory: &mut [u64],
+    log: &mut [u64],
+    list: &mut [u32],
+    out: &mut [u8],
+    reason: &mut [u8],
+) -> Response
+    requires { ⌜ RespondAsks (now input) (buffers (now «site_memory») (now «coordinator_memory»)
+        (now log)
+        (now list) (now out)) (now reason) ⌝ }
+    ensures { λ r. ⌜ RespondSays read (before input)
+        (buffers (before «site_memory») (before «coordinator_memory») (before log)
+        (before list) (before out)) (buffers (after «site_memory»)
+        (after «coordinator_memory») (after log) (after list) (after out))
+        (before reason) (after reason) r ⌝ }
+{
+    if read {
+        let ended = serve(input, site_memory, coordinator_memory, log, list, out);
+        if ended.taken {
+            if ended.refusal == NO_REFUSAL {
+                return Response {
+                    failed: false,
+                    status: STATUS_RESULTS,
+                    said: 0,
+                };
+            }
+            return Response {
+                failed: false,
+                status: STATUS_REFUSED,
+                said: output_words::write_reason(ended.line, ended.refusal, reason),
+            };
+        }
+    }
+    Response {
+        failed: true,
+        status: STATUS_FAILED,
+        said: 0,
+    }
+}
+
+// Runs `drawtrack` on a descriptor that is open for reading: the memory for the program's limits,
+// one reading of the input, and the response to it. Answers 0 after results, 1 after a refusal, and
+// 2 where reading or writing failed, which standard error then says.
+#[no_mangle]
+pub extern "C" fn drawtrack_run(input: i32) -> u32
+    ensures { λ r. ⌜ RunSays r ⌝ }
+{
+    let mut bytes = [0u8; SESSION_INPUT_BYTES];
+    let mut site_memory: [Word; SESSION_SITE_NUMBERS] = [0; SESSION_SITE_NUMBERS];
+    let mut coordinator_memory = [0u64; SESSION_COORDINATOR_NUMBERS];
+    let mut log = [0u64; SESSION_LOG_NUMBERS];
+    let mut list = [0u32; SESSION_LIST_PLACES];
+    let mut out = [0u8; SESSION_OUT_BYTES];
+    let mut reason = [0u8; REASON_BYTES];
+    let read = take_in(input, &mut bytes);
+    let length = read.length;
+    let response = respond(
+        read.whole,
+        &bytes[..length],
+        &mut site_memory,
+        &mut coordinator_memory,
+        &mut log,
+        &mut list,
+        &mut out,
+        &mut reason,
+    );
+    let said = response.said;
+    write_all(STDERR_FILENO, &reason[..said]);
+    response.status
+}

@@ -1,0 +1,5 @@
+-- The library's calls as a history.
+pub mod Bench
+pub mod Calls
+pub mod Used
+pub mod Claims

@@ -10,3 +10,5 @@ pub mod DeskCalls
 pub mod Starts
 pub mod Runs
 pub mod Deliveries
+pub mod Readings
+pub mod Theorem

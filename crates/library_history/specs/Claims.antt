@@ -1,14 +1,20 @@
--- What a caller does with the library is a history of calls.
+-- What a caller does with the library is a history of calls, so that all that crate `history`
+-- demands of every history holds of it.
 --
---   AsHistory settings bench state    the state is that of a history, and the bench holds it
+--   AsHistory settings bench state        the state is that of a history, and the bench holds it
+--   Demanded settings state reachable     crate `history`'s demands of one state
+--   UseClaims                             both, and what is read, of all that callers do
 use mathlib.Core.Path.{_≡_}
 use Prim.Native.Nat.{ℕ}
 use lib.ListN.{length}
 use Rattle.model.specs.declared.Settings.{Settings}
 use Rattle.record_numbers.specs.Numbers.{sitesWidth}
-use Rattle.history.specs.State.{State}
-use Rattle.history.specs.Histories.{Reachable}
+use Rattle.history.specs.State.{State, AtRest}
+use Rattle.history.specs.Histories.{Reachable, heldAtStart}
+use Rattle.history.specs.Demands.{First, Second, Whole, Third, Dropped, LeftOut, givenIn, AsGiven}
 use Rattle.library_history.specs.Bench.{Bench, heldIn}
+use Rattle.library_history.specs.Used.{Used}
+use Rattle.library_history.specs.Reading.{ReadsRight}
 
 -- The numbers of the desk's row.
 abbrev pub deskWidth : ℕ
@@ -20,3 +26,26 @@ pub record AsHistory (settings : Settings) (bench : Bench) (state : State) : Typ
   -- the rows are as long as C has them
   pub decks-long : length (bench .decks) ≡ sitesWidth
   pub desk-long : length (bench .desk) ≡ deskWidth
+
+-- Each of `Demands` that speaks of a state and the history that reaches it.
+pub record Demanded (settings : Settings) (state : State) (reachable : Reachable settings state)
+    : Type 0 where
+  pub first : First settings state
+  pub second : Second settings state
+  pub whole : Whole settings (heldAtStart reachable) state
+  pub third : Third settings state
+  pub dropped : Dropped settings state
+  pub touches : LeftOut settings reachable
+  pub given : AsGiven settings (givenIn reachable) state
+
+pub record UseClaims : Type 0 where
+  pub as-history : (settings : Settings) (bench : Bench) (state : State)
+      → Used settings bench state
+      → AsHistory settings bench state
+  pub demanded : (settings : Settings) (bench : Bench) (state : State)
+      → (used : Used settings bench state)
+      → Demanded settings state (as-history settings bench state used .reachable)
+  pub reads-right : (settings : Settings) (bench : Bench) (state : State)
+      → Used settings bench state
+      → AtRest state
+      → ReadsRight settings bench state

@@ -2,4 +2,5 @@
 pub mod Bench
 pub mod Calls
 pub mod Used
+pub mod Reading
 pub mod Claims

@@ -3,9 +3,9 @@
 --   to-deck-history         the head of the queue, accepted
 --   deck-refused-history    refused
 --   deck-message-long       the decks' row stays as long as it was
-use mathlib.Core.Path.{_≡_, refl, sym, ap, _∙_, subst}
-use mathlib.Core.Bool.{true, false}
-use mathlib.Core.List.{List, _∷_, [], _++_}
+use mathlib.Core.Path.{_≡_, sym, ap, _∙_, subst}
+use mathlib.Core.Bool.{false}
+use mathlib.Core.List.{List, _∷_}
 use Prim.Native.Nat.{ℕ, _-_}
 use native.Mathlib.Omega.{arith}
 use native.Mathlib.Decide.{ℕ-discrete}
@@ -18,7 +18,7 @@ use Rattle.model.specs.Refusals.{when, noRefusal, unknownSite}
 use Rattle.model.specs.SiteMemory.{siteMemoryRefusal, siteIn}
 use Rattle.model.proofs.Thresholds.RefusalLaws.{both-accepted}
 use Rattle.record_numbers.specs.Numbers.{sitesWidth, settingsFrom, messageRead, messageFrom, sitesFrom}
-use Rattle.site.specs.Calls.{SiteReceiveSays, receiveRefusal}
+use Rattle.site.specs.Calls.{SiteReceiveSays}
 use Rattle.history.specs.State.{Held, State, recordAt, partOf, siteStart, afterSiteCall, holding, sending}
 use Rattle.history.specs.Histories.{answeredOut, to-site, site-message-refused, delivers, refuses, Reachable, stepped}
 use Rattle.history.proofs.Answers.{accepted-choice, refused-choice}
@@ -37,7 +37,8 @@ module _ {bench : Bench} (call : DeckMessageCall bench)
   m = messageRead (call .message .before)
 
   abbrev named : ℕ
-  named = namedRefusal (call .settings) (unchanged (take (call .lent) (bench .deckMemory))) (m .site)
+  named =
+      namedRefusal (call .settings) (unchanged (take (call .lent) (bench .deckMemory))) (m .site)
 
   -- ---- The site's call
 

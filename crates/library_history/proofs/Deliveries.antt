@@ -5,13 +5,10 @@
 --   delivered-decks-long, delivered-desk-long      the rows stay as long as they were
 use mathlib.Core.Path.{_≡_, refl, sym, ap, _∙_, subst}
 use mathlib.Core.Bool.{true, false}
-use mathlib.Core.List.{List, [], _∷_, _++_}
 use Prim.Native.Nat.{ℕ}
 use lib.ListN.{length}
 use Rattle.model.specs.declared.Settings.{Settings}
 use Rattle.model.specs.declared.Arrival.{Arrival}
-use Rattle.model.specs.declared.Sites.{Sites}
-use Rattle.model.specs.declared.CoordinatorRecord.{CoordinatorRecord}
 use Rattle.model.specs.Refusals.{noRefusal}
 use Rattle.model.specs.Draws.{isDraw}
 use Rattle.model.specs.Held.{networkOf}
@@ -98,7 +95,8 @@ module _ {bench : Bench} (call : DeliverCall bench) where
       handed coordinatorRead (coordinatorNumbers (done .coordinator)) (done .coordinator)
       (bench .desk) (call .left .desk) (done .refusal) (call .says .rows .desk-is)
       (λ none. subst
-      (λ (held : Held). coordinatorRead (coordinatorNumbers (held .coordinator)) ≡ held .coordinator)
+      (λ (held : Held).
+      coordinatorRead (coordinatorNumbers (held .coordinator)) ≡ held .coordinator)
       held-is (coordinator-own state reachable))
       (λ refused. ap (λ (held : Held). held .coordinator) (stays refused)) in
       λ i. heldBy (sites i) (coordinator i) (call .left .deckMemory) (call .left .deskMemory)

@@ -4,12 +4,12 @@
 --   to-desk-history, desk-refused-history             a message
 --   announced-history, not-announced-history          the next kind 7
 --   desk-message-long, announcement-long              the desk's row stays as long as it was
-use mathlib.Core.Path.{_≡_, refl, sym, ap, _∙_, subst}
+use mathlib.Core.Path.{_≡_, sym, ap, _∙_, subst}
 use mathlib.Core.Bool.{true}
-use mathlib.Core.List.{List, _∷_, [], _++_}
-use Prim.Native.Nat.{ℕ, _≤_}
+use mathlib.Core.List.{List, _∷_}
+use Prim.Native.Nat.{ℕ}
 use native.Mathlib.Omega.{arith}
-use lib.ListN.{length, take}
+use lib.ListN.{length}
 use Rattle.model.specs.declared.Settings.{Settings}
 use Rattle.model.specs.declared.Message.{Message}
 use Rattle.model.specs.declared.CoordinatorRecord.{CoordinatorRecord}
@@ -18,10 +18,11 @@ use Rattle.model.specs.CoordinatorMemory.{coordinatorIn, coordinatorMemoryRefus
 use Rattle.model.proofs.Thresholds.RefusalLaws.{both-accepted}
 use Rattle.model.proofs.Thresholds.SettingsLaws.{settled}
 use Rattle.record_numbers.specs.Numbers.{settingsFrom, messageRead, messageFrom, coordinatorRead, coordinatorNumbers}
-use Rattle.history.specs.State.{Held, State, coordinatorPart, withPart, afterCoordinatorCall, holding, sending}
-use Rattle.history.specs.Histories.{receivedOut, to-coordinator, next-announcement, coordinator-message-refused, announcement-refused, Delivers, Refuses, delivers, refuses, Reachable, stepped}
+use Rattle.history.specs.State.{State, coordinatorPart, afterCoordinatorCall, holding, sending}
+use Rattle.history.specs.Histories.{receivedOut, to-coordinator, next-announcement, coordinator-message-refused, announcement-refused, delivers, refuses, Reachable, stepped}
 use Rattle.history.proofs.Answers.{accepted-choice, refused-choice}
-use Rattle.library_rows.specs.Rows.{Row, Number}
+use Rattle.coordinator.specs.declared.Received.{Received}
+use Rattle.library_rows.specs.Rows.{Number, handedOut}
 use Rattle.library_history.specs.Bench.{Bench, heldIn, withFront}
 use Rattle.library_history.specs.Calls.{outOf, DeskMessageCall, afterDeskMessage, AnnouncementCall, afterAnnouncement}
 use Rattle.library_history.specs.Claims.{deskWidth}
@@ -29,9 +30,34 @@ use Rattle.library_history.proofs.Messages.{one-out, read-whole, Known,
 use Rattle.library_history.proofs.OwnRows.{coordinator-own}
 use Rattle.library_history.proofs.RecordRows.{handed, stays-long, length-coordinatorNumbers}
 
--- What is held, with another record of the desk.
-abbrev withRead : Held → List ℕ → List ℕ → Held
-withRead held desk memory = afterCoordinatorCall held (coordinatorRead desk) memory
+-- ---- The desk's row
+
+-- After a call that hands back a coordinator's answer.
+module _ (desk deskThen : List ℕ) (answer : Received)
+    (are : deskThen
+    ≡ handedOut (answer .refusal) (coordinatorNumbers (answer .coordinator)) desk) where
+  abbrev Reads : Type 0
+  Reads = coordinatorRead deskThen ≡ answer .coordinator
+
+  row-accepted : answer .refusal ≡ noRefusal
+      → coordinatorRead (coordinatorNumbers (answer .coordinator)) ≡ answer .coordinator
+      → Reads
+  row-accepted accepted own =
+      handed coordinatorRead (coordinatorNumbers (answer .coordinator)) (answer .coordinator) desk
+      deskThen (answer .refusal) are (λ none. own) (λ no. absurd (no accepted))
+
+  row-refused : (answer .refusal ≡ noRefusal → ⊥)
+      → answer .coordinator ≡ coordinatorRead desk
+      → Reads
+  row-refused refused same =
+      handed coordinatorRead (coordinatorNumbers (answer .coordinator)) (answer .coordinator) desk
+      deskThen (answer .refusal) are (λ none. absurd (refused none)) (λ no. same)
+
+  row-long : length desk ≡ deskWidth → length deskThen ≡ deskWidth
+  row-long =
+      stays-long coordinatorRead (coordinatorNumbers (answer .coordinator)) (answer .coordinator)
+      desk deskThen (answer .refusal) are deskWidth
+      (length-coordinatorNumbers (answer .coordinator))
 
 -- ---- A message
 
@@ -46,11 +72,8 @@ module _ {bench : Bench} (call : DeskMessageCall bench) where
   left = withFront (bench .deskMemory) (call .memory)
 
   pub desk-message-long : length (bench .desk) ≡ deskWidth → length (call .desk) ≡ deskWidth
-  desk-message-long long =
-      let own = coordinatorNumbers (call .says .received .coordinator) in
-      stays-long coordinatorRead own (coordinatorRead own) (bench .desk) (call .desk)
-      (call .says .received .refusal) (call .says .desk-is) deskWidth
-      (length-coordinatorNumbers (call .says .received .coordinator)) long
+  desk-message-long =
+      row-long (bench .desk) (call .desk) (call .says .received) (call .says .desk-is)
 
   module _ (state : State) where
     abbrev at : State
@@ -64,11 +87,8 @@ module _ {bench : Bench} (call : DeskMessageCall bench) where
         let answer = call .says .received in
         let no : answer .refusal ≡ noRefusal → ⊥ =
         λ accepts. refused (call .says .refusal ∙ accepts) in
-        let desk-is : coordinatorRead (call .desk) ≡ answer .coordinator =
-        handed coordinatorRead (coordinatorNumbers (answer .coordinator)) (answer .coordinator)
-        (bench .desk) (call .desk) (answer .refusal) (call .says .desk-is)
-        (λ none. absurd (no none))
-        (λ still. call .says .says .answer .coordinator
+        let desk-is = row-refused (bench .desk) (call .desk) answer (call .says .desk-is) no
+        (call .says .says .answer .coordinator
         ∙ refused-choice _ _ _ (λ none. no (call .says .says .refusal ∙ none))) in
         subst (λ (c : CoordinatorRecord).
         Reachable settings (holding state (afterCoordinatorCall (heldIn bench) c left)))
@@ -109,12 +129,11 @@ module _ {bench : Bench} (call : DeskMessageCall bench) where
         stepped at next reachable
         (delivers (to-coordinator m later (call .memory .count) (call .memory .left) answer head
         (known .way-is) (call .says .says) accepted)) in
-        let desk-is : coordinatorRead (call .desk) ≡ answer .coordinator =
-        handed coordinatorRead (coordinatorNumbers (answer .coordinator)) (answer .coordinator)
-        (bench .desk) (call .desk) (answer .refusal) (call .says .desk-is)
-        (λ none. coordinator-own next reached) (λ no. absurd (no accepted)) in
+        let desk-is = row-accepted (bench .desk) (call .desk) answer (call .says .desk-is) accepted
+        (coordinator-own next reached) in
         subst (Reachable given)
-        (λ i. sending state (afterCoordinatorCall (heldIn bench) (sym desk-is i) left) later (out i))
+        (λ i. sending state (afterCoordinatorCall (heldIn bench) (sym desk-is i) left) later
+        (out i))
         reached
 
 -- ---- The next kind 7
@@ -124,11 +143,8 @@ module _ {bench : Bench} (call : AnnouncementCall bench) where
   wished = settingsFrom (call .settings .before)
 
   pub announcement-long : length (bench .desk) ≡ deskWidth → length (call .desk) ≡ deskWidth
-  announcement-long long =
-      let own = coordinatorNumbers (call .says .received .coordinator) in
-      stays-long coordinatorRead own (coordinatorRead own) (bench .desk) (call .desk)
-      (call .says .received .refusal) (call .says .desk-is) deskWidth
-      (length-coordinatorNumbers (call .says .received .coordinator)) long
+  announcement-long =
+      row-long (bench .desk) (call .desk) (call .says .received) (call .says .desk-is)
 
   module _ (state : State) where
     abbrev standing : State
@@ -142,11 +158,8 @@ module _ {bench : Bench} (call : AnnouncementCall bench) where
         let answer = call .says .received in
         let no : answer .refusal ≡ noRefusal → ⊥ =
         λ accepts. refused (call .says .refusal ∙ accepts) in
-        let desk-is : coordinatorRead (call .desk) ≡ answer .coordinator =
-        handed coordinatorRead (coordinatorNumbers (answer .coordinator)) (answer .coordinator)
-        (bench .desk) (call .desk) (answer .refusal) (call .says .desk-is)
-        (λ none. absurd (no none))
-        (λ still. call .says .says .answer .coordinator
+        let desk-is = row-refused (bench .desk) (call .desk) answer (call .says .desk-is) no
+        (call .says .says .answer .coordinator
         ∙ refused-choice _ _ _ (λ none. no (call .says .says .refusal ∙ none))) in
         subst (λ (c : CoordinatorRecord). Reachable settings
         (holding state (afterCoordinatorCall (heldIn bench) c (bench .deskMemory))))
@@ -173,10 +186,8 @@ module _ {bench : Bench} (call : AnnouncementCall bench) where
         let reached : Reachable wished next =
         stepped standing next reachable
         (delivers (next-announcement (call .lent) answer (call .says .says) accepted)) in
-        let desk-is : coordinatorRead (call .desk) ≡ answer .coordinator =
-        handed coordinatorRead (coordinatorNumbers (answer .coordinator)) (answer .coordinator)
-        (bench .desk) (call .desk) (answer .refusal) (call .says .desk-is)
-        (λ none. coordinator-own next reached) (λ no. absurd (no accepted)) in
+        let desk-is = row-accepted (bench .desk) (call .desk) answer (call .says .desk-is) accepted
+        (coordinator-own next reached) in
         subst (Reachable wished)
         (λ i. sending state
         (afterCoordinatorCall (heldIn bench) (sym desk-is i) (bench .deskMemory))

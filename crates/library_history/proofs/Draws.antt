@@ -3,15 +3,14 @@
 --   draw-history     accepted, at rest
 --   left-history     refused, or a touch
 --   draw-long        the decks' row stays as long as it was
-use mathlib.Core.Path.{_≡_, refl, sym, ap, _∙_, subst}
+use mathlib.Core.Path.{_≡_, sym, ap, _∙_, subst}
 use mathlib.Core.Bool.{true, false}
-use mathlib.Core.List.{List, _∷_, [], _++_}
+use mathlib.Core.List.{List}
 use Prim.Native.Nat.{ℕ, _-_}
 use native.Mathlib.Decide.{ℕ-discrete}
 use lib.ListN.{length, take}
 use Rattle.model.specs.declared.Settings.{Settings}
 use Rattle.model.specs.declared.Arrival.{Arrival}
-use Rattle.model.specs.declared.Message.{Message}
 use Rattle.model.specs.declared.SiteRecord.{SiteRecord}
 use Rattle.model.specs.Refusals.{noRefusal}
 use Rattle.model.specs.Draws.{isDraw}
@@ -22,7 +21,7 @@ use Rattle.history.specs.State.{Held, State, AtRest, recordAt, partOf, siteStar
 use Rattle.history.specs.Histories.{observedOut, afterSingle, single, arrival-left, arrives, refuses, Reachable, stepped}
 use Rattle.history.proofs.Answers.{accepted-choice, left-choice}
 use Rattle.history.proofs.Refused.{part-same}
-use Rattle.library_decks.specs.AllDecks.{namedRefusal, partFrom, deckAt, DecksDrawn}
+use Rattle.library_decks.specs.AllDecks.{namedRefusal, partFrom, DecksDrawn}
 use Rattle.library_history.specs.Bench.{Bench, heldIn, changed, frontRow, withFront}
 use Rattle.library_history.specs.Calls.{outOf, DrawCall, afterDraw}
 use Rattle.library_history.specs.Used.{drawing}

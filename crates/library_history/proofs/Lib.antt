@@ -12,3 +12,6 @@ pub mod Runs
 pub mod Deliveries
 pub mod Readings
 pub mod Theorem
+pub mod ExampleDraws
+pub mod ExampleMessages
+pub mod Example

@@ -3,8 +3,8 @@
 --   two-out, one-out       what came out is read back as it was
 --   read-whole             a message whose kind and deck are small is read as it is
 --   known-at-deck, known-at-desk    so is one that was accepted, and it is for whom accepted it
-use mathlib.Core.Path.{_≡_, refl, sym, ap, _∙_}
-use mathlib.Core.Bool.{Bool, true, false, not, _||_, _&&_, false≢true}
+use mathlib.Core.Path.{_≡_, refl, sym, ap}
+use mathlib.Core.Bool.{Bool, true, false, not, _||_, false≢true}
 use mathlib.Core.List.{List, [], _∷_, _++_}
 use Prim.Native.Nat.{ℕ, _≤_, _<_}
 use native.Mathlib.Omega.{arith}
@@ -18,7 +18,7 @@ use Rattle.model.specs.declared.Phase.{Phase}
 use Rattle.model.specs.declared.Phase.the-variants.{Idle, Collecting, Probing, Announcing}
 use Rattle.model.specs.Refusals.{noRefusal, unknownSite, messageNotDue}
 use Rattle.model.specs.Messages.{message, toCoordinator, isPoll, isProbe, isAnnouncement, isItemReport, isCountReport, isPollAnswer, isProbeAnswer}
-use Rattle.model.specs.Site.{Site, dueAtSite, siteMessageRefusal, siteDueRefusal}
+use Rattle.model.specs.Site.{Site, dueAtSite, siteMessageRefusal}
 use Rattle.model.specs.Coordinator.{Coordinator, dueIn, coordinatorRefusal}
 use Rattle.model.proofs.Thresholds.RefusalLaws.{passed}
 use Rattle.model.proofs.Thresholds.SettingsLaws.{site-known}

@@ -2,16 +2,15 @@
 use mathlib.Core.Path.{_≡_, refl, sym, ap, _∙_, subst}
 use mathlib.Core.Bool.{true}
 use mathlib.Core.List.{List}
-use Prim.Native.Nat.{ℕ, _+_, _-_, _*_, _≤_, _<_}
+use Prim.Native.Nat.{ℕ, _+_, _≤_, _<_}
 use native.Mathlib.Omega.{arith}
-use lib.IntN.{ℤ}
 use lib.ListN.{length, getD, take}
 use Rattle.model.specs.declared.Settings.{Settings}
 use Rattle.model.specs.declared.Quantile.{Quantile}
 use Rattle.model.specs.declared.Quantile.the-variants.{Nothing, Value}
 use Rattle.model.specs.Refusals.{noRefusal}
 use Rattle.model.specs.CoordinatorMemory.{coordinatorWords}
-use Rattle.model.specs.Claims.{counted, contains}
+use Rattle.model.specs.Claims.{contains}
 use Rattle.record_numbers.specs.Numbers.{settingsFrom}
 use Rattle.coordinator_list.specs.Contracts.{ListSays}
 use Rattle.coordinator_reading.specs.Contracts.{MarginSays, QuantileSays}

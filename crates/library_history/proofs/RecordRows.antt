@@ -4,15 +4,14 @@
 --   decks-long, desk-long         as long as they were
 use mathlib.Core.Path.{_≡_, refl, sym, ap, _∙_}
 use mathlib.Core.List.{List, [], _∷_}
-use Prim.Native.Nat.{ℕ, _+_, _*_}
-use native.Mathlib.Omega.{arith}
+use Prim.Native.Nat.{ℕ, _+_}
 use native.Mathlib.Decide.{ℕ-discrete}
 use lib.ListN.{length, length-append}
 use Rattle.model.specs.declared.Sites.{Sites}
 use Rattle.model.specs.declared.CoordinatorRecord.{CoordinatorRecord}
 use Rattle.model.specs.Refusals.{noRefusal}
 use Rattle.model.specs.Limits.{mostSites}
-use Rattle.record_numbers.specs.Numbers.{sitesWidth, recordsNumbers, sitesNumbers, sitesFrom, coordinatorNumbers, coordinatorRead}
+use Rattle.record_numbers.specs.Numbers.{sitesWidth, recordsNumbers, sitesNumbers, coordinatorNumbers}
 use Rattle.record_numbers.proofs.Records.{length-recordsNumbers}
 use Rattle.history.proofs.Answers.{accepted-choice, refused-choice}
 use Rattle.library_rows.specs.Rows.{handedOut}

@@ -13,7 +13,7 @@ use lib.Seq.{sets, sets-eq, length-take-le, ext-getD, getD-set-same, getD-set-ot
 use Rattle.model.specs.declared.SiteRecord.{SiteRecord}
 use Rattle.model.specs.Limits.{mostSites}
 use Rattle.model.specs.Held.{noRecord, recordIn, withRecord}
-use Rattle.record_numbers.specs.Numbers.{siteWidth, countPlace, sitesWidth, siteAt, siteFrom, siteNumbers, recordsFrom, sitesFrom}
+use Rattle.record_numbers.specs.Numbers.{siteWidth, countPlace, sitesWidth, siteAt, siteNumbers, recordsFrom, sitesFrom}
 use Rattle.record_numbers.proofs.Records.{length-recordsFrom}
 use Rattle.record_numbers.proofs.Inverse.{getD-recordsFrom, site-behind}
 use Rattle.library_decks.specs.AllDecks.{deckAt, withDeck}
@@ -80,7 +80,8 @@ module _ (decks : List ℕ) (which : ℕ) (site : SiteRecord)
       let width = length-recordsFrom mostSites in
       let known-there : which < length (recordsFrom mostSites decks) =
       omega (arith, width decks, known) in
-      ext-getD noRecord (recordsFrom mostSites stored) (set (recordsFrom mostSites decks) which site)
+      ext-getD noRecord (recordsFrom mostSites stored)
+      (set (recordsFrom mostSites decks) which site)
       (width stored ∙ sym (length-set (recordsFrom mostSites decks) which site ∙ width decks))
       (λ i inside.
       let below : i < mostSites = omega (arith, width stored, inside) in

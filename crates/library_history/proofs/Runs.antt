@@ -3,16 +3,13 @@
 --   run-history            at rest
 --   none-taken-history     a run that accepts no draw
 --   run-long               the rows stay as long as they were
-use mathlib.Core.Path.{_≡_, refl, sym, ap, _∙_, subst}
+use mathlib.Core.Path.{_≡_, sym, ap, _∙_, subst}
 use mathlib.Core.List.{List, [], _++_}
 use Prim.Native.Nat.{ℕ, _+_}
 use native.Mathlib.Decide.{ℕ-discrete}
 use lib.ListN.{length, getD, take}
 use borrow.Author.Tests.{eq-eqb, ne-eqb}
 use Rattle.model.specs.declared.Settings.{Settings}
-use Rattle.model.specs.declared.Arrival.{Arrival}
-use Rattle.model.specs.declared.Message.{Message}
-use Rattle.model.specs.Refusals.{noRefusal}
 use Rattle.model.specs.Draws.{drawsOf}
 use Rattle.record_numbers.specs.Numbers.{sitesWidth, settingsFrom, sitesFrom, sitesNumbers, coordinatorRead, coordinatorNumbers}
 use Rattle.tracker_steps.specs.declared.BatchAnswer.{BatchAnswer}

@@ -3,16 +3,15 @@
 --   started-history                both accepted
 --   start-decks-long, start-desk-long        the rows are then as long as C has them
 --   start-decks-left, start-desk-left        one of them, refused
-use mathlib.Core.Path.{_≡_, refl, sym, ap, _∙_, subst}
+use mathlib.Core.Path.{_≡_, sym, ap, _∙_, subst}
 use mathlib.Core.List.{List}
 use Prim.Native.Nat.{ℕ}
 use lib.ListN.{length, take}
 use Rattle.model.specs.declared.Settings.{Settings}
 use Rattle.model.specs.Refusals.{noRefusal}
-use Rattle.record_numbers.specs.Numbers.{sitesWidth, settingsFrom, sitesFrom, sitesNumbers, coordinatorRead, coordinatorNumbers}
+use Rattle.record_numbers.specs.Numbers.{sitesWidth, sitesFrom, sitesNumbers, coordinatorRead, coordinatorNumbers}
 use Rattle.site.specs.Calls.{StartSitesSays}
 use Rattle.coordinator.specs.Calls.{StartCoordinatorSays}
-use Rattle.history.specs.State.{State}
 use Rattle.history.specs.Histories.{startState, Reachable, started}
 use Rattle.history.proofs.Answers.{accepted-choice, refused-choice}
 use Rattle.history.proofs.Refused.{part-same}

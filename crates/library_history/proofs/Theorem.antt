@@ -11,8 +11,8 @@ use Rattle.history.proofs.Theorem.{demands}
 use Rattle.single_delivery.specs.Delivery.{deliveryIn}
 use Rattle.single_delivery.proofs.HistoryLaws.{passes-of-reachable}
 use Rattle.library_history.specs.Bench.{Bench, heldIn}
-use Rattle.library_history.specs.Calls.{afterDraw, afterDeckMessage, afterDeskMessage, afterAnnouncement, afterRun, afterDeliver, afterStartDecks, afterStartDesk}
-use Rattle.library_history.specs.Used.{delivering, freshState, Called, draw-accepted, draw-left, deck-message-accepted, deck-message-refused, desk-message-accepted, desk-message-refused, announcement-accepted, announcement-refused, run-at-rest, run-takes-none, delivered, delivery-left, start-decks-refused, start-desk-refused, Used, started, called}
+use Rattle.library_history.specs.Calls.{afterDeliver}
+use Rattle.library_history.specs.Used.{delivering, Called, draw-accepted, draw-left, deck-message-accepted, deck-message-refused, desk-message-accepted, desk-message-refused, announcement-accepted, announcement-refused, run-at-rest, run-takes-none, delivered, delivery-left, start-decks-refused, start-desk-refused, Used, started, called}
 use Rattle.library_history.specs.Claims.{AsHistory, Demanded, UseClaims, deskWidth}
 use Rattle.library_history.proofs.Draws.{draw-history, left-history, draw-long}
 use Rattle.library_history.proofs.DeckMessages.{to-deck-history, deck-refused-history, deck-message-long}
@@ -50,7 +50,8 @@ module _ {settings : Settings} (bench : Bench) (state : State)
       → Reachable settings (next settings)
   under-row given under next goes =
       subst (λ (s : Settings). Reachable s (next s)) under
-      (goes (subst (λ (s : Settings). Reachable s (holding state (heldIn bench))) (sym under) reach))
+      (goes
+      (subst (λ (s : Settings). Reachable s (holding state (heldIn bench))) (sym under) reach))
 
   -- A call on decks, and one on the desk, leave the other's row.
   after-decks : (after : Bench) (next : State)

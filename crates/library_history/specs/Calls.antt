@@ -16,7 +16,7 @@ use lib.ListN.{getD, take}
 use Rattle.model.specs.declared.Settings.{Settings}
 use Rattle.model.specs.declared.Arrival.{Arrival}
 use Rattle.model.specs.declared.Message.{Message}
-use Rattle.record_numbers.specs.Numbers.{settingsFrom, arrivalFrom}
+use Rattle.record_numbers.specs.Numbers.{settingsFrom}
 use Rattle.tracker_queue.specs.Log.{messagesIn}
 use Rattle.library_rows.specs.Rows.{Row, Number}
 use Rattle.library_decks.specs.AllDecks.{StartDecksExported, DecksDrawExported, DecksMessageExported}

@@ -4,3 +4,4 @@ pub mod Calls
 pub mod Used
 pub mod Reading
 pub mod Claims
+pub mod Example

@@ -2,6 +2,7 @@
 --
 --   to-deck-history         the head of the queue, accepted
 --   deck-refused-history    refused
+--   told, says-here         the site's call, where the name is one
 --   deck-message-long       the decks' row stays as long as it was
 use mathlib.Core.Path.{_≡_, sym, ap, _∙_, subst}
 use mathlib.Core.Bool.{false}
@@ -9,14 +10,11 @@ use mathlib.Core.List.{List, _∷_}
 use Prim.Native.Nat.{ℕ, _-_}
 use native.Mathlib.Omega.{arith}
 use native.Mathlib.Decide.{ℕ-discrete}
-use lib.Dec.{leb}
 use lib.ListN.{length, take}
 use Rattle.model.specs.declared.Settings.{Settings}
 use Rattle.model.specs.declared.Message.{Message}
 use Rattle.model.specs.declared.SiteRecord.{SiteRecord}
-use Rattle.model.specs.Refusals.{when, noRefusal, unknownSite}
-use Rattle.model.specs.SiteMemory.{siteMemoryRefusal, siteIn}
-use Rattle.model.proofs.Thresholds.RefusalLaws.{both-accepted}
+use Rattle.model.specs.Refusals.{noRefusal}
 use Rattle.record_numbers.specs.Numbers.{sitesWidth, settingsFrom, messageRead, messageFrom, sitesFrom}
 use Rattle.site.specs.Calls.{SiteReceiveSays}
 use Rattle.history.specs.State.{Held, State, recordAt, partOf, siteStart, afterSiteCall, holding, sending}
@@ -43,7 +41,7 @@ module _ {bench : Bench} (call : DeckMessageCall bench)
   -- ---- The site's call
 
   module _ (none : named ≡ noRefusal) where
-    told : DecksReplied given m (take (call .lent) (bench .deckMemory))
+    pub told : DecksReplied given m (take (call .lent) (bench .deckMemory))
         (changed (bench .decks) (call .decks)) (call .reply) (call .count) (call .answer)
     told = call .says .replied none
 
@@ -56,7 +54,7 @@ module _ {bench : Bench} (call : DeckMessageCall bench)
     abbrev words : ℕ
     words = call .lent - start
 
-    says-here : SiteReceiveSays given (recordAt (heldIn bench) (m .site)) (m .site) m
+    pub says-here : SiteReceiveSays given (recordAt (heldIn bench) (m .site)) (m .site) m
         (partOf (heldIn bench) start words) (told .replied)
     says-here =
         subst (λ (part : List ℕ). SiteReceiveSays given (recordAt (heldIn bench) (m .site))
@@ -85,13 +83,8 @@ module _ {bench : Bench} (call : DeckMessageCall bench)
     -- Accepted, it is a message for a site, and was read as it is.
     known : told .replied .refusal ≡ noRefusal → Known given m false
     known accepts =
-        let numbers = recordAt (heldIn bench) (m .site) in
-        let part = partOf (heldIn bench) start words in
-        let rows = both-accepted (siteMemoryRefusal given numbers part) _
-        (sym (says-here .refusal) ∙ accepts) in
-        known-at-deck given (siteIn given numbers part) (m .site) m
-        (both-accepted (when (leb (given .sites) (m .site)) unknownSite) _ (rows .later-accepted)
-        .later-accepted)
+        known-at-deck given (recordAt (heldIn bench) (m .site)) (m .site) m
+        (partOf (heldIn bench) start words) (sym (says-here .refusal) ∙ accepts)
 
   -- ---- Not so far
 

@@ -14,8 +14,9 @@ use Rattle.model.specs.declared.Settings.{Settings}
 use Rattle.model.specs.declared.Message.{Message}
 use Rattle.model.specs.declared.CoordinatorRecord.{CoordinatorRecord}
 use Rattle.model.specs.Refusals.{noRefusal}
-use Rattle.model.specs.CoordinatorMemory.{coordinatorIn, coordinatorMemoryRefusal}
+use Rattle.model.specs.CoordinatorMemory.{coordinatorMemoryRefusal}
 use Rattle.model.proofs.Thresholds.RefusalLaws.{both-accepted}
+use Rattle.model.proofs.Thresholds.TestedMemory.{coordinator-tested}
 use Rattle.model.proofs.Thresholds.SettingsLaws.{settled}
 use Rattle.record_numbers.specs.Numbers.{settingsFrom, messageRead, messageFrom, coordinatorRead, coordinatorNumbers}
 use Rattle.history.specs.State.{State, coordinatorPart, afterCoordinatorCall, holding, sending}
@@ -108,12 +109,12 @@ module _ {bench : Bench} (call : DeskMessageCall bench) where
         let accepted : answer .refusal ≡ noRefusal = sym (call .says .refusal) ∙ accepts in
         let memory = coordinatorPart (heldIn bench) 0 (call .memory .count) in
         let c = heldIn bench .coordinator in
-        let rows = both-accepted (coordinatorMemoryRefusal given c memory) _
-        (sym (call .says .says .refusal) ∙ accepted) in
-        let settings-row = both-accepted _ _ (rows .first-accepted) .first-accepted in
-        let few = settled given settings-row .sites .at-most in
-        let known : Known given m true =
-        known-at-desk given (coordinatorIn given c memory) m (rows .later-accepted) in
+        let none = sym (call .says .says .refusal) ∙ accepted in
+        let few = settled given
+        (coordinator-tested given c memory
+        (both-accepted (coordinatorMemoryRefusal given c memory) _ none .first-accepted)
+        .settings-accepted) .sites .at-most in
+        let known : Known given m true = known-at-desk given c m memory none in
         let whole : m ≡ messageFrom (call .message .before) =
         read-whole (call .message .before) (known .small)
         (omega (arith, few, known .site-known)) in

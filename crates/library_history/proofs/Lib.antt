@@ -10,6 +10,7 @@ pub mod DeskCalls
 pub mod Starts
 pub mod Runs
 pub mod Deliveries
+pub mod GoesOn
 pub mod Readings
 pub mod Theorem
 pub mod ExampleDraws

@@ -1,7 +1,7 @@
 -- Messages that cross in rows.
 --
 --   two-out, one-out       what came out is read back as it was
---   read-whole             a message whose kind and deck are small is read as it is
+--   read-whole, kept-whole   a message whose kind and deck are small is read as it is
 --   known-at-deck, known-at-desk    so is one that was accepted, and it is for whom accepted it
 use mathlib.Core.Path.{_≡_, refl, sym, ap}
 use mathlib.Core.Bool.{Bool, true, false, not, _||_, false≢true}
@@ -10,18 +10,23 @@ use Prim.Native.Nat.{ℕ, _≤_, _<_}
 use native.Mathlib.Omega.{arith}
 use lib.Dec.{eqb, leb}
 use lib.ListN.{getD, take}
-use borrow.Author.Tests.{eqb-true, not-false}
+use borrow.Author.Tests.{eqb-true, leb-false, not-false}
 use Rattle.laws.proofs.Tests.{both-true}
 use Rattle.model.specs.declared.Settings.{Settings}
 use Rattle.model.specs.declared.Message.{Message}
+use Rattle.model.specs.declared.SiteRecord.{SiteRecord}
+use Rattle.model.specs.declared.CoordinatorRecord.{CoordinatorRecord}
 use Rattle.model.specs.declared.Phase.{Phase}
 use Rattle.model.specs.declared.Phase.the-variants.{Idle, Collecting, Probing, Announcing}
 use Rattle.model.specs.Refusals.{noRefusal, unknownSite, messageNotDue}
 use Rattle.model.specs.Messages.{message, toCoordinator, isPoll, isProbe, isAnnouncement, isItemReport, isCountReport, isPollAnswer, isProbeAnswer}
-use Rattle.model.specs.Site.{Site, dueAtSite, siteMessageRefusal}
-use Rattle.model.specs.Coordinator.{Coordinator, dueIn, coordinatorRefusal}
-use Rattle.model.proofs.Thresholds.RefusalLaws.{passed}
-use Rattle.model.proofs.Thresholds.SettingsLaws.{site-known}
+use Rattle.model.specs.Site.{dueAtSite}
+use Rattle.model.specs.SiteMemory.{siteMemoryRefusal}
+use Rattle.model.specs.Coordinator.{dueIn}
+use Rattle.model.specs.CoordinatorMemory.{coordinatorIn, coordinatorMemoryRefusal}
+use Rattle.model.proofs.Thresholds.RefusalLaws.{both-accepted, passed}
+use Rattle.site.specs.Calls as SiteCalls
+use Rattle.coordinator.specs.Calls as CoordinatorCalls
 use Rattle.record_numbers.specs.Numbers.{messageNumbers, messageFrom, messageRead, narrowed}
 use Rattle.tracker_queue.specs.Log.{messagesIn}
 use Rattle.library_rows.specs.Rows.{Row, Number}
@@ -53,6 +58,14 @@ read-whole numbers small known =
     let kind : narrowed (getD numbers 0 0) ≡ getD numbers 0 0 = omega (arith, small) in
     let site : narrowed (getD numbers 1 0) ≡ getD numbers 1 0 = omega (arith, known) in
     λ i. message (kind i) (site i) (getD numbers 2 0) (getD numbers 3 0)
+
+-- The same by what stands in the row.
+pub kept-whole : (numbers : List ℕ)
+    → messageFrom numbers .kind ≤ 7
+    → messageFrom numbers .site ≤ 32
+    → messageRead numbers ≡ messageFrom numbers
+kept-whole numbers small known =
+    read-whole numbers (omega (arith, small)) (omega (arith, known))
 
 -- A message that was accepted, and the way that it goes.
 pub record Known (settings : Settings) (m : Message) (way : Bool) : Type 0 where
@@ -99,22 +112,33 @@ module _ (settings : Settings) (m : Message) (site-known : m .site < settings .s
       (of-kind 5 (omega arith)))
       (of-kind 7 (omega arith))
 
-pub known-at-desk : (settings : Settings) (c : Coordinator) (m : Message)
-    → coordinatorRefusal settings c m ≡ noRefusal
+-- ---- Accepted by a call
+
+pub known-at-desk : (settings : Settings) (numbers : CoordinatorRecord) (m : Message)
+    (memory : List ℕ)
+    → CoordinatorCalls.receiveRefusal settings numbers m memory ≡ noRefusal
     → Known settings m true
-known-at-desk settings c m none =
-    let site-row = passed (leb (settings .sites) (m .site)) unknownSite _ (omega arith) none in
+known-at-desk settings numbers m memory none =
+    let c = coordinatorIn settings numbers memory in
+    let rows = both-accepted (coordinatorMemoryRefusal settings numbers memory) _ none in
+    let site-row = passed (leb (settings .sites) (m .site)) unknownSite _ (omega arith)
+    (rows .later-accepted) in
     let due-row = passed (not (dueIn (c .phase) m)) messageNotDue _ (omega arith)
     (site-row .later-accepted) in
-    due-at-desk settings m (site-known settings (m .site) _ none) (c .phase)
-    (not-false (dueIn (c .phase) m) (due-row .test-failed))
+    due-at-desk settings m (leb-false (settings .sites) (m .site) (site-row .test-failed))
+    (c .phase) (not-false (dueIn (c .phase) m) (due-row .test-failed))
 
-pub known-at-deck : (settings : Settings) (site : Site) (which : ℕ) (m : Message)
-    → siteMessageRefusal settings site which m ≡ noRefusal
+pub known-at-deck : (settings : Settings) (numbers : SiteRecord) (which : ℕ) (m : Message)
+    (memory : List ℕ)
+    → SiteCalls.receiveRefusal settings numbers which m memory ≡ noRefusal
     → Known settings m false
-known-at-deck settings site which m none =
-    let site-row = passed (leb (settings .sites) (m .site)) unknownSite _ (omega arith) none in
+known-at-deck settings numbers which m memory none =
+    let rows = both-accepted (siteMemoryRefusal settings numbers memory) _ none in
+    let own-row = passed (leb (settings .sites) which) unknownSite _ (omega arith)
+    (rows .later-accepted) in
+    let site-row = passed (leb (settings .sites) (m .site)) unknownSite _ (omega arith)
+    (own-row .later-accepted) in
     let due-row = passed (not (dueAtSite which m)) messageNotDue _ (omega arith)
     (site-row .later-accepted) in
-    due-at-deck settings m (site-known settings (m .site) _ none) which
+    due-at-deck settings m (leb-false (settings .sites) (m .site) (site-row .test-failed)) which
     (not-false (dueAtSite which m) (due-row .test-failed))

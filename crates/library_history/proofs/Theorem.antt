@@ -1,13 +1,15 @@
 -- What a caller does with the library is a history of calls: `use-claims`. Call by call, from what
 -- each is worth as steps of a history; then by crate `history`'s theorem.
 use mathlib.Core.Path.{_≡_, refl, sym, ap, _∙_, subst}
+use Prim.Native.Nat.{_≤_}
 use lib.ListN.{length}
 use Rattle.model.specs.declared.Settings.{Settings}
+use Rattle.model.specs.NetworkMemory.{sitesWords}
 use Rattle.model.specs.Held.{Held, networkOf}
 use Rattle.record_numbers.specs.Numbers.{sitesWidth, settingsFrom, arrivalFrom}
 use Rattle.history.specs.State.{State, AtRest, holding}
 use Rattle.history.specs.Histories.{Reachable}
-use Rattle.history.proofs.Theorem.{demands}
+use Rattle.history.proofs.Theorem.{demands, arisen}
 use Rattle.single_delivery.specs.Delivery.{deliveryIn}
 use Rattle.single_delivery.proofs.HistoryLaws.{passes-of-reachable}
 use Rattle.library_history.specs.Bench.{Bench, heldIn}
@@ -20,6 +22,7 @@ use Rattle.library_history.proofs.DeskCalls.{to-desk-history, desk-refu
 use Rattle.library_history.proofs.Starts.{started-history, start-decks-long, start-desk-long, decks-stay, desk-stays, start-decks-left, start-desk-left}
 use Rattle.library_history.proofs.Runs.{run-history, none-taken-history, run-decks-long, run-desk-long}
 use Rattle.library_history.proofs.Deliveries.{delivered-history, delivery-left-history, delivered-decks-long, delivered-desk-long}
+use Rattle.library_history.proofs.GoesOn.{goes-on}
 use Rattle.library_history.proofs.Readings.{reads-bench}
 
 -- ---- One call
@@ -194,6 +197,14 @@ use-claims = record {
   as-history = as-history;
   demanded = λ settings bench state used.
       demanded settings state (as-history settings bench state used .reachable);
+  goes-on = λ settings bench state used.
+      let there = as-history settings bench state used in
+      let passes = passes-of-reachable state (there .reachable) in
+      let long = arisen passes state (there .reachable) .ok .lengths .sites-long in
+      goes-on settings bench state passes (there .held-is) (there .decks-long)
+      (subst (λ (held : Held). sitesWords settings ≤ length (held .siteMemory)) (there .held-is)
+      long)
+      (demanded settings state (there .reachable) .first .delivery-goes-on);
   reads-right = λ settings bench state used rest.
       let there = as-history settings bench state used in
       reads-bench settings bench state (there .held-is)

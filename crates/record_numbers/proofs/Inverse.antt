@@ -8,6 +8,7 @@
 --   phase-back, phase-same               a phase
 --   coordinator-back, coordinator-same   the coordinator's record
 --   sites-back, sites-same               all sites' records and the count of messages
+--   getD-recordsFrom, site-behind        one record, by its place
 use Prim.Native.Nat.{ℕ, zero, suc, _+_, _*_, _<_, _≤_}
 use mathlib.Core.Path.{_≡_, refl, ap, sym, _∙_}
 use mathlib.Core.Bool.{true, _&&_}
@@ -140,7 +141,7 @@ coordinator-same numbers long well =
 -- ---- All sites
 
 -- The record at a place, read from the first n.
-getD-recordsFrom : (n : ℕ) (numbers : List ℕ) (i : ℕ)
+pub getD-recordsFrom : (n : ℕ) (numbers : List ℕ) (i : ℕ)
     → i < n
     → getD (recordsFrom n numbers) i noRecord ≡ siteAt numbers (siteWidth * i)
 getD-recordsFrom zero numbers i inside = absurd (omega arith)
@@ -186,7 +187,7 @@ sites-same numbers long =
     ∙ sym (take-suc numbers countPlace 0 (omega arith))
 
 -- A record that stands right behind so many numbers.
-site-behind : (front back : List ℕ) (n : ℕ)
+pub site-behind : (front back : List ℕ) (n : ℕ)
     → length front ≡ n
     → siteAt (front ++ back) n ≡ siteFrom back
 site-behind front back n width =

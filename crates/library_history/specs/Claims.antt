@@ -1,0 +1,85 @@
+-- What a caller does with the library is a history of calls, so that all that crate `history`
+-- demands of every history holds of it.
+--
+--   AsHistory settings bench state        the state is that of a history, and the bench holds it
+--   Demanded settings state reachable     crate `history`'s demands of one state
+--   GoesOn settings bench state           what waits is accepted
+--   UseClaims                             all of it, and what is read, of all that callers do
+use mathlib.Core.Path.{_≡_}
+use mathlib.Core.Bool.{true, false}
+use mathlib.Core.List.{List, _∷_}
+use Prim.Native.Nat.{ℕ, _≤_}
+use lib.ListN.{length}
+use Rattle.model.specs.declared.Settings.{Settings}
+use Rattle.model.specs.declared.Message.{Message}
+use Rattle.model.specs.Refusals.{noRefusal}
+use Rattle.model.specs.Messages.{toCoordinator}
+use Rattle.model.specs.Coordinator.{isAnnouncing}
+use Rattle.model.specs.CoordinatorMemory.{coordinatorWords}
+use Rattle.model.specs.NetworkMemory.{sitesWords}
+use Rattle.record_numbers.specs.Numbers.{sitesWidth, messageFrom}
+use Rattle.history.specs.State.{State, AtRest}
+use Rattle.history.specs.Histories.{Reachable, heldAtStart}
+use Rattle.history.specs.Demands.{First, Second, Whole, Third, Dropped, LeftOut, givenIn, AsGiven}
+use Rattle.library_history.specs.Bench.{Bench, heldIn}
+use Rattle.library_history.specs.Calls.{Under, DeckMessageCall, DeskMessageCall, AnnouncementCall}
+use Rattle.library_history.specs.Used.{Used}
+use Rattle.library_history.specs.Reading.{ReadsRight}
+
+-- The numbers of the desk's row.
+abbrev pub deskWidth : ℕ
+deskWidth = 10
+
+pub record AsHistory (settings : Settings) (bench : Bench) (state : State) : Type 0 where
+  pub reachable : Reachable settings state
+  pub held-is : state .held ≡ heldIn bench
+  -- the rows are as long as C has them
+  pub decks-long : length (bench .decks) ≡ sitesWidth
+  pub desk-long : length (bench .desk) ≡ deskWidth
+
+-- Each of `Demands` that speaks of a state and the history that reaches it.
+pub record Demanded (settings : Settings) (state : State) (reachable : Reachable settings state)
+    : Type 0 where
+  pub first : First settings state
+  pub second : Second settings state
+  pub whole : Whole settings (heldAtStart reachable) state
+  pub third : Third settings state
+  pub dropped : Dropped settings state
+  pub touches : LeftOut settings reachable
+  pub given : AsGiven settings (givenIn reachable) state
+
+-- No delivery is ever stuck: lent enough memory, the head of the queue is accepted by whom it is
+-- for, and a kind 7 comes while the desk announces.
+pub record GoesOn (settings : Settings) (bench : Bench) (state : State) : Type 0 where
+  pub deck-accepts : (call : DeckMessageCall bench) (later : List Message)
+      → Under settings (call .settings)
+      → sitesWords settings ≤ call .lent
+      → state .waiting ≡ messageFrom (call .message .before) ∷ later
+      → toCoordinator (messageFrom (call .message .before)) ≡ false
+      → call .answer ≡ noRefusal
+  pub desk-accepts : (call : DeskMessageCall bench) (later : List Message)
+      → Under settings (call .settings)
+      → coordinatorWords settings ≤ call .memory .count
+      → state .waiting ≡ messageFrom (call .message .before) ∷ later
+      → toCoordinator (messageFrom (call .message .before)) ≡ true
+      → call .answer ≡ noRefusal
+  pub announcement-comes : (call : AnnouncementCall bench)
+      → Under settings (call .settings)
+      → coordinatorWords settings ≤ call .lent
+      → isAnnouncing (state .held .coordinator .phase) ≡ true
+      → call .answer ≡ noRefusal
+
+pub record UseClaims : Type 0 where
+  pub as-history : (settings : Settings) (bench : Bench) (state : State)
+      → Used settings bench state
+      → AsHistory settings bench state
+  pub demanded : (settings : Settings) (bench : Bench) (state : State)
+      → (used : Used settings bench state)
+      → Demanded settings state (as-history settings bench state used .reachable)
+  pub goes-on : (settings : Settings) (bench : Bench) (state : State)
+      → Used settings bench state
+      → GoesOn settings bench state
+  pub reads-right : (settings : Settings) (bench : Bench) (state : State)
+      → Used settings bench state
+      → AtRest state
+      → ReadsRight settings bench state

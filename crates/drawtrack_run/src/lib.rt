@@ -2,9 +2,10 @@
 // matter, writes to standard output what the calls of a session write, and says on standard error
 // where and why the input is refused, or what failed. The one library that stands on the kit's io,
 // os and libc: the contracts of the C functions that read and write are assumed, and speak of how
-// many bytes were moved and of no byte. So what is proved is what the run does with the bytes that
-// it read, and which bytes it hands to the writing calls; that these are the bytes of the
-// descriptors is tested (tests/program).
+// many bytes were moved and of no byte. So what is proved is what the run makes of the bytes that
+// it read: what there is to hand out, the status and the reason. That these bytes come from the
+// descriptor, that what is handed out arrives, and that a failure is noticed, is tested
+// (tests/program): a run whose writes were lost would still be proved.
 mod descriptors;
 
 ghost use Rattle.model.specs.Lent.{before, after};

@@ -1,7 +1,8 @@
 -- Laws of the words of a refusal: how many bytes they take, and the line in pieces.
 --
 --   words-past                 past the table
---   words-few, place-few       how many bytes they take
+--   words-few, place-few       how many bytes they take; as-long, the same words take as many
+--   place-line                 a line that has a number
 --   reasonPieces, reason-joined, reason-few     the line in pieces, and that it has room
 use mathlib.Core.Path.{_≡_, refl, ap, subst}
 use mathlib.Core.Bool.{Bool, true, false, _&&_}

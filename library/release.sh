@@ -4,6 +4,7 @@
 #
 # It builds first: the archives (build.sh) and the program (drawtrack/build.sh). With --built it
 # takes those that stand in target/library. What a release holds:
+#   README.md  what is where (RELEASE.md)
 #   include/   tracker.h, controller.h
 #   lib/       libtracker.a, libcontroller.a
 #   rust/      the crate draw-tracker, which finds ../lib by itself
@@ -52,6 +53,7 @@ put() {
   mkdir -p "$into"
   cp "$@" "$into/" || stop "a file of the release is missing"
 }
+cp "$library/RELEASE.md" "$folder/README.md" || stop "no RELEASE.md"
 put include "$library/include/controller.h" "$library/include/tracker.h"
 put lib "$built/libtracker.a" "$built/libcontroller.a"
 put bin "$built/drawtrack"

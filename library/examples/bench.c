@@ -56,7 +56,7 @@ static size_t take(bench *b, const tracker_draw *draw, tracker_message *queue) {
 }
 
 int main(void) {
-    tracker_message queue[TRACKER_MOST_MESSAGES(DECKS) + 1], log[2 * TRACKER_MOST_MESSAGES(DECKS)];
+    tracker_message queue[TRACKER_QUEUE_PLACES(DECKS)], log[2 * TRACKER_MOST_MESSAGES(DECKS)];
     uint32_t x = 1, tenth, refusal, codes[TRACKER_MOST_LISTED], median;
     size_t i, n, total = 0, taken = 0, written = 0, emptied = 0;
     tracker_counts counts;
@@ -81,7 +81,7 @@ int main(void) {
                               2 * TRACKER_LOG_NUMBERS(DECKS), &counts);
         memcpy(logged + written, log, counts.written * sizeof *log);
         taken += counts.accepted, written += counts.written, emptied++;
-    } while (refusal == TRACKER_LOG_TOO_SHORT);
+    } while (refusal == TRACKER_LOG_TOO_SHORT && counts.accepted);
     must(refusal, "run");
     printf("in batches: %zu draws, %zu messages in %zu logs\n", taken, written, emptied);
     n = !memcmp(sent, logged, sizeof sent) && !memcmp(&single.desk, &batch.desk, sizeof batch.desk);

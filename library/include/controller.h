@@ -33,8 +33,9 @@ extern "C" {
 uint32_t tracker_test_settings(uint32_t decks, uint32_t leeway, uint32_t share, uint32_t rank,
                                uint32_t slots, uint32_t codes);
 
-/* The most messages that so many draws may cost under these settings: into *messages. A line of
- * class 0 is no draw and is not counted here. Answers 0, 1, 2 or 3, as the settings test does. */
+/* The allowance, into *messages: so many draws cost at most so many messages under these settings
+ * (and at most 25 each). A line of class 0 is no draw and is not counted here. Answers 0, 1, 2 or
+ * 3, as the settings test does. */
 uint32_t tracker_allowance(uint32_t decks, uint32_t leeway, uint32_t share, uint32_t rank,
                            uint32_t slots, uint32_t codes, uint64_t draws, uint64_t *messages);
 

@@ -1,6 +1,6 @@
 /* The draw tracker: decks, desk and the messages between them, in C or C++. Link with libtracker.a,
- * which `bash library/build.sh` makes, and never with libcontroller.a beside it. x86-64, System V
- * calling convention; no other library is needed.
+ * which `bash library/build.sh` makes, and not with libcontroller.a beside it, which defines the
+ * same names. x86-64, System V calling convention; of the C library it needs memcpy and memset.
  *
  * Up to 32 decks watch draws of reagent codes. Whenever no message is under way, the desk knows
  * which codes take at least a share p of all draws, and which volume class is their q-quantile,
@@ -14,8 +14,10 @@
  * length may differ from call to call, as long as it is enough; what is too short is refused (4).
  *
  * RECORDS AND MEMORY ARE WRITTEN BY THESE CALLS ALONE. They may be read at any time, copied, and
- * moved to another address. What the calls left and nobody else changed is always consistent;
- * anything else is either refused (11) or stepped by the same rules, never undefined.
+ * moved to another address. What the calls left and nobody else changed is consistent to every call
+ * but two: tracker_run and tracker_deliver also want a bench at rest, with the desk idle and every
+ * message handed over, and say 11 where they see that it is not. Anything else is either refused
+ * (11) or stepped by the same rules, never undefined.
  *
  * WHAT A CALLER OWES, and all that he owes: no number and no length is undefined, but
  * - a pointer with a length points to at least that many numbers (bytes, draws) that live through
@@ -54,7 +56,7 @@ extern "C" {
 #define TRACKER_DECK_FULL 8            /* the deck has taken 1,000,000,000 draws */
 #define TRACKER_MESSAGE_NOT_DUE 9      /* kind unknown, or not due now, here or from this deck */
 #define TRACKER_AMOUNT_NOT_DUE 10      /* an amount of a message that cannot be right */
-#define TRACKER_MEMORY_INCONSISTENT 11 /* record or memory is none that the calls leave */
+#define TRACKER_MEMORY_INCONSISTENT 11 /* not as the calls leave it; to some, not at rest */
 #define TRACKER_LIST_TOO_SHORT 12      /* the list has fewer places than codes are listed */
 #define TRACKER_LOG_TOO_SHORT 14       /* the log lacks the places of one draw's messages */
 
@@ -73,8 +75,16 @@ typedef struct {
     uint32_t deck, code, volume_class;
 } tracker_draw;
 
-/* A message: its kind (1 to 7) and the deck that it comes from (kinds 1, 2, 4, 6) or goes to (3, 5,
- * 7), and two numbers. Where a place for a message holds none, all four are 0. */
+/* A message: its kind (1 to 7), the deck that it comes from or goes to, and two numbers. Where a
+ * place for a message holds none, all four are 0.
+ *   kind  way      a                            b
+ *   1     to desk  code                         amount
+ *   2     to desk  amount                       class if threshold 1, else 0
+ *   3     to deck  0                            0
+ *   4     to desk  pending, which then is 0     0
+ *   5     to deck  class                        0
+ *   6     to desk  class                        draws at or below it
+ *   7     to deck  threshold                    base */
 typedef struct {
     uint64_t kind, deck, a, b;
 } tracker_message;
@@ -96,7 +106,7 @@ typedef struct {
 } tracker_deck;
 
 /* All decks of a bench, those from k on unused, and the count of messages since the start, to which
- * tracker_run alone adds what it writes. */
+ * tracker_run alone adds what it writes: no other call changes it. */
 typedef struct {
     tracker_deck deck[TRACKER_MOST_DECKS];
     uint64_t messages;
@@ -122,6 +132,7 @@ typedef struct {
 #define TRACKER_MOST_MESSAGES(decks) (23 * (size_t)(decks) + 2) /* of one draw */
 #define TRACKER_MESSAGE_NUMBERS 4
 #define TRACKER_LOG_NUMBERS(decks) (TRACKER_MESSAGE_NUMBERS * TRACKER_MOST_MESSAGES(decks))
+#define TRACKER_QUEUE_PLACES(decks) (TRACKER_MOST_MESSAGES(decks) + 1) /* messages: see below */
 #define TRACKER_MOST_LISTED 1000 /* between draws, under any settings */
 
 /* The same as a call, for settings that are read at run time. */
@@ -154,7 +165,9 @@ uint32_t tracker_start_desk(const tracker_settings *settings, tracker_desk *desk
 
 /* After an accepted draw hand over each message that came out, in the order of coming out, answers
  * included, to the deck that it names or to the desk; while nothing waits and the desk announces,
- * ask it for the next kind 7. Only then comes the next draw. */
+ * ask it for the next kind 7. Only then comes the next draw. A call writes its place for a message
+ * also where none comes out, with zeros; so a queue whose next place is handed over for it has one
+ * place more than messages: TRACKER_QUEUE_PLACES(k). */
 
 /* A draw at deck number `deck`, with its own record and its own part of the memory. out[0] to
  * out[*count - 1] are the messages to send, two at most; the rest of `out` becomes zeros.
@@ -164,7 +177,7 @@ uint32_t tracker_deck_draw(const tracker_settings *settings, uint32_t deck, trac
                            tracker_message out[2], uint32_t *count);
 
 /* A message (kind 3, 5, 7) at deck number `deck`, likewise. *count is 1 if *reply is to be sent,
- * else 0. 1, 2, 3, 4, 11, 5, 9, 7, 10. */
+ * else 0, and *reply zeros. 1, 2, 3, 4, 11, 5, 9, 7, 10. */
 uint32_t tracker_deck_message(const tracker_settings *settings, uint32_t deck, tracker_deck *record,
                               const uint32_t *memory, size_t numbers,
                               const tracker_message *message, tracker_message *reply,
@@ -183,8 +196,8 @@ uint32_t tracker_decks_message(const tracker_settings *settings, tracker_decks *
                                const tracker_message *message, tracker_message *reply,
                                uint32_t *count);
 
-/* A message (kind 1, 2, 4, 6) at the desk. *count is 1 if *out is to be sent, else 0.
- * 1, 2, 3, 4, 11, 5, 9, 6, 7, 10. */
+/* A message (kind 1, 2, 4, 6) at the desk. *count is 1 if *out is to be sent, else 0, and *out
+ * zeros. 1, 2, 3, 4, 11, 5, 9, 6, 7, 10. */
 uint32_t tracker_desk_message(const tracker_settings *settings, tracker_desk *desk,
                               uint64_t *memory, size_t numbers, const tracker_message *message,
                               tracker_message *out, uint32_t *count);
@@ -202,7 +215,7 @@ typedef struct {
 } tracker_delivery;
 
 /* One draw and all that the loop above does after it. All memory is tested first, as tracker_run
- * tests it, so a desk that is not at rest is 11. 1, 2, 3, 4, 11, 5, 6, 7, 8. */
+ * tests it, so a bench that is not at rest is 11. 1, 2, 3, 4, 11, 5, 6, 7, 8. */
 uint32_t tracker_deliver(const tracker_settings *settings, tracker_decks *decks, tracker_desk *desk,
                          uint32_t *deck_memory, size_t deck_numbers, uint64_t *desk_memory,
                          size_t desk_numbers, const tracker_draw *draw,
@@ -220,7 +233,8 @@ typedef struct {
  * memory and log then have what the draws before it brought. `counts` is always written; 1, 2, 3, 4
  * and 11 come before the first draw, with 0 and 0. `log_numbers` is 4 for each message that the log
  * has a place for. On 14 take the messages out of the log and go on at draws + accepted; a log of
- * TRACKER_LOG_NUMBERS(k) numbers always takes a draw. 1, 2, 3, 4, 11, 5, 6, 7, 8, 14. */
+ * TRACKER_LOG_NUMBERS(k) numbers always takes a draw, a shorter one may take none, however often it
+ * is tried. 1, 2, 3, 4, 11, 5, 6, 7, 8, 14. */
 uint32_t tracker_run(const tracker_settings *settings, tracker_decks *decks, tracker_desk *desk,
                      const tracker_draw *draws, size_t count, uint32_t *deck_memory,
                      size_t deck_numbers, uint64_t *desk_memory, size_t desk_numbers,

@@ -145,8 +145,8 @@ impl Bench {
         }
     }
 
-    /// The next kind 7, or none where the desk doesn't announce. Ask for it while nothing else
-    /// waits.
+    /// The next kind 7, or none where the desk doesn't announce. It may be asked for while other
+    /// messages wait, and is handed over after them.
     pub fn announcement(&mut self) -> Result<Option<Message>, Refusal> {
         let BenchParts { settings, desk, desk_memory, .. } = &mut self.parts;
         desk::announcement(settings, desk, desk_memory)

@@ -80,7 +80,8 @@ impl DeskRecord {
     /// Phase: kinds 7 are to be asked for.
     pub const ANNOUNCING: u64 = 3;
 
-    /// Whether the desk is at rest, so that a draw may come.
+    /// Whether kinds 1 and 2 are due. A bench is at rest, so that the next draw may come, if the
+    /// desk is idle and no message is under way.
     pub const fn is_idle(&self) -> bool {
         self.phase == DeskRecord::IDLE
     }

@@ -1,3 +1,2 @@
--- The loop over a session's calls ends, and the responses to an input.
-pub mod ServingLaws
+-- The responses to an input.
 pub mod RespondLaws

@@ -1,4 +1,2 @@
--- What the run promises: of its counts, of the session's calls, and of its answer.
-pub mod Descriptors
-pub mod Serving
+-- What the run promises: of its response, and of its answer.
 pub mod Responding

@@ -17,9 +17,9 @@ use Rattle.output_words.specs.Words.{reasonLine, reasonRoom}
 use Rattle.drawtrack_steps.specs.Outcome.{Buffers}
 use Rattle.drawtrack_session.specs.Limits.{inputRoom}
 use Rattle.drawtrack_session.specs.Ending.{Ending, ending}
-use Rattle.drawtrack_run.specs.declared.Stopped.{Stopped}
+use Rattle.drawtrack_serving.specs.declared.Stopped.{Stopped}
 use Rattle.drawtrack_run.specs.declared.Response.{Response}
-use Rattle.drawtrack_run.specs.Serving.{ServeAsks, ServeSays}
+use Rattle.drawtrack_serving.specs.Serving.{ServeAsks, ServeSays}
 
 -- ---- The answer, and the reason
 

@@ -1,35 +1,28 @@
 // The run of the program `drawtrack`: it reads its input to the end, or as many bytes of it as
 // matter, writes to standard output what the calls of a session write, and says on standard error
-// where and why the input is refused, or what failed. The one library that stands on the kit's io,
-// os and libc: the contracts of the C functions that read and write are assumed, and speak of how
-// many bytes were moved and of no byte. So what is proved is what the run makes of the bytes that
-// it read: what there is to hand out, the status and the reason. That these bytes come from the
-// descriptor, that what is handed out arrives, and that a failure is noticed, is tested
-// (tests/program): a run whose writes were lost would still be proved.
-mod descriptors;
+// where and why the input is refused, or what failed. It and the two below it (`descriptors`,
+// `drawtrack_serving`) stand on the kit's io, os and libc: the contracts of the C functions that
+// read and write are assumed, and speak of how many bytes were moved and of no byte. So what is
+// proved is what the run makes of the bytes that it read: what there is to hand out, the status and
+// the reason. That these bytes come from the descriptor, that what is handed out arrives, and that
+// a failure is noticed, is tested (tests/program): a run whose writes were lost would still be
+// proved.
 
 ghost use Rattle.model.specs.Lent.{before, after};
-ghost use mathlib.Core.Path.{_≡_};
-ghost use Prim.Native.Nat.{_≤_};
-ghost use lib.ListN.{length};
 ghost use Rattle.drawtrack_steps.specs.Outcome.{buffers};
-ghost use Rattle.drawtrack_session.specs.Limits.{inputRoom};
-ghost use Rattle.output_words.specs.Words.{reasonRoom};
-ghost use Rattle.drawtrack_run.specs.Descriptors.{ReadAllSays};
-ghost use Rattle.drawtrack_run.specs.Serving.{ServeAsks, ServeSays, stoppedOf};
+ghost use Rattle.descriptors.specs.Descriptors.{ReadAllSays};
 ghost use Rattle.drawtrack_run.specs.Responding.{RespondAsks, RespondSays, RunSays};
 use descriptors::Read;
 use descriptors::read_all;
 use descriptors::write_all;
+use drawtrack_serving::serve;
 use drawtrack_session::SESSION_COORDINATOR_NUMBERS;
 use drawtrack_session::SESSION_INPUT_BYTES;
 use drawtrack_session::SESSION_LIST_PLACES;
 use drawtrack_session::SESSION_LOG_NUMBERS;
 use drawtrack_session::SESSION_OUT_BYTES;
 use drawtrack_session::SESSION_SITE_NUMBERS;
-use drawtrack_steps::Session;
 use libc::STDERR_FILENO;
-use libc::STDOUT_FILENO;
 use model::NO_REFUSAL;
 use model::Word;
 use output_words::REASON_BYTES;
@@ -40,14 +33,6 @@ pub const STATUS_RESULTS: u32 = 0;
 pub const STATUS_REFUSED: u32 = 1;
 
 pub const STATUS_FAILED: u32 = 2;
-
-// What came of the calls of a session: whether every write was taken, the refusal or 0, and the
-// line of the input at which it ended.
-pub struct Stopped {
-    pub taken: bool,
-    pub refusal: u32,
-    pub line: usize,
-}
 
 // What the run answers, whether anything failed, and how many bytes of the reason it wrote.
 pub struct Response {
@@ -66,80 +51,6 @@ fn take_in(input: i32, bytes: &mut [u8]) -> Read
     }
     os::fail(b"drawtrack: input failed");
     read
-}
-
-// Writes the bytes that a call wrote to standard output; where that fails says so, and answers
-// false.
-fn hand_out(written: usize, out: &[u8]) -> bool
-    requires { ⌜ written ≤ length (now out) ⌝ }
-{
-    if write_all(STDOUT_FILENO, &out[..written]) {
-        return true;
-    }
-    os::fail(b"drawtrack: output failed");
-    false
-}
-
-// What came of a session that stopped after so many calls of `advance`.
-fn stopped_at(taken: bool, session: Session, turns: usize) -> Stopped
-    requires { ⌜ turns ≤ inputRoom ⌝ }
-    ensures { λ r. ⌜ r ≡ stoppedOf taken session turns ⌝ }
-{
-    if turns == 0 {
-        let settings = session.settings;
-        return Stopped {
-            taken: taken,
-            refusal: session.refusal,
-            line: drawtrack_session::start_line(settings, session.refusal),
-        };
-    }
-    Stopped {
-        taken: taken,
-        refusal: session.refusal,
-        line: turns + 1,
-    }
-}
-
-// A call for each line, until the session has ended or a write was not taken; what each wrote is
-// handed out. Each line after which it goes on takes six bytes or more, so it ends long before the
-// turns do. The calls make a course of the session, and their bytes, one after the other, are the
-// transcript of the input; where a write was not taken, its front.
-fn serve(
-    input: &[u8],
-    site_memory: &mut [Word],
-    coordinator_memory: &mut [u64],
-    log: &mut [u64],
-    list: &mut [u32],
-    out: &mut [u8],
-) -> Stopped
-    requires { ⌜ ServeAsks (now input) (buffers (now «site_memory») (now «coordinator_memory»)
-        (now log)
-        (now list) (now out)) ⌝ }
-    ensures { λ r. ⌜ ServeSays (before input)
-        (buffers (before «site_memory») (before «coordinator_memory») (before log)
-        (before list) (before out)) (buffers (after «site_memory»)
-        (after «coordinator_memory») (after log) (after list) (after out))
-        r ⌝ }
-{
-    let first = drawtrack_session::begin(input, site_memory, coordinator_memory, out);
-    let mut taken = hand_out(first.written, out);
-    let mut session = first.session;
-    let mut turns: usize = 0;
-    while taken && session.going && turns < SESSION_INPUT_BYTES {
-        let moved = drawtrack_session::advance(
-            session,
-            input,
-            site_memory,
-            coordinator_memory,
-            log,
-            list,
-            out,
-        );
-        taken = hand_out(moved.written, out);
-        session = moved.session;
-        turns += 1;
-    }
-    stopped_at(taken, session, turns)
 }
 
 // The response to an input, if all of it was read: the session's calls, handed out, and the reason

@@ -5,8 +5,8 @@ use native.Mathlib.Omega.{arith}
 use lib.ListN.{length as count}
 use borrow.Author.Needs.{needs}
 use borrow.Author.Tests.{ltb-true}
-use Rattle.drawtrack_run.proofs.descriptors.read_all.Statement.{statement}
-use Rattle.drawtrack_run.proofs.descriptors.read_all.Tie as tie
+use Rattle.descriptors.proofs.read_all.Statement.{statement}
+use Rattle.descriptors.proofs.read_all.Tie as tie
 
 abbrev Inv-loop : tie.InvT-loop
 Inv-loop from bytes₀ length₀ whole₀ going₀ turns₀ bytes length whole going turns =

@@ -22,8 +22,8 @@ use Rattle.drawtrack_session.specs.Course.{Course, begun, advanced}
 use Rattle.output_words.specs.Words.{firstLine}
 use Rattle.drawtrack_session.specs.Ending.{Ending, startLine, endingAt, endingLine, ending}
 use Rattle.drawtrack_session.proofs.Theorem.{session-claims}
-use Rattle.drawtrack_run.specs.declared.Stopped.{Stopped}
-use Rattle.drawtrack_run.specs.Serving.{ServeAsks, Situation, situation, begunWith, withoutLists, afterBegin, situationOf, afterCall, afterCalls, Serving, stoppedOf, AllTaken, ServeSays}
+use Rattle.drawtrack_serving.specs.declared.Stopped.{Stopped}
+use Rattle.drawtrack_serving.specs.Serving.{ServeAsks, Situation, situation, begunWith, withoutLists, afterBegin, situationOf, afterCall, afterCalls, Serving, stoppedOf, AllTaken, ServeSays}
 
 -- ---- The line at which a session stopped
 

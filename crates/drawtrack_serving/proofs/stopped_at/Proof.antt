@@ -4,11 +4,11 @@ use Prim.Native.Nat.{ℕ, zero, suc, _+_}
 use native.Mathlib.Omega.{arith}
 use borrow.Author.Needs.{needs}
 use Rattle.drawtrack_session.specs.Ending.{startLine, endingLine}
-use Rattle.drawtrack_run.specs.declared.Stopped.{Stopped}
-use Rattle.drawtrack_run.specs.Serving.{stoppedOf}
-use Rattle.drawtrack_run.proofs.ServingLaws.{line-first, line-later}
-use Rattle.drawtrack_run.proofs.stopped_at.Statement.{statement}
-use Rattle.drawtrack_run.proofs.stopped_at.Tie as tie
+use Rattle.drawtrack_serving.specs.declared.Stopped.{Stopped}
+use Rattle.drawtrack_serving.specs.Serving.{stoppedOf}
+use Rattle.drawtrack_serving.proofs.ServingLaws.{line-first, line-later}
+use Rattle.drawtrack_serving.proofs.stopped_at.Statement.{statement}
+use Rattle.drawtrack_serving.proofs.stopped_at.Tie as tie
 
 returns : tie.Need-returns
 returns c =

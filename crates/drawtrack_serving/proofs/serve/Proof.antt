@@ -8,10 +8,10 @@ use borrow.Author.Needs.{needs}
 use borrow.Author.Tests.{ltb-true, ltb-false}
 use Rattle.drawtrack_steps.specs.Outcome.{buffers}
 use Rattle.drawtrack_session.specs.Limits.{inputRoom}
-use Rattle.drawtrack_run.specs.Serving.{situation, Serving}
-use Rattle.drawtrack_run.proofs.ServingLaws.{begun-within, advanced-within, serving-begins, serving-on, serving-over, serves}
-use Rattle.drawtrack_run.proofs.serve.Statement.{statement}
-use Rattle.drawtrack_run.proofs.serve.Tie as tie
+use Rattle.drawtrack_serving.specs.Serving.{situation, Serving}
+use Rattle.drawtrack_serving.proofs.ServingLaws.{begun-within, advanced-within, serving-begins, serving-on, serving-over, serves}
+use Rattle.drawtrack_serving.proofs.serve.Statement.{statement}
+use Rattle.drawtrack_serving.proofs.serve.Tie as tie
 
 abbrev Inv-loop : tie.InvT-loop
 Inv-loop input site-memory₀ coordinator-memory₀ log₀ list₀ out₀ taken₀ session₀ turns₀ site-memory

@@ -2,8 +2,8 @@
 use mathlib.Core.Path.{sym}
 use lib.Seq.{length-take-le}
 use borrow.Author.Needs.{needs}
-use Rattle.drawtrack_run.proofs.hand_out.Statement.{statement}
-use Rattle.drawtrack_run.proofs.hand_out.Tie as tie
+use Rattle.drawtrack_serving.proofs.hand_out.Statement.{statement}
+use Rattle.drawtrack_serving.proofs.hand_out.Tie as tie
 
 slice-aggregate-write-all : tie.Need-slice-aggregate-write-all
 slice-aggregate-write-all c = sym (length-take-le _ _ (c .before .before .pre))

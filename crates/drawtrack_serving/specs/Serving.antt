@@ -21,7 +21,7 @@ use Rattle.drawtrack_session.specs.Begin.{beginOf}
 use Rattle.drawtrack_session.specs.Advance.{lineOf}
 use Rattle.drawtrack_session.specs.Course.{Course}
 use Rattle.drawtrack_session.specs.Ending.{Ending, endingAt, endingLine, ending, Front}
-use Rattle.drawtrack_run.specs.declared.Stopped.{Stopped}
+use Rattle.drawtrack_serving.specs.declared.Stopped.{Stopped}
 
 -- "Its memory serves k up to 4, c up to 100, u up to 1000 and a worklist up to 8192 bytes": of the
 -- input no more bytes than matter; log, list and output for the longest answer.

@@ -3,8 +3,8 @@ use Prim.Native.Nat.{_-_}
 use lib.ListN.{length}
 use borrow.Author.Needs.{needs}
 use borrow.Rule.Slice.PartMut.{take-put}
-use Rattle.drawtrack_run.proofs.descriptors.read_some.Statement.{statement}
-use Rattle.drawtrack_run.proofs.descriptors.read_some.Tie as tie
+use Rattle.descriptors.proofs.read_some.Statement.{statement}
+use Rattle.descriptors.proofs.read_some.Tie as tie
 
 returns : tie.Need-returns
 returns c =

@@ -1,11 +1,13 @@
 // Reading and writing descriptors to the end. A call that a signal interrupted is made again; any
-// other failure ends it.
+// other failure ends it. One of the three libraries that stand on the kit's io, os or libc, for the
+// program's run (`drawtrack_run`): the contracts of the C functions that read and write are assumed,
+// and speak of how many bytes were moved and of no byte.
 
 ghost use Rattle.model.specs.Lent.{before, after};
 ghost use mathlib.Core.Path.{_≡_};
 ghost use Prim.Native.Nat.{_≤_};
 ghost use lib.ListN.{length};
-ghost use Rattle.drawtrack_run.specs.Descriptors.{ReadSomeSays, WriteSomeSays, ReadAllSays};
+ghost use Rattle.descriptors.specs.Descriptors.{ReadSomeSays, WriteSomeSays, ReadAllSays, WriteAllSays};
 
 // What one call came to: whether nothing is missing after it, whether another is to follow, and how
 // many bytes it moved. After a call that failed neither holds.
@@ -103,10 +105,15 @@ fn write_some(to: i32, bytes: &[u8], at: usize) -> Transfer
 }
 
 // Writes the bytes, and answers whether all of them were taken. For none no call is made.
-pub fn write_all(to: i32, bytes: &[u8]) -> bool {
+pub fn write_all(to: i32, bytes: &[u8]) -> bool
+    ensures { λ r. ⌜ WriteAllSays (before bytes) r ⌝ }
+{
+    if bytes.len() == 0 {
+        return true;
+    }
     let mut done: usize = 0;
-    let mut whole = bytes.len() == 0;
-    let mut going = bytes.len() != 0;
+    let mut whole = false;
+    let mut going = true;
     let mut turns = u64::MAX;
     while going && turns > 0 {
         let transfer = write_some(to, bytes, done);

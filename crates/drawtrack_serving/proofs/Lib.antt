@@ -1,0 +1,2 @@
+-- The loop over a session's calls ends.
+pub mod ServingLaws

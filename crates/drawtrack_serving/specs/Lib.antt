@@ -1,0 +1,2 @@
+-- What the loop over a session's calls promises.
+pub mod Serving

@@ -1,7 +1,7 @@
 // Reading and writing descriptors to the end. A call that a signal interrupted is made again; any
 // other failure ends it. One of the three libraries that stand on the kit's io, os or libc, for the
-// program's run (`drawtrack_run`): the contracts of the C functions that read and write are assumed,
-// and speak of how many bytes were moved and of no byte.
+// program's run (`drawtrack_run`): the contracts of the C functions that read and write are
+// assumed, and speak of how many bytes were moved and of no byte.
 
 ghost use Rattle.model.specs.Lent.{before, after};
 ghost use mathlib.Core.Path.{_≡_};

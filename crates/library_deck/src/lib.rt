@@ -1,7 +1,7 @@
 // The calls of the library on one deck (tracker.h), with its own record and its own part of the
 // memory: for a process that holds one. The record is a row of numbers behind a pointer, which C
-// sees as a struct. Each call reads its rows, makes the site's call, and writes what that hands back
-// where it accepts.
+// sees as a struct. Each call reads its rows, makes the site's call, and writes what that hands
+// back where it accepts.
 ghost use mathlib.Core.Path.{_≡_};
 ghost use Rattle.model.specs.Lent.{before, after};
 ghost use Rattle.record_numbers.specs.Numbers.{siteNumbers};

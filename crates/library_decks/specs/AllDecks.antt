@@ -67,7 +67,8 @@ withDeck decks which site = sets decks (siteWidth * which) (siteNumbers site)
 
 pub record StartDecksExported (settings decks memory : Row) (answer : ℕ) : Type 0 where
   pub started : StartedSites
-  pub says : StartSitesSays (settingsFrom (settings .before)) (memory .before) (memory .after) started
+  pub says : StartSitesSays (settingsFrom (settings .before)) (memory .before) (memory .after)
+      started
   pub refusal : answer ≡ started .refusal
   pub decks-are : decks .after
       ≡ handedOut (started .refusal) (sitesNumbers (started .sites)) (decks .before)
@@ -101,11 +102,11 @@ pub record DrawStopped (stopped : ℕ) (decks memory out : Row) (count : Number)
 pub record DecksDrawExported (settings decks memory draw out : Row) (count : Number) (answer : ℕ)
     : Type 0 where
   pub stopped : (namedRefusal settings memory (arrivalFrom (draw .before) .site) ≡ noRefusal → ⊥)
-      → DrawStopped (namedRefusal settings memory (arrivalFrom (draw .before) .site)) decks memory out
-      count answer
+      → DrawStopped (namedRefusal settings memory (arrivalFrom (draw .before) .site)) decks memory
+      out count answer
   pub drawn : namedRefusal settings memory (arrivalFrom (draw .before) .site) ≡ noRefusal
-      → DecksDrawn (settingsFrom (settings .before)) (arrivalFrom (draw .before)) decks memory out count
-      answer
+      → DecksDrawn (settingsFrom (settings .before)) (arrivalFrom (draw .before)) decks memory
+      out count answer
 
 -- ---- A message
 

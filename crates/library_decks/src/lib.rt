@@ -86,7 +86,8 @@ fn draw_at(
     count: &mut u32,
 ) -> u32
     requires { ⌜ NamedAsks settings (draw .site) (now memory) ⌝ }
-    ensures { λ r. ⌜ DecksDrawn settings draw (lent decks) (lent memory) (lent out) (lent count) r ⌝ }
+    ensures { λ r. ⌜ DecksDrawn settings draw (lent decks) (lent memory) (lent out)
+        (lent count) r ⌝ }
 {
     let which = draw.site as usize;
     let start = which * site_memory::site_words(settings);

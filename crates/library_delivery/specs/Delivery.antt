@@ -1,5 +1,5 @@
--- What a draw with full delivery promises: the promise of `deliver_arrival`, on the records that the
--- rows stand for; and the rows where it accepts.
+-- What a draw with full delivery promises: the promise of `deliver_arrival`, on the records that
+-- the rows stand for; and the rows where it accepts.
 --
 --   HandDeliverySays        the rows that are written
 --   DeliveryExported        the promise of the call

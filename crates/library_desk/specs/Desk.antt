@@ -1,6 +1,6 @@
--- What the calls that change the desk promise: the promise of the coordinator's call behind each, on
--- the record that the row stands for; and the row and the message where it accepts. A row that is
--- no record is inconsistent memory (crate coordinator_numbers, specs/Claims.antt).
+-- What the calls that change the desk promise: the promise of the coordinator's call behind each,
+-- on the record that the row stands for; and the row and the message where it accepts. A row that
+-- is no record is inconsistent memory (crate coordinator_numbers, specs/Claims.antt).
 --
 --   StartDeskExported       starting the desk
 --   DeskMessageExported     a message for the desk

@@ -1,5 +1,5 @@
--- What the calls of the library hand out in rows of numbers: "A refused call changes nothing that it
--- was lent" (tracker.h).
+-- What the calls of the library hand out in rows of numbers: "A refused call changes nothing that
+-- it was lent" (tracker.h).
 --
 --   Lent, lent                what a call is lent, before it and after it
 --   Row, Number               a lent row, or lent memory; a lent number

@@ -1,5 +1,5 @@
-// The messages that a call of the library hands out, as rows of numbers: only where it accepts. Both
-// functions serve the crates `library_decks` and `library_desk`.
+// The messages that a call of the library hands out, as rows of numbers: only where it accepts.
+// Both functions serve the crates `library_decks` and `library_desk`.
 ghost use Rattle.library_rows.specs.Rows.{lent, HandMessageSays, HandMessagesSays};
 use model::MESSAGE_WIDTH;
 use model::Message;

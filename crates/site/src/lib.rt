@@ -1,5 +1,5 @@
-// The calls on sites: starting them all or one, an arrival at a site and a message at a site. Each refuses
-// what document 01's table "Refused" names, in its order, and then takes the step of crate
+// The calls on sites: starting them all or one, an arrival at a site and a message at a site. Each
+// refuses what document 01's table "Refused" names, in its order, and then takes the step of crate
 // `site_steps`.
 
 ghost use mathlib.Core.Path.{_≡_};

@@ -22,7 +22,8 @@ words-are : (c : tie.After-site-words)
     → let a = c .before .before .before .before .args in
     a .settings .sites * c .site-words .result ≡ sitesWords (a .settings)
 words-are c =
-    ap (λ (n : ℕ). c .before .before .before .before .args .settings .sites * n) (c .site-words .ensures)
+    ap (λ (n : ℕ). c .before .before .before .before .args .settings .sites * n)
+    (c .site-words .ensures)
 
 mul-if2 : tie.Need-mul-if2
 mul-if2 c =

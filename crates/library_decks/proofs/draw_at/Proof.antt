@@ -35,7 +35,8 @@ part-observe-start c = omega (arith, starts (c .before .before) .within)
 
 hand-site-at-requires : tie.Need-hand-site-at-requires
 hand-site-at-requires c κs =
-    let start = c .before .before .before .before .before .before .before .before .before .before .before .before .before in
+    let observed = c .before .before .before .before .before .before in
+    let start = observed .before .before .before .before .before .before .before in
     site-few (start .pre .fits) (start .args .draw .site) (start .pre .known)
 
 returns : tie.Need-returns

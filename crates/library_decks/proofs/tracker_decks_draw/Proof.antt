@@ -13,8 +13,8 @@ use Rattle.library_decks.proofs.tracker_decks_draw.Tie as tie
 refusal-of : (tests : tie.After-decks-refusal)
     → let start = tests .before .before .before .before in
     tests .decks-refusal .result
-    ≡ decksRefusal (tests .before .before .settings-from .result) (tests .before .arrival-from .result .site)
-    (length (now (start .args .memory)))
+    ≡ decksRefusal (tests .before .before .settings-from .result)
+    (tests .before .arrival-from .result .site) (length (now (start .args .memory)))
 refusal-of tests = tests .decks-refusal .ensures
 
 returns : tie.Need-returns
@@ -38,7 +38,8 @@ draw-at-requires : tie.Need-draw-at-requires
 draw-at-requires c κs =
     let at-if1 = c .before .before .before .before in
     let tests = at-if1 .before in
-    named-asks _ _ (now (tests .before .before .before .before .args .memory)) (told (refusal-of tests) (at-if1 .if1 .left))
+    named-asks _ _ (now (tests .before .before .before .before .args .memory))
+    (told (refusal-of tests) (at-if1 .if1 .left))
 
 returns-2 : tie.Need-returns-2
 returns-2 c =

@@ -1,5 +1,5 @@
--- The records one by one, then the count of messages. The loop's invariant: the numbers of the first
--- i records stand at the front. The measure is the count of the records left.
+-- The records one by one, then the count of messages. The loop's invariant: the numbers of the
+-- first i records stand at the front. The measure is the count of the records left.
 use Prim.Native.Nat.{_-_}
 use mathlib.Core.Path.{refl}
 use borrow.Author.Needs.{needs}

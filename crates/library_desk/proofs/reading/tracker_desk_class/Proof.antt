@@ -16,7 +16,9 @@ returns c =
           rw (at-desk .before .settings-from .ensures, at-desk .coordinator-from .ensures)
           at (at-read .read-quantile .ensures);
       refusal = refl;
-      class-is = c .class-number .ensures ∙ accepts (at-read .read-quantile .result .refusal) _ _ (at-if1 .if1 .taken);
+      class-is =
+          c .class-number .ensures
+          ∙ accepts (at-read .read-quantile .result .refusal) _ _ (at-if1 .if1 .taken);
     }
 
 returns-2 : tie.Need-returns-2

@@ -6,12 +6,14 @@
  * which codes take at least a share p of all draws, and which volume class is their q-quantile,
  * each within a leeway e, all in thousandths.
  *
- * ANSWERS. Each call answers TRACKER_ACCEPTED (0) or a refusal. A refused call changes nothing that
- * it was lent, with one exception: tracker_run, which says how far it came.
+ * ANSWERS. Each call answers TRACKER_ACCEPTED (0) or a refusal: each names those that it has, in
+ * the order of its tests. A refused call changes nothing that it was lent, with one exception:
+ * tracker_run, which says how far it came.
  *
  * MEMORY. The caller owns every byte. No call keeps a pointer, allocates, blocks, or fails in any
- * other way. Lent memory may be longer than asked for: the rest is neither read nor changed. Its
- * length may differ from call to call, as long as it is enough; what is too short is refused (4).
+ * other way. "Writes:" at a call is all that it changes, and only where it accepts. Lent memory may
+ * be longer than asked for: the rest is neither read nor changed. Its length may differ from call
+ * to call, as long as it is enough; what is too short is refused (4).
  *
  * RECORDS AND MEMORY ARE WRITTEN BY THESE CALLS ALONE. They may be read at any time, copied, and
  * moved to another address. What the calls left and nobody else changed is consistent to every call
@@ -144,20 +146,23 @@ typedef struct {
     uint64_t log_numbers;   /* uint64_t: the least log with which tracker_run takes a draw */
 } tracker_lengths;
 
-/* 1, 2, 3. */
+/* Writes: *lengths. Refuses: 1, 2, 3. */
 uint32_t tracker_test_lengths(const tracker_settings *settings, tracker_lengths *lengths);
 
 /* ---- Starting fresh -------------------------------------------------------------------------- */
 
-/* All decks: every number of their memory becomes 0. 1, 2, 3, 4. */
+/* All decks: every number of their memory becomes 0. Writes: *decks, and of `memory` the first
+ * TRACKER_DECKS_NUMBERS(k, c). Refuses: 1, 2, 3, 4. */
 uint32_t tracker_start_decks(const tracker_settings *settings, tracker_decks *decks,
                              uint32_t *memory, size_t numbers);
 
-/* Deck number `deck` alone, for a process that holds one. 1, 2, 3, 4, 5. */
+/* Deck number `deck` alone, for a process that holds one. Writes: *record, and of `memory` the
+ * first TRACKER_DECK_NUMBERS(c). Refuses: 1, 2, 3, 4, 5. */
 uint32_t tracker_start_deck(const tracker_settings *settings, uint32_t deck, tracker_deck *record,
                             uint32_t *memory, size_t numbers);
 
-/* The desk. 1, 2, 3, 4. */
+/* The desk. Writes: *desk, and of `memory` the first TRACKER_DESK_NUMBERS(u). Refuses: 1, 2, 3,
+ * 4. */
 uint32_t tracker_start_desk(const tracker_settings *settings, tracker_desk *desk, uint64_t *memory,
                             size_t numbers);
 
@@ -170,14 +175,15 @@ uint32_t tracker_start_desk(const tracker_settings *settings, tracker_desk *desk
  * place more than messages: TRACKER_QUEUE_PLACES(k). */
 
 /* A draw at deck number `deck`, with its own record and its own part of the memory. out[0] to
- * out[*count - 1] are the messages to send, two at most; the rest of `out` becomes zeros.
- * 1, 2, 3, 4, 11, 5, 6, 7, 8. */
+ * out[*count - 1] are the messages to send, two at most; the rest of `out` becomes zeros. Writes:
+ * *record, memory, both of `out`, *count. Refuses: 1, 2, 3, 4, 11, 5, 6, 7, 8. */
 uint32_t tracker_deck_draw(const tracker_settings *settings, uint32_t deck, tracker_deck *record,
                            uint32_t *memory, size_t numbers, uint32_t code, uint32_t volume_class,
                            tracker_message out[2], uint32_t *count);
 
 /* A message (kind 3, 5, 7) at deck number `deck`, likewise. *count is 1 if *reply is to be sent,
- * else 0, and *reply zeros. 1, 2, 3, 4, 11, 5, 9, 7, 10. */
+ * else 0, and *reply zeros. Writes: *record, *reply, *count. Refuses: 1, 2, 3, 4, 11, 5, 9, 7,
+ * 10. */
 uint32_t tracker_deck_message(const tracker_settings *settings, uint32_t deck, tracker_deck *record,
                               const uint32_t *memory, size_t numbers,
                               const tracker_message *message, tracker_message *reply,
@@ -185,25 +191,26 @@ uint32_t tracker_deck_message(const tracker_settings *settings, uint32_t deck, t
 
 /* The same where one process holds all decks: the deck is the one that draw or message names, and
  * is looked up after it was tested. 4 is tested of all decks' memory, 11 of that deck's alone.
- * 1, 2, 3, 4, 5, 11, 6, 7, 8. */
+ * Writes: that deck's record and its part of `memory`, both of `out`, *count. Refuses: 1, 2, 3, 4,
+ * 5, 11, 6, 7, 8. */
 uint32_t tracker_decks_draw(const tracker_settings *settings, tracker_decks *decks,
                             uint32_t *memory, size_t numbers, const tracker_draw *draw,
                             tracker_message out[2], uint32_t *count);
 
-/* 1, 2, 3, 4, 5, 11, 9, 7, 10. */
+/* Writes: that deck's record, *reply, *count. Refuses: 1, 2, 3, 4, 5, 11, 9, 7, 10. */
 uint32_t tracker_decks_message(const tracker_settings *settings, tracker_decks *decks,
                                const uint32_t *memory, size_t numbers,
                                const tracker_message *message, tracker_message *reply,
                                uint32_t *count);
 
 /* A message (kind 1, 2, 4, 6) at the desk. *count is 1 if *out is to be sent, else 0, and *out
- * zeros. 1, 2, 3, 4, 11, 5, 9, 6, 7, 10. */
+ * zeros. Writes: *desk, memory, *out, *count. Refuses: 1, 2, 3, 4, 11, 5, 9, 6, 7, 10. */
 uint32_t tracker_desk_message(const tracker_settings *settings, tracker_desk *desk,
                               uint64_t *memory, size_t numbers, const tracker_message *message,
                               tracker_message *out, uint32_t *count);
 
 /* The next kind 7 of a desk that announces (desk->phase is TRACKER_ANNOUNCING); 9 from any other.
- * 1, 2, 3, 4, 11, 9. */
+ * Writes: *desk, *out. Refuses: 1, 2, 3, 4, 11, 9. */
 uint32_t tracker_desk_announcement(const tracker_settings *settings, tracker_desk *desk,
                                    const uint64_t *memory, size_t numbers, tracker_message *out);
 
@@ -215,7 +222,8 @@ typedef struct {
 } tracker_delivery;
 
 /* One draw and all that the loop above does after it. All memory is tested first, as tracker_run
- * tests it, so a bench that is not at rest is 11. 1, 2, 3, 4, 11, 5, 6, 7, 8. */
+ * tests it, so a bench that is not at rest is 11. Writes: *decks but for its `messages`, *desk,
+ * both memories, *delivery. Refuses: 1, 2, 3, 4, 11, 5, 6, 7, 8. */
 uint32_t tracker_deliver(const tracker_settings *settings, tracker_decks *decks, tracker_desk *desk,
                          uint32_t *deck_memory, size_t deck_numbers, uint64_t *desk_memory,
                          size_t desk_numbers, const tracker_draw *draw,
@@ -234,7 +242,8 @@ typedef struct {
  * and 11 come before the first draw, with 0 and 0. `log_numbers` is 4 for each message that the log
  * has a place for. On 14 take the messages out of the log and go on at draws + accepted; a log of
  * TRACKER_LOG_NUMBERS(k) numbers always takes a draw, a shorter one may take none, however often it
- * is tried. 1, 2, 3, 4, 11, 5, 6, 7, 8, 14. */
+ * is tried. Writes: *decks, *desk, both memories, the first `written` of the log, *counts.
+ * Refuses: 1, 2, 3, 4, 11, 5, 6, 7, 8, 14. */
 uint32_t tracker_run(const tracker_settings *settings, tracker_decks *decks, tracker_desk *desk,
                      const tracker_draw *draws, size_t count, uint32_t *deck_memory,
                      size_t deck_numbers, uint64_t *desk_memory, size_t desk_numbers,
@@ -243,18 +252,19 @@ uint32_t tracker_run(const tracker_settings *settings, tracker_decks *decks, tra
 /* ---- Reading the desk, between draws --------------------------------------------------------- */
 
 /* The listed codes in rising order: codes[0] to codes[*count - 1]; the places after them stay.
- * 1, 2, 3, 4, 11, 12. */
+ * Writes: these, *count. Refuses: 1, 2, 3, 4, 11, 12. */
 uint32_t tracker_desk_list(const tracker_settings *settings, const tracker_desk *desk,
                            const uint64_t *memory, size_t numbers, uint32_t *codes, size_t places,
                            size_t *count);
 
 /* How far a code is above the list rule (0 or more: listed, once there is a draw) or below it:
- * 2000 x its number - (2p - e) x total. 1, 2, 3, 4, 11, 6. */
+ * 2000 x its number - (2p - e) x total. Writes: *margin. Refuses: 1, 2, 3, 4, 11, 6. */
 uint32_t tracker_desk_margin(const tracker_settings *settings, const tracker_desk *desk,
                              const uint64_t *memory, size_t numbers, uint32_t code,
                              int64_t *margin);
 
-/* The tracked class, or TRACKER_NO_CLASS before the first draw. 1, 2, 3, 4, 11. */
+/* The tracked class, or TRACKER_NO_CLASS before the first draw. Writes: *volume_class. Refuses: 1,
+ * 2, 3, 4, 11. */
 #define TRACKER_NO_CLASS UINT32_MAX
 uint32_t tracker_desk_class(const tracker_settings *settings, const tracker_desk *desk,
                             const uint64_t *memory, size_t numbers, uint32_t *volume_class);

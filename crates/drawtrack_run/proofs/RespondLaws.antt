@@ -18,8 +18,8 @@ use Rattle.model.specs.Refusals.{noRefusal}
 use Rattle.output_lines.specs.Contracts.{writtenTo, atStart}
 use Rattle.output_words.specs.Words.{reasonLine, reasonRoom, ReasonSays}
 use Rattle.drawtrack_steps.specs.Outcome.{Buffers}
-use Rattle.drawtrack_session.specs.Limits.{inputRoom}
-use Rattle.drawtrack_session.specs.Ending.{Ending, ending}
+use Rattle.drawtrack_course.specs.Rooms.{inputRoom}
+use Rattle.drawtrack_course.specs.Ending.{Ending, ending}
 use Rattle.drawtrack_serving.specs.declared.Stopped.{Stopped}
 use Rattle.drawtrack_run.specs.declared.Response.{Response}
 use Rattle.drawtrack_serving.specs.Serving.{endingIn, ServeSays}

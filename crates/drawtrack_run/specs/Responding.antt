@@ -15,8 +15,8 @@ use Rattle.model.specs.Choice.{if_then_else_, isZero}
 use Rattle.output_lines.specs.Contracts.{Written, writtenTo, atStart}
 use Rattle.output_words.specs.Words.{reasonLine, reasonRoom}
 use Rattle.drawtrack_steps.specs.Outcome.{Buffers}
-use Rattle.drawtrack_session.specs.Limits.{inputRoom}
-use Rattle.drawtrack_session.specs.Ending.{Ending, ending}
+use Rattle.drawtrack_course.specs.Rooms.{inputRoom}
+use Rattle.drawtrack_course.specs.Ending.{Ending, ending}
 use Rattle.drawtrack_serving.specs.declared.Stopped.{Stopped}
 use Rattle.drawtrack_run.specs.declared.Response.{Response}
 use Rattle.drawtrack_serving.specs.Serving.{ServeAsks, ServeSays}

@@ -15,13 +15,13 @@ use Rattle.worklist_reader.specs.Walk.{lastLine}
 use Rattle.drawtrack_steps.specs.declared.Session.{Session}
 use Rattle.drawtrack_steps.specs.declared.Moved.{Moved}
 use Rattle.drawtrack_steps.specs.Outcome.{Buffers, buffers}
-use Rattle.drawtrack_session.specs.Limits.{inputRoom}
-use Rattle.drawtrack_session.specs.Begin.{BeginSays}
+use Rattle.drawtrack_course.specs.Rooms.{inputRoom}
+use Rattle.drawtrack_session.specs.Begin.{startLine, BeginSays}
 use Rattle.drawtrack_session.specs.Advance.{AdvanceSays}
-use Rattle.drawtrack_session.specs.Course.{Course, begun, advanced}
+use Rattle.drawtrack_course.specs.Course.{Course, begun, advanced}
 use Rattle.output_words.specs.Words.{firstLine}
-use Rattle.drawtrack_session.specs.Ending.{Ending, startLine, endingAt, endingLine, ending}
-use Rattle.drawtrack_session.proofs.Theorem.{session-claims}
+use Rattle.drawtrack_course.specs.Ending.{Ending, endingAt, endingLine, ending}
+use Rattle.drawtrack_course.proofs.Theorem.{session-claims}
 use Rattle.drawtrack_serving.specs.declared.Stopped.{Stopped}
 use Rattle.drawtrack_serving.specs.Serving.{ServeAsks, Situation, situation, begunWith, withoutLists, afterBegin, situationOf, afterCall, afterCalls, Serving, stoppedOf, AllTaken, ServeSays}
 

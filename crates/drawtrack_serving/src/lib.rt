@@ -7,7 +7,7 @@ ghost use mathlib.Core.Path.{_≡_};
 ghost use Prim.Native.Nat.{_≤_};
 ghost use lib.ListN.{length};
 ghost use Rattle.drawtrack_steps.specs.Outcome.{buffers};
-ghost use Rattle.drawtrack_session.specs.Limits.{inputRoom};
+ghost use Rattle.drawtrack_course.specs.Rooms.{inputRoom};
 ghost use Rattle.drawtrack_serving.specs.Serving.{ServeAsks, ServeSays, stoppedOf};
 use descriptors::write_all;
 use drawtrack_session::SESSION_INPUT_BYTES;

@@ -2,14 +2,15 @@
 -- (document 01's section "Worklist").
 --
 --   startRefusalOf ..                13; 1, 2, 3; 4
+--   startLine settings refusal       which line of the input is refused
 --   firstSession input found         where the session stands then
 --   beginOf input given              the outcome of `begin`
 --   BeginSays                        the promise
 use mathlib.Core.Path.{_≡_}
-use mathlib.Core.Bool.{Bool, true, _||_}
+use mathlib.Core.Bool.{Bool, true, not, _&&_, _||_}
 use mathlib.Core.List.{List}
 use Prim.Native.Nat.{ℕ, _-_}
-use lib.Dec.{ltb}
+use lib.Dec.{eqb, ltb}
 use lib.ListN.{length}
 use Rattle.model.specs.declared.Settings.{Settings}
 use Rattle.model.specs.Choice.{if_then_else_, isZero}
@@ -22,6 +23,7 @@ use Rattle.model.specs.Lines.{Fields, readFields}
 use Rattle.model.specs.Transcript.{beyondProgram}
 use Rattle.worklist_reader.specs.Contracts.{lineRefusal, settingsIn, bytesAfter}
 use Rattle.site.specs.Calls.{cleared}
+use Rattle.output_words.specs.Words.{wholeWorklist, settingsLine}
 use Rattle.drawtrack_steps.specs.declared.Session.{Session}
 use Rattle.drawtrack_steps.specs.declared.Moved.{Moved}
 use Rattle.drawtrack_steps.specs.Outcome.{Buffers, buffers, Outcome, outcome, SameLengths, refusedOf}
@@ -48,6 +50,14 @@ abbrev pub beginRefusalOf : List ℕ → Fields → Buffers → ℕ
 beginRefusalOf input found given =
     startRefusalOf (lineRefusal found) (settingsIn found) (length (bytesAfter input found))
     (length (given .siteMemory)) (length (given .coordinatorMemory))
+
+-- Before any draw the settings line is refused; but where the program serves the settings, 4 is of
+-- a worklist that is too long.
+abbrev pub startLine : Settings → ℕ → ℕ
+startLine settings refusal =
+    if eqb refusal memoryTooShort && not (beyondProgram settings 0)
+    then wholeWorklist
+    else settingsLine
 
 -- ---- What comes of it
 

@@ -1,8 +1,4 @@
--- What the calls of a session promise, and that together they write the program's transcript.
+-- What the calls of a session promise.
 pub mod Limits
 pub mod Begin
 pub mod Advance
-pub mod Course
-pub mod Ending
-pub mod EndingInstances
-pub mod Claims

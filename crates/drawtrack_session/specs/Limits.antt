@@ -5,13 +5,10 @@
 --   programSites, programCapacity, programUniverse, programBytes     4, 100, 1000, 8192
 --   programSettings                the largest settings that it serves
 --   siteRoom, coordinatorRoom      5696 and 2024 numbers of memory
---   logRoom, listRoom, outRoom     376 numbers, 1000 places, 8192 bytes
---   inputRoom                      8241 bytes, the most that matter of an input
 use Prim.Native.Nat.{ℕ, _+_, _*_}
 use Rattle.model.specs.declared.Settings.{Settings}
-use Rattle.model.specs.Limits.{topValue, mostMessages}
+use Rattle.model.specs.Limits.{topValue}
 use Rattle.model.specs.Settings.{settingsWith}
-use Rattle.model.specs.Messages.{messageWidth}
 
 abbrev pub programSites : ℕ
 programSites = 4
@@ -36,19 +33,3 @@ siteRoom = programSites * (4 * programCapacity + (topValue + 1))
 
 abbrev pub coordinatorRoom : ℕ
 coordinatorRoom = programUniverse + (topValue + 1)
-
--- The numbers of each message that may follow one draw, and a place for each item.
-abbrev pub logRoom : ℕ
-logRoom = messageWidth * mostMessages programSettings
-
-abbrev pub listRoom : ℕ
-listRoom = programUniverse
-
--- The lines of those messages take at most 84 bytes each; the results take fewer than all of them.
-abbrev pub outRoom : ℕ
-outRoom = 8192
-
--- A settings line of six numbers of seven digits, each with the byte that ends it; a worklist; and
--- one byte more, by which a worklist is seen to be too long.
-abbrev pub inputRoom : ℕ
-inputRoom = 6 * (7 + 1) + programBytes + 1

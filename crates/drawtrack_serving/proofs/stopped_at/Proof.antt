@@ -3,7 +3,8 @@ use mathlib.Core.Path.{_≡_, refl}
 use Prim.Native.Nat.{ℕ, zero, suc, _+_}
 use native.Mathlib.Omega.{arith}
 use borrow.Author.Needs.{needs}
-use Rattle.drawtrack_session.specs.Ending.{startLine, endingLine}
+use Rattle.drawtrack_session.specs.Begin.{startLine}
+use Rattle.drawtrack_course.specs.Ending.{endingLine}
 use Rattle.drawtrack_serving.specs.declared.Stopped.{Stopped}
 use Rattle.drawtrack_serving.specs.Serving.{stoppedOf}
 use Rattle.drawtrack_serving.proofs.ServingLaws.{line-first, line-later}

@@ -6,7 +6,7 @@
 use mathlib.Core.Path.{_≡_}
 use mathlib.Core.List.{List, [], _∷_, _++_}
 use Prim.Native.Nat.{ℕ}
-use Rattle.drawtrack_session.specs.Ending.{endingAt, ending}
+use Rattle.drawtrack_course.specs.Ending.{endingAt, ending}
 
 abbrev pub settingsA : List ℕ → List ℕ
 settingsA worklist =

@@ -28,8 +28,8 @@ use Rattle.worklist_reader.specs.Contracts.{lineRefusal, settingsIn, bytesAfter
 use Rattle.worklist_reader.specs.Walk.{stepOf, stepAt}
 use Rattle.output_lines.specs.Contracts.{atStart, lineAfter}
 use Rattle.output_lines.proofs.OutputLaws.{line-fits}
-use Rattle.drawtrack_session.specs.Limits.{outRoom}
-use Rattle.drawtrack_session.specs.Course.{beginRefusal}
+use Rattle.drawtrack_course.specs.Rooms.{outRoom}
+use Rattle.drawtrack_course.specs.Course.{beginRefusal}
 
 when-small : (test : Bool) (refusal : ℕ) → refusal ≤ 99 → when test refusal ≤ 99
 when-small true refusal small = small

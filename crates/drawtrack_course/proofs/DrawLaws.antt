@@ -30,9 +30,9 @@ use Rattle.drawtrack_steps.specs.declared.Session.{Session}
 use Rattle.drawtrack_steps.specs.Outcome.{Buffers, buffers, Outcome, outcome}
 use Rattle.drawtrack_steps.specs.Steps.{drawCall, drawRefusal, takenOf}
 use Rattle.drawtrack_steps.proofs.TakeLaws.{done}
-use Rattle.drawtrack_session.specs.Course.{Represents, Room}
-use Rattle.drawtrack_session.proofs.StateLaws.{runAfter, state, state-ok, state-at-rest}
-use Rattle.drawtrack_session.proofs.BatchLaws.{one-refusal, One, one-taken, length-messagesIn, leftOf, says-of}
+use Rattle.drawtrack_course.specs.Course.{Represents, Room}
+use Rattle.drawtrack_course.proofs.StateLaws.{runAfter, state, state-ok, state-at-rest}
+use Rattle.drawtrack_course.proofs.BatchLaws.{one-refusal, One, one-taken, length-messagesIn, leftOf, says-of}
 
 -- ---- The draw of a line
 

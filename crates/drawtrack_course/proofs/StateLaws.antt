@@ -15,7 +15,7 @@ use Rattle.history.proofs.RunSound.{sound-run}
 use Rattle.history.proofs.Invariant.{StateOk, Resting, resting}
 use Rattle.drawtrack_steps.specs.declared.Session.{Session}
 use Rattle.drawtrack_steps.specs.Outcome.{heldOf}
-use Rattle.drawtrack_session.specs.Course.{Represents}
+use Rattle.drawtrack_course.specs.Course.{Represents}
 
 abbrev pub runAfter : Session → List Arrival → Run
 runAfter session arrivals = runOf (session .settings) arrivals

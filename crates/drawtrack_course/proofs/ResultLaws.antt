@@ -33,8 +33,8 @@ use Rattle.drawtrack_steps.specs.Outcome.{Buffers}
 use Rattle.drawtrack_steps.specs.Steps.{sessionCoordinator, resultLinesOf, listedOf, resultsOf}
 use Rattle.laws.proofs.Writing.{joined}
 use Rattle.output_lines.proofs.OutputLaws.{Fitted, fits-all}
-use Rattle.drawtrack_session.specs.Course.{Represents, Room}
-use Rattle.drawtrack_session.proofs.StateLaws.{runAfter, state-ok}
+use Rattle.drawtrack_course.specs.Course.{Represents, Room}
+use Rattle.drawtrack_course.proofs.StateLaws.{runAfter, state-ok}
 
 -- ---- How long the list is
 

@@ -2,23 +2,22 @@
 -- "Worklist"). Lines are those of the input, as crate output_words numbers them.
 --
 --   Ending, endingAt refusal line        a refusal, 0 for none, and a line
---   startLine settings refusal           where a session is refused before any draw
 --   endingLine settings refusal calls    where it ends, after so many calls of `advance`
 --   ending input                         how an input ends
 --   Front, Last                          the first and the last bytes of a whole
 --   EndsAs refusal whole                 the last lines are those of a refusal, 0 for results
 use mathlib.Core.Path.{_≡_}
-use mathlib.Core.Bool.{true, false, not, _&&_}
+use mathlib.Core.Bool.{true, false}
 use mathlib.Core.List.{List, _++_}
 use Prim.Native.Nat.{ℕ, zero, suc, _+_}
-use lib.Dec.{eqb}
 use Rattle.model.specs.declared.Settings.{Settings}
-use Rattle.model.specs.Choice.{if_then_else_, isZero}
-use Rattle.model.specs.Refusals.{noRefusal, memoryTooShort, malformedLine}
+use Rattle.model.specs.Choice.{isZero}
+use Rattle.model.specs.Refusals.{noRefusal, malformedLine}
 use Rattle.model.specs.Lines.{Fields, malformed, fields, readFields, settingsOf, Worklist, ended, malformedAt, next, readWorklist}
 use Rattle.model.specs.Runs.{Run, freshRun, runOne, lineRefusalIn}
-use Rattle.model.specs.Transcript.{refusedLine, resultLines, beyondProgram, programRefusal}
-use Rattle.output_words.specs.Words.{wholeWorklist, settingsLine, firstLine}
+use Rattle.model.specs.Transcript.{refusedLine, resultLines, programRefusal}
+use Rattle.output_words.specs.Words.{settingsLine, firstLine}
+use Rattle.drawtrack_session.specs.Begin.{startLine}
 
 pub record Ending : Type 0 where
   pub refusal : ℕ
@@ -28,14 +27,6 @@ abbrev pub endingAt : ℕ → ℕ → Ending
 endingAt refusal line = record { refusal = refusal; line = line }
 
 -- ---- Lines of the input
-
--- Before any draw the settings line is refused; but where the program serves the settings, 4 is of
--- a worklist that is too long.
-abbrev pub startLine : Settings → ℕ → ℕ
-startLine settings refusal =
-    if eqb refusal memoryTooShort && not (beyondProgram settings 0)
-    then wholeWorklist
-    else settingsLine
 
 -- Each call of `advance` takes one line of the worklist.
 abbrev pub endingLine : Settings → ℕ → ℕ → ℕ

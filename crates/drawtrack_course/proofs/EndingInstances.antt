@@ -1,7 +1,7 @@
 -- The rows of specs/EndingInstances.antt compute.
 use mathlib.Core.Path.{refl}
 use Rattle.model.specs.Draws.{isTaken}
-use Rattle.drawtrack_session.specs.EndingInstances.{EndingInstances}
+use Rattle.drawtrack_course.specs.EndingInstances.{EndingInstances}
 
 pub ending-instances : EndingInstances
 unfolding isTaken

@@ -20,9 +20,9 @@ use Rattle.drawtrack_steps.specs.Output.{linesOf}
 use Rattle.drawtrack_steps.specs.Outcome.{Outcome, refusedOf, Buffers}
 use Rattle.drawtrack_steps.specs.Steps.{drawCall, drawRefusal, takenOf, drawOf, sessionCoordinator, resultLinesOf, listedOf, resultsOf}
 use Rattle.output_lines.proofs.OutputLaws.{lines-kept}
 use Rattle.drawtrack_session.specs.Begin.{beginRefusalOf, firstSession, startedOf, beginOf}
 use Rattle.drawtrack_session.specs.Advance.{lineOf}
-use Rattle.drawtrack_session.specs.Claims.{LastKept, Keeps}
+use Rattle.drawtrack_course.specs.Claims.{LastKept, Keeps}
 
 module _ (given : Buffers) (session : Session) where
   abbrev pub Kept : Outcome → Type 0

@@ -12,11 +12,12 @@ use Rattle.worklist_reader.specs.Walk.{lastLine, stepAt}
 use Rattle.drawtrack_steps.specs.declared.Session.{Session}
 use Rattle.drawtrack_steps.specs.declared.Moved.{Moved}
 use Rattle.drawtrack_steps.specs.Outcome.{Buffers, stopped}
-use Rattle.drawtrack_session.specs.Limits.{siteRoom, coordinatorRoom, outRoom, inputRoom}
+use Rattle.drawtrack_session.specs.Limits.{siteRoom, coordinatorRoom}
+use Rattle.drawtrack_course.specs.Rooms.{outRoom, inputRoom}
 use Rattle.drawtrack_session.specs.Begin.{firstSession, BeginSays}
 use Rattle.drawtrack_session.specs.Advance.{AdvanceSays}
-use Rattle.drawtrack_session.specs.Course.{Represents, Room, BeginRight, LineRight, Course}
-use Rattle.drawtrack_session.specs.Ending.{Front, EndsAs, endingAt, endingLine, ending}
+use Rattle.drawtrack_course.specs.Course.{Represents, Room, BeginRight, LineRight, Course}
+use Rattle.drawtrack_course.specs.Ending.{Front, EndsAs, endingAt, endingLine, ending}
 
 -- The last call of a session, refused or not: the session stands where it stood, with its records,
 -- and knows why it ended; both memories and the log are as they were.

@@ -25,12 +25,12 @@ use Rattle.drawtrack_steps.specs.Outcome.{Outcome, refusedOf, Buffers}
 use Rattle.drawtrack_steps.specs.declared.Moved.{Moved}
 use Rattle.drawtrack_steps.specs.Steps.{FewBytes, drawCall, drawRefusal, takenOf, drawOf, resultsOf}
 use Rattle.drawtrack_steps.proofs.OutputLaws.{joined-messages}
 use Rattle.drawtrack_session.specs.Advance.{lineOf, SessionLineSays}
-use Rattle.drawtrack_session.specs.Course.{Represents, Room, LineRight}
-use Rattle.drawtrack_session.proofs.RefusalLaws.{draw-small, refused-line}
-use Rattle.drawtrack_session.proofs.StateLaws.{runAfter}
-use Rattle.drawtrack_session.proofs.DrawLaws.{rule-is, sent-are, few-sent, stands-then}
-use Rattle.drawtrack_session.proofs.ResultLaws.{results-fine, results-right}
+use Rattle.drawtrack_course.specs.Course.{Represents, Room, LineRight}
+use Rattle.drawtrack_course.proofs.RefusalLaws.{draw-small, refused-line}
+use Rattle.drawtrack_course.proofs.StateLaws.{runAfter}
+use Rattle.drawtrack_course.proofs.DrawLaws.{rule-is, sent-are, few-sent, stands-then}
+use Rattle.drawtrack_course.proofs.ResultLaws.{results-fine, results-right}
 
 module _ {session : Session} {given : Buffers} {arrivals : List Arrival}
     (stands : Represents session (given .siteMemory) (given .coordinatorMemory) arrivals)

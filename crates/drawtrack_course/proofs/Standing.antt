@@ -17,9 +17,10 @@ use Rattle.worklist_reader.specs.Contracts.{settingsIn}
 use Rattle.drawtrack_steps.specs.declared.Session.{Session}
 use Rattle.drawtrack_steps.specs.declared.Moved.{Moved}
 use Rattle.drawtrack_steps.specs.Outcome.{Buffers}
-use Rattle.drawtrack_session.specs.Course.{Represents, beginRefusal, beginPiece, BeginRight}
+use Rattle.drawtrack_course.specs.Course.{Represents, beginRefusal, beginPiece, BeginRight}
 use Rattle.output_words.specs.Words.{firstLine}
-use Rattle.drawtrack_session.specs.Ending.{startLine, endingAt, endingLine, endingFrom, endingWith, ending}
+use Rattle.drawtrack_session.specs.Begin.{startLine}
+use Rattle.drawtrack_course.specs.Ending.{endingAt, endingLine, endingFrom, endingWith, ending}
 
 -- ---- Where a course stands
 

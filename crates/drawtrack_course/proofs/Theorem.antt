@@ -6,14 +6,14 @@ use lib.ListN.{length, take, length-take}
 use Rattle.model.specs.Lines.{readFields}
 use Rattle.model.proofs.Worklists.TranscriptLaws.{transcript-claims}
 use Rattle.worklist_reader.specs.Walk.{lastLine, stepAt}
 use Rattle.drawtrack_session.specs.Begin.{firstSession}
-use Rattle.drawtrack_session.specs.Claims.{SessionClaims}
-use Rattle.drawtrack_session.proofs.KeptLaws.{Kept, begin-keeps-of, line-keeps-of}
-use Rattle.drawtrack_session.proofs.RefusalLaws.{step-small}
-use Rattle.drawtrack_session.proofs.BegunLaws.{begin-right}
-use Rattle.drawtrack_session.proofs.LineRightLaws.{line-right}
-use Rattle.drawtrack_session.proofs.EndingLaws.{front-of, ending-enough-of, transcript-ends-of}
-use Rattle.drawtrack_session.proofs.CourseLaws.{stands-of}
+use Rattle.drawtrack_course.specs.Claims.{SessionClaims}
+use Rattle.drawtrack_course.proofs.KeptLaws.{Kept, begin-keeps-of, line-keeps-of}
+use Rattle.drawtrack_course.proofs.RefusalLaws.{step-small}
+use Rattle.drawtrack_course.proofs.BegunLaws.{begin-right}
+use Rattle.drawtrack_course.proofs.LineRightLaws.{line-right}
+use Rattle.drawtrack_course.proofs.EndingLaws.{front-of, ending-enough-of, transcript-ends-of}
+use Rattle.drawtrack_course.proofs.CourseLaws.{stands-of}
 
 pub session-claims : SessionClaims
 session-claims = record {

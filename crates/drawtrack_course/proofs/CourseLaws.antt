@@ -28,13 +28,13 @@ use Rattle.worklist_reader.proofs.WalkLaws.{walk-claims}
 use Rattle.drawtrack_steps.specs.declared.Session.{Session}
 use Rattle.drawtrack_steps.specs.declared.Moved.{Moved}
 use Rattle.drawtrack_steps.specs.Outcome.{Buffers}
-use Rattle.drawtrack_session.specs.Course.{linePiece, endRefusal, accepts, LineRight, Follows, Course, begun, advanced}
+use Rattle.drawtrack_course.specs.Course.{linePiece, endRefusal, accepts, LineRight, Follows, Course, begun, advanced}
 use Rattle.output_words.specs.Words.{firstLine}
-use Rattle.drawtrack_session.specs.Ending.{endingAt, endingFrom, ending}
-use Rattle.drawtrack_session.proofs.BegunLaws.{begin-right}
-use Rattle.drawtrack_session.proofs.RefusalLaws.{malformed-refusal, step-small}
-use Rattle.drawtrack_session.proofs.LineRightLaws.{line-right}
-use Rattle.drawtrack_session.proofs.Standing.{Goes, Stands, begin-stands}
+use Rattle.drawtrack_course.specs.Ending.{endingAt, endingFrom, ending}
+use Rattle.drawtrack_course.proofs.BegunLaws.{begin-right}
+use Rattle.drawtrack_course.proofs.RefusalLaws.{malformed-refusal, step-small}
+use Rattle.drawtrack_course.proofs.LineRightLaws.{line-right}
+use Rattle.drawtrack_course.proofs.Standing.{Goes, Stands, begin-stands}
 
 -- ---- A line
 

@@ -12,8 +12,8 @@ cd "$(dirname "$0")/.." || exit 1
 
 # They are made one after another: each run of `rt` writes 'failed' to target/log before it looks at
 # a crate, so a second run in the same tree may take a proved crate for a failed one.
-crates="controller library_lengths library_deck library_decks library_desk library_delivery"
-crates="$crates library_batch"
+crates="controller library_lengths library_deck library_decks library_desk library_reading"
+crates="$crates library_delivery library_batch"
 headers=library/include
 made=target/staticlib
 out=target/library

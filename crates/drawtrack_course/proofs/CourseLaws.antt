@@ -29,7 +29,7 @@ use Rattle.drawtrack_steps.specs.declared.Session.{Session}
 use Rattle.drawtrack_steps.specs.declared.Moved.{Moved}
 use Rattle.drawtrack_steps.specs.Outcome.{Buffers}
 use Rattle.drawtrack_course.specs.Course.{linePiece, endRefusal, accepts, LineRight, Follows, Course, begun, advanced}
-use Rattle.output_words.specs.Words.{firstLine}
+use Rattle.output_reason.specs.Reason.{firstLine}
 use Rattle.drawtrack_course.specs.Ending.{endingAt, endingFrom, ending}
 use Rattle.drawtrack_course.proofs.BegunLaws.{begin-right}
 use Rattle.drawtrack_course.proofs.RefusalLaws.{malformed-refusal, step-small}

@@ -24,7 +24,7 @@ use Rattle.model.proofs.Touches.DrawLaws.{line-taken}
 use Rattle.model.proofs.Worklists.TranscriptLaws.{lengthRefusal, refusal-some, refusal-long, input-decides}
 use Rattle.output_transcript.proofs.LineBounds.{message-lines-append}
 use Rattle.drawtrack_steps.specs.declared.Session.{Session}
-use Rattle.output_words.specs.Words.{firstLine}
+use Rattle.output_reason.specs.Reason.{firstLine}
 use Rattle.drawtrack_session.specs.Begin.{startLine}
 use Rattle.drawtrack_course.specs.Ending.{endingAt, endingFrom, endingWith, endingOf, ending, Ending, Front, Last, EndsInResults, EndsAs}
 use Rattle.drawtrack_course.proofs.Standing.{ahead, Stands}

@@ -1,5 +1,5 @@
 -- How an input ends: with results or by a refusal, and at which line (document 01's section
--- "Worklist"). Lines are those of the input, as crate output_words numbers them.
+-- "Worklist"). Lines are those of the input, as crate output_reason numbers them.
 --
 --   Ending, endingAt refusal line        a refusal, 0 for none, and a line
 --   endingLine settings refusal calls    where it ends, after so many calls of `advance`
@@ -16,7 +16,7 @@ use Rattle.model.specs.Refusals.{noRefusal, malformedLine}
 use Rattle.model.specs.Lines.{Fields, malformed, fields, readFields, settingsOf, Worklist, ended, malformedAt, next, readWorklist}
 use Rattle.model.specs.Runs.{Run, freshRun, runOne, lineRefusalIn}
 use Rattle.model.specs.Transcript.{refusedLine, resultLines, programRefusal}
-use Rattle.output_words.specs.Words.{settingsLine, firstLine}
+use Rattle.output_reason.specs.Reason.{settingsLine, firstLine}
 use Rattle.drawtrack_session.specs.Begin.{startLine}
 
 pub record Ending : Type 0 where

@@ -16,7 +16,7 @@ use Rattle.laws.specs.Writing.{writtenAt}
 use Rattle.laws.proofs.Writing.{written-nothing}
 use Rattle.model.specs.Refusals.{noRefusal}
 use Rattle.output_lines.specs.Contracts.{writtenTo, atStart}
-use Rattle.output_words.specs.Words.{reasonLine, reasonRoom, ReasonSays}
+use Rattle.output_reason.specs.Reason.{reasonLine, reasonRoom, ReasonSays}
 use Rattle.drawtrack_steps.specs.Outcome.{Buffers}
 use Rattle.drawtrack_course.specs.Rooms.{inputRoom}
 use Rattle.drawtrack_course.specs.Ending.{Ending, ending}

@@ -13,7 +13,7 @@ use lib.ListN.{length}
 use Rattle.laws.specs.Writing.{writtenAt}
 use Rattle.model.specs.Choice.{if_then_else_, isZero}
 use Rattle.output_lines.specs.Contracts.{Written, writtenTo, atStart}
-use Rattle.output_words.specs.Words.{reasonLine, reasonRoom}
+use Rattle.output_reason.specs.Reason.{reasonLine, reasonRoom}
 use Rattle.drawtrack_steps.specs.Outcome.{Buffers}
 use Rattle.drawtrack_course.specs.Rooms.{inputRoom}
 use Rattle.drawtrack_course.specs.Ending.{Ending, ending}

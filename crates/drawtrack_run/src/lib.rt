@@ -25,7 +25,7 @@ use drawtrack_session::SESSION_SITE_NUMBERS;
 use libc::STDERR_FILENO;
 use model::NO_REFUSAL;
 use model::Word;
-use output_words::REASON_BYTES;
+use output_reason::REASON_BYTES;
 
 // What the run answers: results, a refusal, or that reading or writing failed.
 pub const STATUS_RESULTS: u32 = 0;
@@ -88,7 +88,7 @@ fn respond(
             return Response {
                 failed: false,
                 status: STATUS_REFUSED,
-                said: output_words::write_reason(ended.line, ended.refusal, reason),
+                said: output_reason::write_reason(ended.line, ended.refusal, reason),
             };
         }
     }

@@ -19,7 +19,7 @@ use Rattle.drawtrack_course.specs.Rooms.{inputRoom}
 use Rattle.drawtrack_session.specs.Begin.{startLine, BeginSays}
 use Rattle.drawtrack_session.specs.Advance.{AdvanceSays}
 use Rattle.drawtrack_course.specs.Course.{Course, begun, advanced}
-use Rattle.output_words.specs.Words.{firstLine}
+use Rattle.output_reason.specs.Reason.{firstLine}
 use Rattle.drawtrack_course.specs.Ending.{Ending, endingAt, endingLine, ending}
 use Rattle.drawtrack_course.proofs.Theorem.{session-claims}
 use Rattle.drawtrack_serving.specs.declared.Stopped.{Stopped}

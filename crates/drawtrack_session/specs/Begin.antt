@@ -23,7 +23,7 @@ use Rattle.model.specs.Lines.{Fields, readFields}
 use Rattle.model.specs.Transcript.{beyondProgram}
 use Rattle.worklist_reader.specs.Contracts.{lineRefusal, settingsIn, bytesAfter}
 use Rattle.site.specs.Calls.{cleared}
-use Rattle.output_words.specs.Words.{wholeWorklist, settingsLine}
+use Rattle.output_reason.specs.Reason.{wholeWorklist, settingsLine}
 use Rattle.drawtrack_steps.specs.declared.Session.{Session}
 use Rattle.drawtrack_steps.specs.declared.Moved.{Moved}
 use Rattle.drawtrack_steps.specs.Outcome.{Buffers, buffers, Outcome, outcome, SameLengths, refusedOf}

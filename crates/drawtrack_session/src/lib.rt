@@ -24,8 +24,8 @@ use model::Settings;
 use model::SiteRecord;
 use model::Sites;
 use model::Word;
-use output_words::SETTINGS_LINE;
-use output_words::WHOLE_WORKLIST;
+use output_reason::SETTINGS_LINE;
+use output_reason::WHOLE_WORKLIST;
 use worklist_reader::SettingsRead;
 
 // The program's limits: "Its memory serves k up to 4, c up to 100, u up to 1000 and a worklist up

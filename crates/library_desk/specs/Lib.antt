@@ -1,3 +1,2 @@
 -- What the calls on the desk promise.
 pub mod Desk
-pub mod Reading

@@ -17,7 +17,7 @@ use Rattle.coordinator_reading.specs.Contracts.{MarginSays, QuantileSays}
 use Rattle.history.specs.State.{Held, State, coordinatorPart}
 use Rattle.history.specs.Reading as History
 use Rattle.history.proofs.Answers.{accepted-choice}
-use Rattle.library_desk.specs.Reading.{classNumber}
+use Rattle.library_reading.specs.Reading.{classNumber}
 use Rattle.library_history.specs.Bench.{Bench, heldIn}
 use Rattle.library_history.specs.Calls.{Under}
 use Rattle.library_history.specs.Reading.{ListCall, codesIn, CodesRight, MarginCall, MarginRight, ClassCall, ClassRight, ReadsRight}

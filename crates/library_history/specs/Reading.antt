@@ -22,7 +22,7 @@ use Rattle.record_numbers.specs.Numbers.{greatestNarrow}
 use Rattle.history.specs.State.{State}
 use Rattle.history.specs.Reading.{rulesCoordinator, FirmShare}
 use Rattle.library_rows.specs.Rows.{Lent, Row, Number}
-use Rattle.library_desk.specs.Reading.{ListExported, MarginExported, ClassExported}
+use Rattle.library_reading.specs.Reading.{ListExported, MarginExported, ClassExported}
 use Rattle.library_history.specs.Bench.{Bench, unchanged}
 use Rattle.library_history.specs.Calls.{Under}
 

@@ -1,7 +1,7 @@
 // Lines of words and numbers, written into a lent buffer from a place on. Each call answers the
 // place after its line; where the line doesn't fit, nothing is written and the answer is the place
 // that was given. The functions named `write` test for the room; those named `put` ask for it and
-// are internal: this crate's own, and two of them `output_words`'s.
+// are internal: this crate's own, and two of them `output_words`'s and `output_reason`'s.
 
 ghost use Rattle.model.specs.Lent.{before, after};
 ghost use mathlib.Core.Path.{_≡_};

@@ -1,2 +1,2 @@
--- Laws of the words of a refusal and of the line that has them.
+-- Laws of the words of a refusal.
 pub mod WordLaws

@@ -1,2 +1,2 @@
--- The words of a refusal, and the line that says where and why.
+-- The words of a refusal.
 pub mod Words

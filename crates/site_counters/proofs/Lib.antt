@@ -1,4 +1,3 @@
 -- Laws of the counters in a site's memory.
 pub mod Search
 pub mod CounterMemory
-pub mod CountLaws

@@ -1,3 +1,2 @@
 -- What the functions on counters in lent memory promise.
 pub mod Stored
-pub mod Count

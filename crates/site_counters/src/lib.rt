@@ -1,7 +1,7 @@
 // The counters of one site in its lent memory (Space-Saving): the search for an item, the scan for
-// the least count, and the counting of an arrival's item. The functions with a `requires` are
-// internal; the test that decides it is `site_memory::site_memory_refusal`, which every call on a
-// site makes first, or the batch call's start test.
+// the least count, and a counter read and stored. The functions with a `requires` are internal; the
+// test that decides it is `site_memory::site_memory_refusal`, which every call on a site makes
+// first, or the batch call's start test.
 
 ghost use mathlib.Core.Path.{_≡_};
 ghost use Prim.Native.Nat.{_+_, _*_, _≤_};
@@ -9,8 +9,7 @@ ghost use lib.ListN.{length};
 ghost use Rattle.model.specs.Counters.{find, leastPlace, unreported, goneWith};
 ghost use Rattle.model.specs.Lent.{before, after};
 ghost use Rattle.model.specs.SiteMemory.{countersIn};
-ghost use Rattle.site_counters.specs.Count.{PartsWithin, CountItemAsks, CountItemSays};
-ghost use Rattle.site_counters.specs.Stored.{storedAt, setCounter, counterOf, ordered};
+ghost use Rattle.site_counters.specs.Stored.{storedAt, setCounter, counterOf, PartsWithin, ordered};
 use model::Leaving;
 use model::Word;
 
@@ -116,71 +115,5 @@ pub fn gone_with(leaving: Leaving) -> Word
     match leaving {
         Leaving::Nobody => 0,
         Leaving::Left(_, gone) => gone,
-    }
-}
-
-// What counting an item did: the place of its counter, the counters in use then, the counter, and
-// who left for it (request N1).
-pub struct Counted {
-    pub place: usize,
-    pub used: usize,
-    pub counter: StoredCounter,
-    pub leaving: Leaving,
-}
-
-// An item counted: in its own counter, in the next unused one, or in place of the least. Internal:
-// `site_memory_refusal` decides that there is a counter, that all lie within the memory, that no
-// count is above the site's limit, and that overcount and sent number are within the count.
-pub fn count_item(memory: &mut [Word], capacity: usize, used: usize, item: Word) -> Counted
-    requires { ⌜ CountItemAsks (now memory) capacity used ⌝ }
-    ensures { λ r. ⌜ CountItemSays (before memory) (after memory) capacity used item r ⌝ }
-{
-    let found = find_counter(memory, used, item);
-    if found < used {
-        let old = counter_at(memory, found);
-        let more = StoredCounter {
-            item: old.item,
-            count: old.count + 1,
-            overestimate: old.overestimate,
-            reported: old.reported,
-        };
-        put_counter(memory, found, more);
-        return Counted {
-            place: found,
-            used: used,
-            counter: more,
-            leaving: Leaving::Nobody,
-        };
-    }
-    if used < capacity {
-        let first = StoredCounter {
-            item: item,
-            count: 1,
-            overestimate: 0,
-            reported: 0,
-        };
-        put_counter(memory, used, first);
-        return Counted {
-            place: used,
-            used: used + 1,
-            counter: first,
-            leaving: Leaving::Nobody,
-        };
-    }
-    let least = least_counter(memory, used);
-    let replaced = counter_at(memory, least);
-    let gone = unreported_of(replaced);
-    let replacing = StoredCounter {
-        item: item,
-        count: replaced.count + 1,
-        overestimate: replaced.count,
-        reported: 0,
-    };
-    put_counter(memory, least, replacing);
-    Counted {
-        place: least,
-        used: used,
-        counter: replacing,
-        leaving: Leaving::Left(replaced.item, gone),
     }
 }

@@ -13,7 +13,7 @@ use lib.Seq.{getD-take, getD-drop, take-take}
 use Rattle.model.specs.Limits.{valueCount}
 use Rattle.model.specs.Site.{upTo}
 use Rattle.model.specs.SiteMemory.{sum}
-use Rattle.site_counters.specs.Count.{greatestWord}
+use Rattle.site_counters.specs.Stored.{greatestWord}
 
 -- ---- Sums
 

@@ -28,9 +28,9 @@ use Rattle.model.proofs.Thresholds.SettingsLaws.{Settled, settled}
 use Rattle.model.proofs.BetweenArrivals.ReportLaws.{value-counted}
 use Rattle.model.proofs.Soundness.ConsistentSites.{length-countersIn}
 use Rattle.model.proofs.Soundness.SoundSites.{ArrivalTaken, taken-of-no-refusal, CountedAt, sound-counted, sound-observed}
-use Rattle.site_counters.specs.declared.Counted.{Counted}
-use Rattle.site_counters.specs.Stored.{counterOf}
-use Rattle.site_counters.specs.Count.{greatestWord, CountItemAsks, CountItemSays}
+use Rattle.site_counters.specs.Stored.{greatestWord, counterOf}
+use Rattle.site_counting.specs.declared.Counted.{Counted}
+use Rattle.site_counting.specs.Count.{CountItemAsks, CountItemSays}
 use Rattle.site_memory.proofs.ValueLaws.{getD-le-sum}
 use Rattle.site_steps.specs.Steps.{ObserveAsks, ReportAsks, ReportSays, StoreSays, messagesDue, GatherSays, ObserveStepSays}
 use Rattle.site_steps.specs.declared.StoredArrival.{StoredArrival}

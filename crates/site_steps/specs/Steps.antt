@@ -22,8 +22,7 @@ use Rattle.model.specs.Counters.{Counter, unreported, goneWith}
 use Rattle.model.specs.Site.{SiteStep, arrivalRefusal, leavingFor, reportsItem, observed, siteReceives}
 use Rattle.model.specs.SiteMemory.{siteIn, siteRecord, siteMemory}
 use Rattle.site_counters.specs.declared.StoredCounter.{StoredCounter}
-use Rattle.site_counters.specs.Stored.{counterOf}
-use Rattle.site_counters.specs.Count.{PartsWithin}
+use Rattle.site_counters.specs.Stored.{counterOf, PartsWithin}
 use Rattle.site_memory.specs.Ready.{StepReady}
 use Rattle.site_steps.specs.declared.Observed.{Observed}
 use Rattle.site_steps.specs.declared.Replied.{Replied}

@@ -8,8 +8,7 @@ ghost use lib.ListN.{length, getD};
 ghost use Rattle.model.specs.Choice.{if_then_else_};
 ghost use Rattle.model.specs.Lent.{before, after};
 ghost use Rattle.model.specs.Site.{oneMoreAt};
-ghost use Rattle.site_counters.specs.Count.{greatestWord};
-ghost use Rattle.site_counters.specs.Stored.{counterOf};
+ghost use Rattle.site_counters.specs.Stored.{greatestWord, counterOf};
 ghost use Rattle.site_steps.specs.Steps.{ReportAsks, StoredReportSays, DueSays, ObserveAsks, StoreSays, ObserveStepSays, ReceiveAsks, ReceiveStepSays};
 use messages::count_report_of;
 use messages::item_report_of;
@@ -157,7 +156,7 @@ fn store_arrival(
 {
     let capacity = settings.capacity as usize;
     let used = site.used as usize;
-    let counted = site_counters::count_item(memory, capacity, used, arrival.item);
+    let counted = site_counting::count_item(memory, capacity, used, arrival.item);
     let place = counted.place;
     let item_due = report_counter(memory, place, counted.counter, site.threshold);
     let value_place = 4 * capacity + (arrival.value as usize);

@@ -1,0 +1,2 @@
+-- What the calls that read the desk promise.
+pub mod Reading

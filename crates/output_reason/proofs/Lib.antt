@@ -1,0 +1,2 @@
+-- Laws of the line of a reason.
+pub mod ReasonLaws

@@ -1,0 +1,2 @@
+-- The line that says where and why an input is refused.
+pub mod Reason

@@ -1,0 +1,2 @@
+-- Laws of counting an item.
+pub mod CountLaws

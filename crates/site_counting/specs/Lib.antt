@@ -1,0 +1,2 @@
+-- What counting an item promises.
+pub mod Count

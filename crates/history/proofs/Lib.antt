@@ -49,8 +49,3 @@ pub mod BatchWithout
 pub mod CallWithout
 pub mod LeftOut
 pub mod Theorem
-pub mod Example
-pub mod ExampleHistory
-pub mod OneBatch
-pub mod FirmInstances
-pub mod DroppedHistory

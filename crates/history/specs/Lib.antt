@@ -11,7 +11,3 @@ pub mod Third
 pub mod Dropped
 pub mod Touches
 pub mod Demands
-pub mod Example
-pub mod OneBatch
-pub mod FirmInstances
-pub mod DroppedHistory

@@ -8,8 +8,8 @@ use Rattle.model.specs.TouchInstances.{touch}
 use Rattle.record_numbers.specs.Numbers.{messageNumbers, coordinatorNumbers}
 use Rattle.tracker.specs.Batch as Batch
 use Rattle.history.specs.State.{State}
-use Rattle.history.specs.Example as History
-use Rattle.history.specs.Example.{siteNumbers, allMessages, startedState, afterDraw, afterItemReport, afterCountReport, afterPoll, afterPollAnswer, afterAnnouncement, atRestAgain, afterBatchOfTwo}
+use Rattle.history_examples.specs.Example as History
+use Rattle.history_examples.specs.Example.{siteNumbers, allMessages, startedState, afterDraw, afterItemReport, afterCountReport, afterPoll, afterPollAnswer, afterAnnouncement, atRestAgain, afterBatchOfTwo}
 use Rattle.library_history.specs.Bench.{changed}
 use Rattle.library_history.specs.Used.{run-at-rest, Used, called}
 use Rattle.library_history.specs.Example.{ExampleUse}

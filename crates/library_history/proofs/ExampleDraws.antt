@@ -17,9 +17,9 @@ use Rattle.model.specs.NetworkMemory.{freshSites}
 use Rattle.model.specs.Instances.{settingsA, draw}
 use Rattle.record_numbers.specs.Numbers.{settingsNumbers, messageNumbers, coordinatorNumbers}
 use Rattle.history.specs.State.{State}
-use Rattle.history.specs.Example as History
-use Rattle.history.specs.Example.{siteAfter, siteNumbers, coordinatorWith, startedState, afterDraw, afterItemReport}
-use Rattle.history.proofs.Example.{refused-number, drawAnswer}
+use Rattle.history_examples.specs.Example as History
+use Rattle.history_examples.specs.Example.{siteAfter, siteNumbers, coordinatorWith, startedState, afterDraw, afterItemReport}
+use Rattle.history_examples.proofs.Example.{refused-number, drawAnswer}
 use Rattle.library_rows.specs.Rows.{Row, Number}
 use Rattle.library_history.specs.Bench.{Bench, changed, unchanged}
 use Rattle.library_history.specs.Calls.{StartDecksCall}

@@ -6,8 +6,8 @@ use Rattle.model.specs.declared.Phase.the-variants.{Idle, Collecting, Announcin
 use Rattle.model.specs.Limits.{valueCount}
 use Rattle.model.specs.Messages.{noMessage, itemReport, countReport, poll, pollAnswer, announcement}
 use Rattle.record_numbers.specs.Numbers.{messageNumbers, coordinatorNumbers}
-use Rattle.history.specs.Example as History
-use Rattle.history.specs.Example.{siteAfter, coordinatorWith, afterDraw, afterItemReport, afterCountReport, afterPoll, afterPollAnswer, afterAnnouncement, atRestAgain}
+use Rattle.history_examples.specs.Example as History
+use Rattle.history_examples.specs.Example.{siteAfter, coordinatorWith, afterDraw, afterItemReport, afterCountReport, afterPoll, afterPollAnswer, afterAnnouncement, atRestAgain}
 use Rattle.library_history.specs.Bench.{unchanged}
 use Rattle.library_history.specs.Used.{deck-message-accepted, desk-message-accepted, announcement-accepted}
 use Rattle.library_history.proofs.ExampleDraws.{settingsRow, benchIn, StepTo, counts, out}

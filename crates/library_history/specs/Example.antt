@@ -10,7 +10,7 @@ use mathlib.Core.List.{[], _∷_}
 use Rattle.model.specs.Instances.{settingsA}
 use Rattle.record_numbers.specs.Numbers.{sitesNumbers, coordinatorNumbers}
 use Rattle.history.specs.State.{Held}
-use Rattle.history.specs.Example.{startedState, afterItemReport, atRestAgain, afterBatchOfTwo}
+use Rattle.history_examples.specs.Example.{startedState, afterItemReport, atRestAgain, afterBatchOfTwo}
 use Rattle.library_history.specs.Bench.{Bench}
 use Rattle.library_history.specs.Used.{Used}
 use Rattle.library_history.specs.Reading.{ListCall, codesIn}

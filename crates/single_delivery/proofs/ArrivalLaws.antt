@@ -24,9 +24,9 @@ use Rattle.history.proofs.Answers.{taken-choice, left-choice}
 use Rattle.history.proofs.SingleState.{begins}
 use Rattle.history.proofs.Theorem.{demands}
 use Rattle.history.proofs.Underway.{SoundRest}
-use Rattle.single_delivery.specs.declared.Progress.{Progress}
+use Rattle.single_steps.specs.declared.Progress.{Progress}
 use Rattle.single_delivery.specs.declared.DeliveryAnswer.{DeliveryAnswer}
-use Rattle.single_delivery.specs.Steps.{Came, DeliverByCallsSays}
+use Rattle.single_steps.specs.Steps.{Came, DeliverByCallsSays}
 use Rattle.single_delivery.specs.Arriving.{DeliveryBegun, BeginDeliverySays}
 use Rattle.single_delivery.specs.Delivery.{deliveryRefusal, deliveryIn, HistoryGoesOn, ArrivalDelivered, DeliverySays}
 use Rattle.single_delivery.proofs.EndLaws.{AtEnd, at-end}

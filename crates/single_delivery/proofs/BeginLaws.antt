@@ -27,10 +27,10 @@ use Rattle.history.specs.Histories.{observedOut}
 use Rattle.model.proofs.Touches.DrawLaws.{not-taken}
 use Rattle.history.proofs.Answers.{left-choice}
 use Rattle.history.proofs.Refused.{part-same}
-use Rattle.single_delivery.specs.declared.Progress.{Progress}
-use Rattle.single_delivery.specs.Progress.{QueueSays}
+use Rattle.single_steps.specs.declared.Progress.{Progress}
+use Rattle.single_steps.specs.Progress.{QueueSays}
 use Rattle.single_delivery.specs.Arriving.{restFrom, mostCalls, BeginDeliverySays}
-use Rattle.single_delivery.proofs.QueueLaws.{length-queued}
+use Rattle.single_steps.proofs.QueueLaws.{length-queued}
 
 module _ {settings : Settings} (memory : List ℕ) (arrival : Arrival) (sites : Sites)
     (coordinator : CoordinatorRecord)

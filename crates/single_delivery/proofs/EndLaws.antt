@@ -31,11 +31,11 @@ use Rattle.history.specs.State.{Held, State, networkOf}
 use Rattle.history.specs.Histories.{Deliveries}
 use Rattle.history.proofs.Underway.{SoundParts, Underway, in-mid}
 use Rattle.history.proofs.GoesOn.{deliveries-on, coordinator-accepts, site-accepts, announcement-accepted}
-use Rattle.single_delivery.specs.declared.Progress.{Progress}
-use Rattle.single_delivery.specs.Progress.{goesOn, mayGoOn, isDue}
-use Rattle.single_delivery.specs.Steps.{Blocked, coordinator-refuses, site-refuses, announcement-refused, Came}
+use Rattle.single_steps.specs.declared.Progress.{Progress}
+use Rattle.single_steps.specs.Progress.{goesOn, mayGoOn, isDue}
+use Rattle.single_steps.specs.Steps.{Blocked, coordinator-refuses, site-refuses, announcement-refused, Came}
 use Rattle.single_delivery.specs.Arriving.{mostCalls}
-use Rattle.single_delivery.proofs.QueueLaws.{queued-none}
+use Rattle.single_steps.proofs.QueueLaws.{queued-none}
 
 -- Nothing waits, and nothing is announced.
 pub record Quiet (state : State) : Type 0 where

@@ -35,7 +35,7 @@ use Rattle.history.proofs.Underway.{Underway, parts-underway}
 use Rattle.history.proofs.NextAnnouncement.{announces}
 use Rattle.history.proofs.DeliveredState.{delivered-on}
 use Rattle.history.proofs.GoesOn.{further}
-use Rattle.single_delivery.specs.Steps.{Blocked, coordinator-refuses, site-refuses, announcement-refused}
+use Rattle.single_steps.specs.Steps.{Blocked, coordinator-refuses, site-refuses, announcement-refused}
 use Rattle.single_delivery.specs.Delivery.{meetsLimit, meetsForgotten, stepsBeforePoll, stoppedAfter, deliveryIn}
 use Rattle.single_delivery.proofs.EndLaws.{AtEnd, not-blocked, by-end}
 use Rattle.single_delivery.proofs.RestLaws.{Ended}

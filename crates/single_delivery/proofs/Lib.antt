@@ -1,9 +1,4 @@
 -- Laws of a full delivery by the public calls.
-pub mod QueueLaws
-pub mod StepLaws
-pub mod CoordinatorStepLaws
-pub mod SiteStepLaws
-pub mod DeliverLaws
 pub mod BeginLaws
 pub mod LimitLaws
 pub mod FirstSteps

@@ -37,7 +37,7 @@ use Rattle.history.specs.Histories.{Delivers, to-coordinator, to-site, next-ann
 use Rattle.history.proofs.CallFronts.{receives-whole, announces-whole}
 use Rattle.history.proofs.Underway.{Underway}
 use Rattle.history.proofs.DeliveredState.{none-when-quiet}
-use Rattle.single_delivery.specs.Steps.{Blocked, coordinator-refuses, site-refuses, announcement-refused}
+use Rattle.single_steps.specs.Steps.{Blocked, coordinator-refuses, site-refuses, announcement-refused}
 use Rattle.single_delivery.specs.Delivery.{meetsLimit, meetsForgotten, deliveryIn}
 use Rattle.single_delivery.proofs.EndLaws.{Quiet, AtEnd, not-blocked-quiet, by-end}
 use Rattle.single_delivery.proofs.RestLaws.{Ended, finished, with-room}

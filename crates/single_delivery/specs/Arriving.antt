@@ -21,8 +21,8 @@ use Rattle.site_steps.specs.declared.Observed.{Observed}
 use Rattle.site.specs.Calls.{ObserveSays, observeRefusal}
 use Rattle.history.specs.State.{State, recordAt, sitePart, recordIn, heldBy}
 use Rattle.history.specs.Histories.{afterSingle}
-use Rattle.single_delivery.specs.declared.Progress.{Progress}
-use Rattle.single_delivery.specs.Progress.{Stands}
+use Rattle.single_steps.specs.declared.Progress.{Progress}
+use Rattle.single_steps.specs.Progress.{Stands}
 
 -- As many numbers as are left of it.
 abbrev pub restFrom : Settings → List ℕ → ℕ → List ℕ

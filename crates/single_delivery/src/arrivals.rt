@@ -2,16 +2,16 @@
 // require is what `deliver_arrival` has tested.
 ghost use Rattle.model.specs.Lent.{before, after};
 ghost use mathlib.Core.Path.{_≡_};
-ghost use Rattle.single_delivery.specs.Progress.{QueueSays};
+ghost use Rattle.single_steps.specs.Progress.{QueueSays};
 ghost use Rattle.single_delivery.specs.Arriving.{mostCalls, BeginDeliveryAsks, BeginDeliverySays};
-use crate::Progress;
-use crate::calls::record_at;
 use model::Arrival;
 use model::CoordinatorRecord;
 use model::Message;
 use model::Settings;
 use model::Sites;
 use model::Word;
+use single_steps::Progress;
+use single_steps::record_at;
 use tracker_queue::Queue;
 
 // How many calls a delivery may take: no delivery has more than its messages, each handed over, and

@@ -8,26 +8,20 @@
 
 ghost use Rattle.model.specs.Lent.{before, after};
 ghost use mathlib.Core.Path.{_≡_};
-ghost use Rattle.model.specs.Coordinator.{isAnnouncing};
 ghost use Rattle.model.specs.Held.{heldBy};
-ghost use Rattle.single_delivery.specs.Progress.{isDue};
-ghost use Rattle.single_delivery.specs.Steps.{DeliverByCallsAsks, DeliverByCallsSays};
 ghost use Rattle.single_delivery.specs.Delivery.{leftBy, DeliverySays};
 use crate::arrivals::begin;
-use crate::calls::take_step;
 use model::Arrival;
 use model::CoordinatorRecord;
 use model::NO_REFUSAL;
-use model::Phase;
 use model::Settings;
 use model::Sites;
 use model::UNKNOWN_SITE;
 use model::Word;
+use single_steps::deliver;
 use tracker_memory::network_refusal;
-use tracker_queue::Queue;
 
 mod arrivals;
-mod calls;
 
 // Why the arrival is refused, or 0. If it is not: how many messages went out, each once; the number
 // of a call that was refused on the way and stopped the delivery, or 0 where it came to rest; and
@@ -103,66 +97,5 @@ fn leave(refusal: u32, sites: Sites, coordinator: CoordinatorRecord) -> Delivery
         stopped: NO_REFUSAL,
         sites: sites,
         coordinator: coordinator,
-    }
-}
-
-// A delivery in progress: both records, the messages that wait, how many went out so far, the
-// refusal of the last call, and how many calls may still be made.
-pub struct Progress {
-    pub sites: Sites,
-    pub coordinator: CoordinatorRecord,
-    pub waiting: Queue,
-    pub carried: u64,
-    pub refusal: u32,
-    pub left: u64,
-}
-
-// Call by call, until none is due.
-fn deliver(
-    settings: Settings,
-    first: Progress,
-    site_memory: &[Word],
-    coordinator_memory: &mut [u64],
-) -> Progress
-    requires { ⌜ DeliverByCallsAsks settings (now «site_memory») first ⌝ }
-    ensures { λ r. ⌜ DeliverByCallsSays settings (before «site_memory»)
-        (before «coordinator_memory») (after «coordinator_memory») first r ⌝ }
-{
-    let mut progress = first;
-    while call_due(progress) {
-        progress.left = progress.left - 1;
-        progress = take_step(settings, progress, site_memory, coordinator_memory);
-    }
-    progress
-}
-
-// Whether a call is due, and may be made: a message waits, or the coordinator announces.
-fn call_due(progress: Progress) -> bool
-    ensures { λ r. ⌜ r ≡ isDue progress ⌝ }
-{
-    if progress.refusal != NO_REFUSAL {
-        return false;
-    }
-    if progress.left == 0 {
-        return false;
-    }
-    let waiting = progress.waiting;
-    if waiting.count != 0 {
-        return true;
-    }
-    let coordinator = progress.coordinator;
-    let phase = coordinator.phase;
-    is_announcing(phase)
-}
-
-// Whether kind 7 is still to go out.
-fn is_announcing(phase: Phase) -> bool
-    ensures { λ r. ⌜ r ≡ isAnnouncing phase ⌝ }
-{
-    match phase {
-        Phase::Idle => false,
-        Phase::Collecting(_) => false,
-        Phase::Probing(_, _, _, _) => false,
-        Phase::Announcing(_) => true,
     }
 }

@@ -1,6 +1,6 @@
 -- `single_delivery::queue_of` meets its contract: by whether both messages go out.
 use native.Mathlib.Omega.{arith}
-use Rattle.single_delivery.proofs.QueueLaws.{queue-two}
+use Rattle.single_steps.proofs.QueueLaws.{queue-two}
 use borrow.Author.Needs.{needs}
 use Rattle.single_delivery.proofs.arrivals.queue_of.Statement.{statement}
 use Rattle.single_delivery.proofs.arrivals.queue_of.Tie as tie

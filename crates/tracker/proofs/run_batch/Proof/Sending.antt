@@ -5,7 +5,7 @@
 --           after `take_turn`, and after it was counted
 --   sends   from where the turn was counted to the loop's test again, at the next index
 -- Numbers behind `move` count the context's items, as `cell` of Locals does.
-use Rattle.walks.proofs.Kit.{_≡_, refl, _∙_, subst, Bool, true, false, not, ℕ, zero, suc, _<_, _^_, _+_, arith, List, [], _∷_, Holds, eqb, length, eq-eqb, eqb-true, Body, skip, seq, assign, block, loop, cond, switch, exit, return, call, named, SProp, ent, id⊢, Wp, afterTurn, ⋆, anyQ, Sq, runs, _$_, _∵_, !, qed, by, move, whole, sub, look-in, look, init, store, forget, stop, fld, from, load, lit, of-opd, bin, and-then, no-more, assigns, assigns-last, branches, skips, first, exec, land, fmOf, u32, u64}
+use Rattle.walks.proofs.Kit.{_≡_, refl, _∙_, subst, Bool, true, false, not, ℕ, zero, suc, _<_, _^_, _+_, arith, List, [], _∷_, Holds, eqb, length, eq-eqb, eqb-true, Body, skip, seq, assign, block, loop, cond, switch, exit, return, call, named, SProp, ent, id⊢, Wp, afterTurn, ⋆, anyQ, Sq, runs, _$_, !, prop, by, move, whole, sub, look-in, look, init, store, forget, stop, fld, from, load, lit, of-opd, bin, and-then, no-more, assigns, assigns-last, branches, skips, first, exec, land, fmOf, u32, u64}
 use Rattle.tracker_steps.specs.declared.Turn.{Turn}
 use Rattle.tracker_steps.specs.Steps.{batchHeld}
 use Rattle.tracker_steps.specs.Turns.{DeliverTurnAsks, DeliverTurnSays}
@@ -74,19 +74,19 @@ module _ {M : Type 1} (logic : Logic M) (f : Called) (ok : Typed f) (l : Places)
     (X : SProp (logic .𝓤)) where
   open Logic logic using (𝓤, H, A, W, mem, run, 𝓣, delivers-known)
 
-  -- The next index.
-  steps : (s : Point f) → ent 𝓤 (⋆ 𝓤 H A (At logic f l (i + 1) s)) X
-      → ent 𝓤 (⋆ 𝓤 H A (Counted logic f l i turn s))
-      (Wp 𝓤 H (𝓣 .C) (𝓣 .Λ) (locals logic f l) last (afterTurn 𝓤 H X (Left logic f l)))
+  -- The next index. Both ends are sequents, whose contexts antt compares item by item: as `ent` of
+  -- two `⋆` they are compared as what they mean, and that takes ten seconds.
+  steps : (s : Point f) → Sq W (At logic f l (i + 1) s) (prop X)
+      → Sq W (Counted logic f l i turn s)
+      (prop (Wp 𝓤 H (𝓣 .C) (𝓣 .Λ) (locals logic f l) last (afterTurn 𝓤 H X (Left logic f l))))
   unfolding afterTurn
   steps s k =
       let fits = next-fits i (length (f .arrivals .list)) within (ok .arrivals-room .0) in
-      qed W (Counted logic f l i turn s) ∵
       exec ! (𝓣 .C) (𝓣 .Λ) (locals logic f l) last (anyQ (afterTurn 𝓤 H X (Left logic f l))) $
       assigns-last ! (bin ! (load ! (from ! (stop !)) (look ! (cell 9) refl)) (lit ! tt)
       (record { fits = fits })) (from ! (stop !))
       (store ! (cell 9) refl (tt, record { fits = fits })) $
-      forget ! (cell 13) refl $ by ! k
+      forget ! (cell 13) refl $ k
 
   -- ---- The messages
 
@@ -161,6 +161,6 @@ module _ {M : Type 1} (logic : Logic M) (f : Called) (ok : Typed f) (l : Places)
             log-same = ll ∙ s .same .log-same;
           };
         } in
-        by ! (steps s′ (loud s′ some e)))))))))))
+        steps s′ (by ! (loud s′ some e)))))))))))
         (λ test. skips ! $ forget ! (cell 34) refl $
-        by ! (steps s (quiet (none-of (turn .out .count) test))))
+        steps s (by ! (quiet (none-of (turn .out .count) test))))

@@ -1,5 +1,5 @@
-// Where and why an input is refused: the line that the program `drawtrack` writes to standard error,
-// into lent bytes. The functions named `put` ask for the room.
+// Where and why an input is refused: the line that the program `drawtrack` writes to standard
+// error, into lent bytes. The functions named `put` ask for the room.
 
 ghost use Rattle.model.specs.Lent.{before, after};
 ghost use Prim.Native.Nat.{_+_, _≤_};

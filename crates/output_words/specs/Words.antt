@@ -1,5 +1,5 @@
--- The words of each refusal: why, in the line that the program `drawtrack` writes to standard error.
--- Document 01 leaves standard error free; the numbers are those of its table "Refused".
+-- The words of each refusal: why, in the line that the program `drawtrack` writes to standard
+-- error. Document 01 leaves standard error free; the numbers are those of its table "Refused".
 --
 --   bytesOf text                a text's bytes
 --   refusalWords                the words of each number from 0 on

@@ -1,5 +1,6 @@
 // A delivery by the public calls, from the messages that wait until all is at rest. The functions
-// with a `requires` are internal: `single_delivery::deliver_arrival` makes the tests that decide it.
+// with a `requires` are internal: `single_delivery::deliver_arrival` makes the tests that decide
+// it.
 
 ghost use Rattle.model.specs.Lent.{before, after};
 ghost use mathlib.Core.Path.{_≡_};

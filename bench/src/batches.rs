@@ -2,7 +2,7 @@
 //! places of a stream; and batches of touches.
 
 use std::hint::black_box;
-use std::time::Instant;
+use std::time::{Duration, Instant};
 
 use reference::message::{Arrival, TOUCH};
 
@@ -27,6 +27,8 @@ const TOUCHES_AFTER: u64 = PLACES[1];
 /// How often a batch is timed: for about so long, but not less often than this.
 const NANOSECONDS: f64 = 400_000_000.0;
 const ROUNDS: (usize, usize) = (60, 800);
+/// How long a whole stream is taken again and again.
+const WHOLE: Duration = Duration::from_secs(3);
 
 /// Whole streams of so many arrivals, from a fresh start.
 pub fn measure_whole(arrivals: u64) {
@@ -39,11 +41,30 @@ pub fn measure_whole(arrivals: u64) {
     }
 }
 
-/// Both sides take the same batches, each of them first in every other one; their times add up.
+/// A whole stream again and again, for about so long; the least time of each side counts.
 fn measure_whole_stream(settings: [u32; 6], name: &str, stream: Stream, arrivals: u64) {
     let [k, e, _, _, c, _] = settings;
+    let start = Instant::now();
+    let (mut least, messages) = take_whole_stream(settings, stream, arrivals);
+    while start.elapsed() < WHOLE {
+        let (times, again) = take_whole_stream(settings, stream, arrivals);
+        assert_eq!(again, messages);
+        least.proved = least.proved.min(times.proved);
+        least.reference = least.reference.min(times.reference);
+    }
+    let ratio = least.proved / least.reference;
+    let speed = |time: f64| arrivals as f64 * 1e9 / time;
+    println!(
+        "| {k} | {c} | {e} | {name} | {arrivals} | {messages} | {:.0} | {:.0} | {ratio:.2} |",
+        speed(least.proved),
+        speed(least.reference)
+    );
+}
+
+/// Both sides take the same batches, each of them first in every other one; their times add up.
+fn take_whole_stream(settings: [u32; 6], stream: Stream, arrivals: u64) -> (Times, usize) {
     let mut source = Source::new(stream, settings, 1);
-    let mut reference = Reference::start(settings, log_places(k));
+    let mut reference = Reference::start(settings, log_places(settings[0]));
     let mut proved = Proved::of(&reference);
     let mut times = Times { proved: 0.0, reference: 0.0 };
     let mut messages = 0;
@@ -64,13 +85,7 @@ fn measure_whole_stream(settings: [u32; 6], name: &str, stream: Stream, arrivals
         proved.check(&reference, written);
         messages += written;
     }
-    let ratio = times.proved / times.reference;
-    let speed = |time: f64| arrivals as f64 * 1e9 / time;
-    println!(
-        "| {k} | {c} | {e} | {name} | {arrivals} | {messages} | {:.0} | {:.0} | {ratio:.2} |",
-        speed(times.proved),
-        speed(times.reference)
-    );
+    (times, messages)
 }
 
 /// Places of a log that a batch never fills.

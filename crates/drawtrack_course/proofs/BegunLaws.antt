@@ -21,8 +21,8 @@ use Rattle.model.specs.Lines.{Fields, malformed, fields, lineFeed, readFields}
 use Rattle.model.specs.Transcript.{refusedLine}
 use Rattle.model.proofs.Worklists.LineTaken.{fields-taken}
 use Rattle.worklist_reader.specs.Contracts.{lineRefusal, settingsIn, bytesAfter}
-use Rattle.site.specs.declared.StartedSites.{StartedSites}
-use Rattle.site.specs.Calls as SiteCalls
+use Rattle.site_start.specs.declared.StartedSites.{StartedSites}
+use Rattle.site_start.specs.Starts as SiteStarts
 use Rattle.coordinator.specs.declared.StartedCoordinator.{StartedCoordinator}
 use Rattle.coordinator.specs.Calls as CoordinatorCalls
 use Rattle.history.specs.State.{State}
@@ -62,7 +62,7 @@ rest-read input = by-fields (readFields 6 input) refl
 module _ (settings : Settings) (at : ℕ) (siteMemory memory : List ℕ)
     (fit : Served settings (length siteMemory) (length memory)) where
   abbrev sites : StartedSites
-  sites = record { refusal = SiteCalls.startRefusal settings siteMemory; sites = freshSites }
+  sites = record { refusal = SiteStarts.startRefusal settings siteMemory; sites = freshSites }
 
   abbrev coordinator : StartedCoordinator
   coordinator = record {
@@ -71,12 +71,12 @@ module _ (settings : Settings) (at : ℕ) (siteMemory memory : List ℕ)
   }
 
   abbrev siteAfter : List ℕ
-  siteAfter = SiteCalls.cleared settings siteMemory
+  siteAfter = SiteStarts.cleared settings siteMemory
 
   abbrev after : List ℕ
   after = coordinatorMemory (freshCoordinator settings) memory
 
-  sites-accepted : SiteCalls.startRefusal settings siteMemory ≡ noRefusal
+  sites-accepted : SiteStarts.startRefusal settings siteMemory ≡ noRefusal
   sites-accepted = sites-start settings siteMemory memory fit
 
   coordinator-accepted : CoordinatorCalls.startRefusal settings (length memory) ≡ noRefusal
@@ -91,7 +91,7 @@ module _ (settings : Settings) (at : ℕ) (siteMemory memory : List ℕ)
       (record {
         refusal = refl;
         sites = refl;
-        memory = sym (rw (eq-eqb (SiteCalls.startRefusal settings siteMemory) 0 sites-accepted));
+        memory = sym (rw (eq-eqb (SiteStarts.startRefusal settings siteMemory) 0 sites-accepted));
       })
       sites-accepted
       (record {

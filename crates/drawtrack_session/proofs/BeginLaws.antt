@@ -25,8 +25,8 @@ use Rattle.model.proofs.BetweenArrivals.ReportLaws.{valueCount-is}
 use Rattle.model.specs.Transcript.{beyondProgram}
 use Rattle.worklist_reader.specs.declared.SettingsRead.{SettingsRead}
 use Rattle.worklist_reader.specs.Contracts.{SettingsSays, bytesAfter}
-use Rattle.site.specs.declared.StartedSites.{StartedSites}
-use Rattle.site.specs.Calls as SiteCalls
+use Rattle.site_start.specs.declared.StartedSites.{StartedSites}
+use Rattle.site_start.specs.Starts as SiteStarts
 use Rattle.coordinator.specs.declared.StartedCoordinator.{StartedCoordinator}
 use Rattle.coordinator.specs.Calls as CoordinatorCalls
 use Rattle.drawtrack_steps.specs.declared.Session.{Session}
@@ -79,7 +79,7 @@ module _ (settings : Settings) (siteMemory memory : List ℕ)
       let words : siteWords settings ≤ 1424 = omega (arith, fit .few-counters, valueCount-is) in
       omega (arith, mul-le-mul (fit .few-sites) words)
 
-  pub sites-start : SiteCalls.startRefusal settings siteMemory ≡ noRefusal
+  pub sites-start : SiteStarts.startRefusal settings siteMemory ≡ noRefusal
   sites-start =
       rw (
         fit .passes,
@@ -130,7 +130,7 @@ module _ (input : List ℕ) (given : Buffers) (read : SettingsRead) (says : Sett
 
   pub begin-started : (siteAfter coordinatorAfter : List ℕ)
       (sites : StartedSites) (coordinator : StartedCoordinator)
-      → SiteCalls.StartSitesSays (read .settings) (given .siteMemory) siteAfter sites
+      → SiteStarts.StartSitesSays (read .settings) (given .siteMemory) siteAfter sites
       → CoordinatorCalls.StartCoordinatorSays (read .settings) (given .coordinatorMemory)
       coordinatorAfter
       coordinator
@@ -143,9 +143,9 @@ module _ (input : List ℕ) (given : Buffers) (read : SettingsRead) (says : Sett
       let fit = served (read .refusal) settings (length input - read .used)
       (length (given .siteMemory)) (length (given .coordinatorMemory))
       (sym refusal-says ∙ none) in
-      let sites-then : siteAfter ≡ SiteCalls.cleared settings (given .siteMemory) =
+      let sites-then : siteAfter ≡ SiteStarts.cleared settings (given .siteMemory) =
       sites-say .memory
-      ∙ rw (eq-eqb (SiteCalls.startRefusal settings (given .siteMemory)) 0
+      ∙ rw (eq-eqb (SiteStarts.startRefusal settings (given .siteMemory)) 0
       (sites-start settings (given .siteMemory) (given .coordinatorMemory) fit)) in
       let coordinator-then : coordinatorAfter
       ≡ coordinatorMemory (freshCoordinator settings) (given .coordinatorMemory) =

@@ -22,7 +22,7 @@ use Rattle.model.specs.NetworkMemory.{freshSites}
 use Rattle.model.specs.Lines.{Fields, readFields}
 use Rattle.model.specs.Transcript.{beyondProgram}
 use Rattle.worklist_reader.specs.Contracts.{lineRefusal, settingsIn, bytesAfter}
-use Rattle.site.specs.Calls.{cleared}
+use Rattle.site_start.specs.Starts.{cleared}
 use Rattle.output_reason.specs.Reason.{wholeWorklist, settingsLine}
 use Rattle.drawtrack_steps.specs.declared.Session.{Session}
 use Rattle.drawtrack_steps.specs.declared.Moved.{Moved}

@@ -182,7 +182,7 @@ pub fn begin(
     if refusal != NO_REFUSAL {
         return drawtrack_steps::refuse(session, refusal, out);
     }
-    site::start_sites(settings, site_memory);
+    site_start::start_sites(settings, site_memory);
     coordinator::start_coordinator(settings, coordinator_memory);
     Moved {
         session: session,

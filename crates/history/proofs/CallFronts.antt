@@ -24,8 +24,8 @@ use Rattle.model.specs.NetworkMemory.{sitesWords}
 use Rattle.model.proofs.Thresholds.RefusalLaws.{both-accepted}
 use Rattle.model.proofs.Thresholds.TestedMemory.{length-tested}
 use Rattle.coordinator_kinds.proofs.MemoryLaws.{estimates-long, histogram-long}
-use Rattle.site.specs.declared.StartedSites.{StartedSites}
-use Rattle.site.specs.Calls as SiteCalls
+use Rattle.site_start.specs.declared.StartedSites.{StartedSites}
+use Rattle.site_start.specs.Starts as SiteStarts
 use Rattle.coordinator.specs.declared.StartedCoordinator.{StartedCoordinator}
 use Rattle.coordinator.specs.declared.Received.{Received}
 use Rattle.coordinator.specs.Calls as CoordinatorCalls
@@ -57,17 +57,17 @@ started-same settings words n memory long =
     λ i. settingsRefusal settings orElse when (short i) memoryTooShort orElse noRefusal
 
 module _ (settings : Settings) (n : ℕ) (memory part : List ℕ) (answer : StartedSites)
-    (says : SiteCalls.StartSitesSays settings (take n memory) part answer)
+    (says : SiteStarts.StartSitesSays settings (take n memory) part answer)
     (accepts : answer .refusal ≡ noRefusal) where
   -- The contract of the whole memory lent.
-  pub start-says-whole : SiteCalls.StartSitesSays settings memory (withPart memory 0 n part) answer
+  pub start-says-whole : SiteStarts.StartSitesSays settings memory (withPart memory 0 n part) answer
   start-says-whole =
       let words = sitesWords settings in
-      let none : SiteCalls.startRefusal settings (take n memory) ≡ noRefusal =
+      let none : SiteStarts.startRefusal settings (take n memory) ≡ noRefusal =
       sym (says .refusal) ∙ accepts in
       let long = started-long settings words (length (take n memory)) none in
-      let same : SiteCalls.startRefusal settings (take n memory)
-      ≡ SiteCalls.startRefusal settings memory =
+      let same : SiteStarts.startRefusal settings (take n memory)
+      ≡ SiteStarts.startRefusal settings memory =
       started-same settings words n memory long in
       record {
         refusal = says .refusal ∙ same;

@@ -21,8 +21,8 @@ use Rattle.model.specs.NetworkMemory.{sitesWords, sitesIn, freshSites}
 use Rattle.model.proofs.Thresholds.TestedMemory.{length-tested}
 use Rattle.model.proofs.Thresholds.SettingsLaws.{Settled, settled}
 use Rattle.coordinator_kinds.proofs.MemoryLaws.{written-coordinator}
-use Rattle.site.specs.declared.StartedSites.{StartedSites}
-use Rattle.site.specs.Calls as SiteCalls
+use Rattle.site_start.specs.declared.StartedSites.{StartedSites}
+use Rattle.site_start.specs.Starts as SiteStarts
 use Rattle.coordinator.specs.declared.StartedCoordinator.{StartedCoordinator}
 use Rattle.coordinator.specs.Calls as CoordinatorCalls
 use Rattle.history.specs.State.{State, networkOf}
@@ -45,7 +45,7 @@ module _ (settings : Settings) (passes : settingsRefusal settings ≡ noRefusal)
 
   abbrev freshState : State
   freshState =
-      startState freshSites (coordinatorRecord fresh) (SiteCalls.cleared settings sitesBefore)
+      startState freshSites (coordinatorRecord fresh) (SiteStarts.cleared settings sitesBefore)
       (coordinatorMemory fresh coordinatorBefore)
 
   fit : Settled settings
@@ -61,7 +61,7 @@ module _ (settings : Settings) (passes : settingsRefusal settings ≡ noRefusal)
   network-fresh =
       let zeros = replicate {A = ℕ} (sitesWords settings) 0 in
       let sites : sitesIn (settings .sites) settings (freshSites .records)
-      (SiteCalls.cleared settings sitesBefore)
+      (SiteStarts.cleared settings sitesBefore)
       ≡ replicate (settings .sites) freshSite =
       sitesIn-fresh settings (settings .sites) mostSites (drop (length zeros) sitesBefore)
       (fit .sites .at-most) in
@@ -126,13 +126,13 @@ module _ (settings : Settings) (passes : settingsRefusal settings ≡ noRefusal)
 
 module _ (settings : Settings) (sitesBefore sitesAfter coordinatorBefore coordinatorAfter : List ℕ)
     (sites : StartedSites) (coordinator : StartedCoordinator)
-    (sites-say : SiteCalls.StartSitesSays settings sitesBefore sitesAfter sites)
+    (sites-say : SiteStarts.StartSitesSays settings sitesBefore sitesAfter sites)
     (sites-accepted : sites .refusal ≡ noRefusal)
     (coordinator-says : CoordinatorCalls.StartCoordinatorSays settings coordinatorBefore
     coordinatorAfter
     coordinator)
     (coordinator-accepted : coordinator .refusal ≡ noRefusal) where
-  none-sites : SiteCalls.startRefusal settings sitesBefore ≡ noRefusal
+  none-sites : SiteStarts.startRefusal settings sitesBefore ≡ noRefusal
   none-sites = sym (sites-say .refusal) ∙ sites-accepted
 
   none-coordinator : CoordinatorCalls.startRefusal settings (length coordinatorBefore) ≡ noRefusal
@@ -157,7 +157,7 @@ module _ (settings : Settings) (sitesBefore sitesAfter coordinatorBefore coordin
   state-is : startState (sites .sites) (coordinator .coordinator) sitesAfter coordinatorAfter
       ≡ freshState settings start-passes sitesBefore coordinatorBefore sites-long coordinator-long
   state-is =
-      let site-memory : sitesAfter ≡ SiteCalls.cleared settings sitesBefore =
+      let site-memory : sitesAfter ≡ SiteStarts.cleared settings sitesBefore =
       sites-say .memory ∙ accepted-choice _ _ _ none-sites in
       let memory : coordinatorAfter
       ≡ coordinatorMemory (freshCoordinator settings) coordinatorBefore =

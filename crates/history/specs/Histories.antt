@@ -25,8 +25,9 @@ use Rattle.model.specs.Draws.{isDraw, drawsOf}
 use Rattle.model.specs.Messages.{toCoordinator}
 use Rattle.site_steps.specs.declared.Observed.{Observed}
 use Rattle.site_steps.specs.declared.Replied.{Replied}
-use Rattle.site.specs.declared.StartedSites.{StartedSites}
-use Rattle.site.specs.Calls.{StartSitesSays, ObserveSays, SiteReceiveSays}
+use Rattle.site_start.specs.declared.StartedSites.{StartedSites}
+use Rattle.site.specs.Calls.{ObserveSays, SiteReceiveSays}
+use Rattle.site_start.specs.Starts.{StartSitesSays}
 use Rattle.coordinator.specs.declared.StartedCoordinator.{StartedCoordinator}
 use Rattle.coordinator.specs.declared.Received.{Received}
 use Rattle.coordinator.specs.Calls.{StartCoordinatorSays, CoordinatorReceiveSays, AnnounceSays}

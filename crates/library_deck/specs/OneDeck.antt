@@ -10,8 +10,9 @@ use Prim.Native.Nat.{ℕ}
 use Rattle.model.specs.Instances.{arrivalWith}
 use Rattle.site_steps.specs.declared.Observed.{Observed}
 use Rattle.site_steps.specs.declared.Replied.{Replied}
-use Rattle.site.specs.declared.StartedSite.{StartedSite}
-use Rattle.site.specs.Calls.{StartSiteSays, ObserveSays, SiteReceiveSays}
+use Rattle.site_start.specs.declared.StartedSite.{StartedSite}
+use Rattle.site.specs.Calls.{ObserveSays, SiteReceiveSays}
+use Rattle.site_start.specs.Starts.{StartSiteSays}
 use Rattle.record_numbers.specs.Numbers.{settingsFrom, messageRead, siteFrom, siteNumbers}
 use Rattle.library_rows.specs.Rows.{Row, Number, handedOut, HandMessageSays, HandMessagesSays}
 

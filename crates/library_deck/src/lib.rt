@@ -31,7 +31,7 @@ fn hand_site(refusal: u32, site: SiteRecord, row: &mut [u64; SITE_NUMBERS])
     }
 }
 
-// `site::start_site`.
+// `site_start::start_site`.
 #[no_mangle]
 pub extern "C" fn tracker_start_deck(
     settings: &[u32; SETTINGS_NUMBERS],
@@ -41,7 +41,7 @@ pub extern "C" fn tracker_start_deck(
 ) -> u32
     ensures { λ r. ⌜ StartDeckExported (lent settings) deck (lent row) (lent memory) r ⌝ }
 {
-    let started = site::start_site(settings_from(settings), deck, memory);
+    let started = site_start::start_site(settings_from(settings), deck, memory);
     let fresh = started.site;
     hand_site(started.refusal, fresh, row);
     started.refusal

@@ -25,8 +25,9 @@ use Rattle.model.specs.NetworkMemory.{sitesWords}
 use Rattle.tracker_memory.specs.Contracts.{SitesFit}
 use Rattle.site_steps.specs.declared.Observed.{Observed}
 use Rattle.site_steps.specs.declared.Replied.{Replied}
-use Rattle.site.specs.declared.StartedSites.{StartedSites}
-use Rattle.site.specs.Calls.{StartSitesSays, ObserveSays, SiteReceiveSays}
+use Rattle.site_start.specs.declared.StartedSites.{StartedSites}
+use Rattle.site.specs.Calls.{ObserveSays, SiteReceiveSays}
+use Rattle.site_start.specs.Starts.{StartSitesSays}
 use Rattle.record_numbers.specs.Numbers.{siteWidth, settingsFrom, arrivalFrom, messageRead, siteAt, siteNumbers, sitesNumbers}
 use Rattle.library_rows.specs.Rows.{Row, Number, handedOut, HandMessageSays, HandMessagesSays}
 

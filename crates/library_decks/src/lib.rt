@@ -29,7 +29,7 @@ use site_numbers::site_at;
 use site_numbers::sites_row;
 use site_numbers::store_site;
 
-// `site::start_sites`.
+// `site_start::start_sites`.
 #[no_mangle]
 pub extern "C" fn tracker_start_decks(
     settings: &[u32; SETTINGS_NUMBERS],
@@ -38,7 +38,7 @@ pub extern "C" fn tracker_start_decks(
 ) -> u32
     ensures { λ r. ⌜ StartDecksExported (lent settings) (lent decks) (lent memory) r ⌝ }
 {
-    let started = site::start_sites(settings_from(settings), memory);
+    let started = site_start::start_sites(settings_from(settings), memory);
     if started.refusal == NO_REFUSAL {
         let fresh = started.sites;
         *decks = sites_row(fresh);

@@ -10,7 +10,7 @@ use lib.ListN.{length, take}
 use Rattle.model.specs.declared.Settings.{Settings}
 use Rattle.model.specs.Refusals.{noRefusal}
 use Rattle.record_numbers.specs.Numbers.{sitesWidth, sitesFrom, sitesNumbers, coordinatorRead, coordinatorNumbers}
-use Rattle.site.specs.Calls.{StartSitesSays}
+use Rattle.site_start.specs.Starts.{StartSitesSays}
 use Rattle.coordinator.specs.Calls.{StartCoordinatorSays}
 use Rattle.history.specs.Histories.{startState, Reachable, started}
 use Rattle.history.proofs.Answers.{accepted-choice, refused-choice}

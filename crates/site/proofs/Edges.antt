@@ -7,10 +7,6 @@ use Rattle.site.specs.Edges.{SiteCallEdges}
 pub site-call-edges : SiteCallEdges
 unfolding valueCount isTaken
 site-call-edges = record {
-  start-enough = refl;
-  start-short = refl;
-  start-three-before-four = refl;
-  start-clears = refl;
   draw-accepted = refl;
   draw-unknown-site = refl;
   draw-four-before-eleven = refl;

@@ -5,7 +5,7 @@ use native.Mathlib.Omega.{arith}
 use borrow.Author.Tests.{lt-ltb, le-ltb, le-leb, lt-leb}
 use Rattle.model.specs.NetworkMemory.{sitesWords}
 use Rattle.model.proofs.Thresholds.RefusalLaws.{Still, begin, pass, pass-part, refuse, refuse-part, end, told}
-use Rattle.site.proofs.StartLaws.{words-fit}
+use Rattle.site_start.proofs.StartLaws.{words-fit}
 use Rattle.library_decks.specs.AllDecks.{decksRefusal}
 use borrow.Author.Needs.{needs}
 use Rattle.library_decks.proofs.decks_refusal.Statement.{statement}

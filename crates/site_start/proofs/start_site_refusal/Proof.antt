@@ -5,9 +5,9 @@ use borrow.Author.Tests.{lt-ltb, le-ltb, le-leb, lt-leb}
 use borrow.Author.Needs.{needs}
 use Rattle.model.specs.SiteMemory.{siteWords}
 use Rattle.model.proofs.Thresholds.RefusalLaws.{Still, begin, pass, pass-part, refuse, refuse-part, end, told}
-use Rattle.site.specs.Calls.{startSiteRefusal}
-use Rattle.site.proofs.start_site_refusal.Statement.{statement}
-use Rattle.site.proofs.start_site_refusal.Tie as tie
+use Rattle.site_start.specs.Starts.{startSiteRefusal}
+use Rattle.site_start.proofs.start_site_refusal.Statement.{statement}
+use Rattle.site_start.proofs.start_site_refusal.Tie as tie
 
 abbrev past-settings : (c : tie.Else1)
     → let a = c .before .before .args in

@@ -1,12 +1,12 @@
--- `site::fresh_sites` meets its contract: 32 times a fresh record.
+-- `site_start::fresh_sites` meets its contract: 32 times a fresh record.
 use mathlib.Core.Path.{ap}
 use lib.ListN.{replicate}
 use borrow.Author.Needs.{needs}
 use Rattle.model.specs.declared.SiteRecord.{SiteRecord}
 use Rattle.model.specs.declared.Sites.{Sites}
 use Rattle.model.specs.Limits.{mostSites}
-use Rattle.site.proofs.fresh_sites.Statement.{statement}
-use Rattle.site.proofs.fresh_sites.Tie as tie
+use Rattle.site_start.proofs.fresh_sites.Statement.{statement}
+use Rattle.site_start.proofs.fresh_sites.Tie as tie
 
 abbrev sites-of : SiteRecord → Sites
 sites-of site = record { records = replicate mostSites site; messages = 0 }

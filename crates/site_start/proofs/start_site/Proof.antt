@@ -1,4 +1,4 @@
--- `site::start_site` meets its contract: refused, or the memory of the site cleared.
+-- `site_start::start_site` meets its contract: refused, or the memory of the site cleared.
 use Prim.Native.Nat.{ℕ, _≤_}
 use mathlib.Core.Path.{_≡_, sym, ap, subst, _∙_}
 use lib.ListN.{length, replicate}
@@ -7,9 +7,9 @@ use Rattle.model.specs.Refusals.{noRefusal}
 use Rattle.model.specs.SiteMemory.{siteWords, overwrite}
 use Rattle.model.proofs.Thresholds.RefusalLaws.{accepts, refuses}
 use Rattle.model.proofs.Thresholds.TestedMemory.{length-tested}
-use Rattle.site.specs.Calls.{startSiteRefusal}
-use Rattle.site.proofs.start_site.Statement.{statement}
-use Rattle.site.proofs.start_site.Tie as tie
+use Rattle.site_start.specs.Starts.{startSiteRefusal}
+use Rattle.site_start.proofs.start_site.Statement.{statement}
+use Rattle.site_start.proofs.start_site.Tie as tie
 
 returns : tie.Need-returns
 returns c =

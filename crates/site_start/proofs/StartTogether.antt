@@ -11,7 +11,7 @@ use Rattle.model.specs.Held.{noRecord}
 use Rattle.model.specs.Site.{freshSite}
 use Rattle.model.specs.SiteMemory.{siteWords, siteRecord}
 use Rattle.model.specs.NetworkMemory.{sitesWords}
-use Rattle.site.specs.Calls.{cleared, siteCleared, StartClaims}
+use Rattle.site_start.specs.Starts.{cleared, siteCleared, StartClaims}
 
 -- A part of zeros, behind a zeros and before c more, whatever follows.
 part-of-zeros : (a w c : ℕ) (rest : List ℕ)

@@ -19,7 +19,7 @@ use Rattle.model.specs.NetworkMemory.{sitesWords, freshSites}
 use Rattle.model.proofs.Thresholds.RefusalLaws.{Still, begin, pass, pass-part, refuse, refuse-part, end}
 use Rattle.model.proofs.Thresholds.SettingsLaws.{settled}
 use Rattle.model.proofs.BetweenArrivals.ReportLaws.{valueCount-is}
-use Rattle.site.specs.Calls.{startRefusal, cleared, StartSitesSays}
+use Rattle.site_start.specs.Starts.{startRefusal, cleared, StartSitesSays}
 
 -- ---- The answers
 

@@ -1,7 +1,7 @@
 -- Every number as it is written.
 use mathlib.Core.Path.{refl}
-use Rattle.site.proofs.fresh_site.Statement.{statement}
-use Rattle.site.proofs.fresh_site.Tie as tie
+use Rattle.site_start.proofs.fresh_site.Statement.{statement}
+use Rattle.site_start.proofs.fresh_site.Tie as tie
 
 returns : tie.Need-returns
 returns c = refl

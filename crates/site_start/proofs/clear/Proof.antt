@@ -1,11 +1,11 @@
--- `site::clear` meets its contract. The loop's invariant: the first i numbers are 0. The measure is
+-- `site_start::clear` meets its contract. The loop's invariant: the first i numbers are 0. The measure is
 -- the count of the numbers left.
 use Prim.Native.Nat.{_-_}
 use mathlib.Core.Path.{refl}
 use borrow.Author.Needs.{needs}
 use Rattle.laws.proofs.Fronts.{Filling, growing-begins, filling-on, growing-ends}
-use Rattle.site.proofs.clear.Statement.{statement}
-use Rattle.site.proofs.clear.Tie as tie
+use Rattle.site_start.proofs.clear.Statement.{statement}
+use Rattle.site_start.proofs.clear.Tie as tie
 
 abbrev Inv-loop : tie.InvT-loop
 Inv-loop memory₀ words i₀ memory i = Filling 0 memory₀ words memory i

@@ -1,13 +1,13 @@
--- `site::start_sites` meets its contract: refused, or all memory of the sites cleared.
+-- `site_start::start_sites` meets its contract: refused, or all memory of the sites cleared.
 use Prim.Native.Nat.{ℕ, _*_}
 use mathlib.Core.Path.{_∙_, sym, ap}
 use native.Mathlib.Omega.{arith}
 use lib.ListN.{replicate}
 use borrow.Author.Needs.{needs}
 use Rattle.model.specs.SiteMemory.{overwrite}
-use Rattle.site.proofs.StartLaws.{words-fit, start-settings, start-short, start-accepted}
-use Rattle.site.proofs.start_sites.Statement.{statement}
-use Rattle.site.proofs.start_sites.Tie as tie
+use Rattle.site_start.proofs.StartLaws.{words-fit, start-settings, start-short, start-accepted}
+use Rattle.site_start.proofs.start_sites.Statement.{statement}
+use Rattle.site_start.proofs.start_sites.Tie as tie
 
 returns : tie.Need-returns
 returns c =

@@ -1,0 +1,4 @@
+-- Laws of starting sites.
+pub mod StartLaws
+pub mod StartTogether
+pub mod Edges

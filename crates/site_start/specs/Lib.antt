@@ -1,0 +1,3 @@
+-- What starting sites promises.
+pub mod Starts
+pub mod Edges

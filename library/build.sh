@@ -1,7 +1,7 @@
 #!/usr/bin/env bash
 # build.sh [join]: the product's archives, from any current folder.
 #
-# Proves and compiles the crates below, one after another, and joins what they export into
+# Proves and compiles the crates below, two at a time, and joins what they export into
 # target/library/libtracker.a; libcontroller.a, with its three calls, comes beside it. With `join`
 # the archives that stand in target/staticlib are joined as they are, without a proof: for whoever
 # has just proved them. The last line is 'N passed, M failed': one for each crate, and three for the
@@ -10,10 +10,12 @@ set -u
 export LC_ALL=C
 cd "$(dirname "$0")/.." || exit 1
 
-# They are made one after another: each run of `rt` writes 'failed' to target/log before it looks at
-# a crate, so a second run in the same tree may take a proved crate for a failed one.
-crates="controller library_lengths library_deck library_decks library_desk library_reading"
-crates="$crates library_delivery library_batch"
+# Those that are made here, and those that are made beside them, in a tree of their own: each run
+# of `rt` writes 'failed' to target/log before it looks at a crate, so a second run in the same tree
+# may take a proved crate for a failed one.
+here="library_decks library_desk library_deck controller"
+beside="library_batch library_delivery library_reading library_lengths"
+crates="$here $beside"
 headers=library/include
 made=target/staticlib
 out=target/library
@@ -33,19 +35,59 @@ for tool in rt ld objcopy ar nm; do
 done
 [ "$failed" -eq 0 ] || finish
 
-# The last line of a proof counts what it assumes, if anything: a library assumes nothing.
+# prove TREE CRATE: the last line of a proof counts what it assumes, if anything: a library assumes
+# nothing.
 prove() {
   local log status verdict started=$SECONDS
   log=$(mktemp)
-  rt staticlib "$1" >"$log" 2>&1
+  (cd "$1" && rt staticlib "$2") >"$log" 2>&1
   status=$?
   verdict=$(grep -E '^logic=' "$log" | tail -n 1)
   case "$status $verdict" in
-    *axioms=* | *foreign=*) fail "lib$1.a assumes contracts: $verdict" ;;
-    "0 logic=proved "*) pass; echo "lib$1.a, $((SECONDS - started)) s: $verdict" ;;
-    *) fail "rt staticlib $1 (exit $status): $verdict"; tail -n 20 "$log" ;;
+    *axioms=* | *foreign=*) fail "lib$2.a assumes contracts: $verdict" ;;
+    "0 logic=proved "*) pass; echo "lib$2.a, $((SECONDS - started)) s: $verdict" ;;
+    *) fail "rt staticlib $2 (exit $status): $verdict"; tail -n 20 "$log" ;;
   esac
   rm -f "$log"
+}
+
+# A second tree: the same crates, and what is proved of them to read.
+second_tree() {
+  second=$(mktemp -d) && trap 'rm -rf "$second"' EXIT &&
+    mkdir "$second/target" && cp crates.txt "$second/" && cp -R target/stamp "$second/target/" &&
+    ln -s "$PWD/crates" "$second/crates" && ln -s "$PWD/target/rlib" "$second/target/rlib"
+}
+
+prove_all() {
+  local crate log ok bad
+  echo "proving what the library stands on"
+  log=$(mktemp)
+  # shellcheck disable=SC2086
+  if ! rt check $crates >"$log" 2>&1; then
+    fail "rt check: $(grep -E '^rt: FAILED' "$log")"
+    grep -E 'error' "$log" | head -n 20
+  fi
+  rm -f "$log"
+  [ "$failed" -eq 0 ] || return
+  second_tree || { fail "no second tree could be made"; return; }
+  echo "proving once more and compiling $crates"
+  (
+    passed=0
+    failed=0
+    for crate in $beside; do prove "$second" "$crate"; done
+    echo "$passed $failed" >"$second/counts"
+  ) >"$second/said" 2>&1 &
+  for crate in $here; do prove . "$crate"; done
+  wait
+  cat "$second/said"
+  if read -r ok bad <"$second/counts"; then
+    passed=$((passed + ok))
+    failed=$((failed + bad))
+  else
+    fail "the second tree came to no end"
+  fi
+  mkdir -p "$made"
+  for crate in $beside; do mv "$second/target/staticlib/lib$crate.a" "$made/" || return; done
 }
 
 # An archive of an earlier run is never taken for this one's.
@@ -54,10 +96,7 @@ rm -f "$out/libtracker.a" "$out/libcontroller.a"
 if [ "${1-}" = join ]; then
   echo "joining what stands in $made, proved or not"
 else
-  for crate in $crates; do
-    echo "proving and compiling $crate"
-    prove "$crate"
-  done
+  prove_all
 fi
 [ "$failed" -eq 0 ] || finish
 

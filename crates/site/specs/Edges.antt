@@ -1,6 +1,6 @@
--- The chains of the calls on sites at the edge: for each neighbouring pair of refusals an input that
--- deserves both. (What they are made of, and the parts
--- of the chains, stand in crate `model`'s specs/Edges.)
+-- The chains of the calls on sites at the edge: for each neighbouring pair of refusals an input
+-- that deserves both. (What they are made of, and the parts of the chains, stand in crate `model`'s
+-- specs/Edges.)
 use mathlib.Core.Path.{_≡_}
 use mathlib.Core.Bool.{true, false}
 use lib.ListN.{replicate}

@@ -1,5 +1,5 @@
--- `site_start::clear` meets its contract. The loop's invariant: the first i numbers are 0. The measure is
--- the count of the numbers left.
+-- `site_start::clear` meets its contract. The loop's invariant: the first i numbers are 0. The
+-- measure is the count of the numbers left.
 use Prim.Native.Nat.{_-_}
 use mathlib.Core.Path.{refl}
 use borrow.Author.Needs.{needs}

@@ -17,10 +17,10 @@ use Rattle.model.specs.Network.{Network, Delivered, siteAt, deliveryFuel, after
 use Rattle.model.specs.Runs.{Run, runOf}
 use Rattle.model.specs.SoundNetwork.{DroppedWithin}
 use Rattle.model.specs.DeliveryClaims.{delivery}
-use Rattle.model.specs.Departures.{departures, reportedAt, countAt, Accounted}
+use Rattle.forgotten.specs.Departures.{departures, reportedAt, countAt, Accounted}
 use Rattle.model.proofs.Soundness.NeverFewer.{Kept, counters-kept, arrivals-kept, dropped-kept}
-use Rattle.model.proofs.Dropped.Reported.{reportedAt-append, steps-report}
-use Rattle.model.proofs.Dropped.DroppedTheorem.{dropped-claims}
+use Rattle.forgotten.proofs.Reported.{reportedAt-append, steps-report}
+use Rattle.forgotten.proofs.DroppedTheorem.{dropped-claims}
 use Rattle.history.specs.State.{State, networkOf}
 use Rattle.history.proofs.Underway.{in-mid, kept-underway}
 use Rattle.history.proofs.Invariant.{Standing, resting, delivering, run-then, run-of-standing}

@@ -30,7 +30,7 @@ use Rattle.model.proofs.Soundness.ConsistentSites.{consistent-of-sound}
 use Rattle.site_memory.proofs.SiteMemoryLaws.{siteIn-siteMemory}
 use Rattle.site_memory.proofs.OneSite.{Storable}
 use Rattle.site_memory.proofs.SitesReading.{getD-sitesIn, length-sitesIn, used-within}
-use Rattle.site_steps.proofs.ReceiveLaws.{siteIn-received}
+use Rattle.site_receiving.proofs.ReceiveLaws.{siteIn-received}
 use Rattle.history.specs.State.{Held, networkOf, recordAt, siteStart, sitePart, withPart, afterSiteCall, noRecord}
 use Rattle.history.proofs.SiteParts.{siteIn-take, front-long}
 use Rattle.history.proofs.SitesMemory.{offset, offset-is, sitesIn-set, written, length-written, part-written, sitesIn-written}

@@ -15,8 +15,8 @@ use Rattle.model.specs.Settings.{settingsRefusal}
 use Rattle.model.specs.Network.{Network, Delivered, handOver}
 use Rattle.model.specs.SoundNetwork.{SoundCoordinator}
 use Rattle.model.specs.DeliveryClaims.{Delivery, delivery, joining, deliveryOf}
-use Rattle.model.specs.SoundClaims.{Reached, handed}
-use Rattle.model.proofs.Soundness.SoundTheorem.{sound-claims}
+use Rattle.mid_delivery.specs.SoundClaims.{Reached, handed}
+use Rattle.mid_delivery.proofs.Soundness.SoundTheorem.{sound-claims}
 use Rattle.history.specs.State.{Held, State, networkOf, sending}
 use Rattle.history.proofs.Decoded.{Lengths}
 use Rattle.history.proofs.Underway.{Underway}

@@ -16,7 +16,7 @@ use Rattle.model.specs.Network.{afterArrival}
 use Rattle.model.specs.Runs.{withArrival, isTakenIn, runOne, runOf}
 use Rattle.model.proofs.Deliveries.DeliveryTheorem.{delivery-claims}
 use Rattle.model.proofs.Runs.RunLaws.{runFrom-append}
-use Rattle.model.proofs.Numbers.NeverFalls.{either}
+use Rattle.model.proofs.Soundness.NeverFalls.{either}
 use Rattle.model.proofs.Runs.Theorem.{demands-over-runs}
 use Rattle.history.specs.Third.{FewFollow}
 

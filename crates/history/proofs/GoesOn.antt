@@ -26,7 +26,7 @@ use Rattle.model.specs.Network.{Network, Delivered, siteAt, afterArrival}
 use Rattle.model.specs.SoundNetwork.{DroppedWithin}
 use Rattle.model.specs.DeliveryClaims.{messageRefusal}
 use Rattle.model.proofs.Thresholds.SettingsLaws.{site-known}
-use Rattle.model.proofs.Soundness.SoundTheorem.{sound-claims}
+use Rattle.mid_delivery.proofs.Soundness.SoundTheorem.{sound-claims}
 use Rattle.model.proofs.Soundness.ConsistentCoordinator.{CoordinatorWithin}
 use Rattle.site.specs.Calls as SiteCalls
 use Rattle.coordinator.specs.Calls as CoordinatorCalls

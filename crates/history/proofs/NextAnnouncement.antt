@@ -17,7 +17,7 @@ use Rattle.model.specs.Messages.{noMessage}
 use Rattle.model.specs.Coordinator.{CoordinatorStep, announced, isAnnouncing}
 use Rattle.model.specs.CoordinatorMemory.{coordinatorRecord, coordinatorMemory, coordinatorMemoryRefusal}
 use Rattle.model.specs.Network.{Network, askAnnouncement}
-use Rattle.model.specs.SoundClaims.{asked}
+use Rattle.mid_delivery.specs.SoundClaims.{asked}
 use Rattle.model.proofs.Thresholds.RefusalLaws.{both-accepted}
 use Rattle.coordinator.specs.declared.Received.{Received}
 use Rattle.coordinator.specs.Calls as CoordinatorCalls

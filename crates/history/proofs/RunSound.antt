@@ -28,9 +28,9 @@ use Rattle.model.proofs.Thresholds.SettingsLaws.{Settled, settled}
 use Rattle.model.proofs.Deliveries.ClosedSites.{sumBelow-allArrivals}
 use Rattle.model.proofs.Runs.RunInvariant.{run-ok}
 use Rattle.model.proofs.Touches.DrawLaws.{taken-accepted}
-use Rattle.model.proofs.Soundness.SoundTheorem.{sound-claims}
-use Rattle.model.proofs.Numbers.NumberBounds.{arrivals-few}
-use Rattle.model.proofs.Numbers.NumberTheorem.{number-claims, grown-self, grown-more}
+use Rattle.mid_delivery.proofs.Soundness.SoundTheorem.{sound-claims}
+use Rattle.mid_delivery.proofs.Numbers.NumberBounds.{arrivals-few}
+use Rattle.mid_delivery.proofs.Numbers.NumberTheorem.{number-claims, grown-self, grown-more}
 use Rattle.model.proofs.Soundness.ConsistentCoordinator.{CoordinatorWithin}
 use Rattle.model.proofs.Runs.Theorem.{demands-over-runs}
 

@@ -24,7 +24,7 @@ use Rattle.model.specs.Runs.{runOf}
 use Rattle.model.proofs.Touches.DrawLaws.{line-draw, takes}
 use Rattle.model.specs.SoundNetwork.{SoundSite}
 use Rattle.model.specs.DeliveryClaims.{delivery, deliveryOf}
-use Rattle.model.specs.SoundClaims.{Reached, begun}
+use Rattle.mid_delivery.specs.SoundClaims.{Reached, begun}
 use Rattle.model.proofs.Thresholds.RefusalLaws.{BothAccepted, both-accepted}
 use Rattle.model.proofs.Thresholds.SettingsLaws.{settled}
 use Rattle.model.proofs.Soundness.SoundSites.{ArrivalTaken, taken-of-no-refusal, sound-observed}

@@ -18,9 +18,9 @@ use Rattle.model.specs.Site.{Site}
 use Rattle.model.specs.Network.{Network, siteAt}
 use Rattle.model.specs.Runs.{Run, runOf}
 use Rattle.model.specs.Claims.{counted, FewMessages}
-use Rattle.model.specs.Departures.{departures, Accounted}
+use Rattle.forgotten.specs.Departures.{departures, Accounted}
 use Rattle.model.proofs.Runs.Theorem.{demands-over-runs}
-use Rattle.model.proofs.Dropped.DroppedTheorem.{dropped-claims}
+use Rattle.forgotten.proofs.DroppedTheorem.{dropped-claims}
 use Rattle.history.specs.State.{State, networkWritten}
 use Rattle.history.specs.Histories.{Reachable, heldAtStart}
 use Rattle.history.specs.Reading.{FirmShare}

@@ -19,7 +19,7 @@ use Rattle.model.specs.CoordinatorMemory.{coordinatorRecord, coordinatorMemory}
 use Rattle.model.specs.Network.{Network, Delivered, handToCoordinator, handOver}
 use Rattle.model.specs.SoundNetwork.{SoundCoordinator}
 use Rattle.model.specs.DeliveryClaims.{joining, deliveryOf}
-use Rattle.model.specs.SoundClaims.{Reached}
+use Rattle.mid_delivery.specs.SoundClaims.{Reached}
 use Rattle.coordinator.specs.declared.Received.{Received}
 use Rattle.coordinator.specs.Calls as CoordinatorCalls
 use Rattle.history.specs.State.{Held, State, networkOf, afterCoordinatorCall, sending}

@@ -19,10 +19,10 @@ use Rattle.model.specs.Site.{Site, siteReceives, siteMessageRefusal}
 use Rattle.model.specs.SiteMemory.{siteWords, siteIn, siteRecord, siteMemoryRefusal}
 use Rattle.model.specs.Network.{Network, Delivered, siteAt, handToSite, handOver}
 use Rattle.model.specs.DeliveryClaims.{joining, deliveryOf}
-use Rattle.model.specs.SoundClaims.{Reached}
+use Rattle.mid_delivery.specs.SoundClaims.{Reached}
 use Rattle.model.proofs.Thresholds.RefusalLaws.{BothAccepted, both-accepted}
 use Rattle.model.proofs.Thresholds.SettingsLaws.{site-known}
-use Rattle.site_steps.specs.declared.Replied.{Replied}
+use Rattle.site_receiving.specs.declared.Replied.{Replied}
 use Rattle.site.specs.Calls as SiteCalls
 use Rattle.history.specs.State.{Held, State, networkOf, recordAt, siteStart, sitePart, afterSiteCall, sending}
 use Rattle.history.specs.Histories.{answeredOut}

@@ -24,9 +24,9 @@ use Rattle.model.specs.Network.{Network, Delivered, siteAt, deliveryFuel, after
 use Rattle.model.specs.Runs.{refusalIn}
 use Rattle.model.specs.SoundNetwork.{SoundSite, DroppedWithin, SoundCoordinator, Sound}
 use Rattle.model.specs.DeliveryClaims.{Delivery, delivery, deliverySteps, deliveryOf}
-use Rattle.model.specs.SoundClaims.{Reached, InMidDelivery}
+use Rattle.mid_delivery.specs.SoundClaims.{Reached, InMidDelivery}
 use Rattle.model.proofs.Soundness.NeverFewer.{Kept, arrivals-kept, dropped-kept, steps-keep}
-use Rattle.model.proofs.Soundness.SoundTheorem.{sound-claims}
+use Rattle.mid_delivery.proofs.Soundness.SoundTheorem.{sound-claims}
 use Rattle.model.proofs.Soundness.ConsistentCoordinator.{CoordinatorWithin}
 use Rattle.history.specs.State.{State, networkOf}
 use Rattle.history.proofs.DeliveryLogs.{LogGrows, steps-grow}

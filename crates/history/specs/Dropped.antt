@@ -13,7 +13,7 @@ use Rattle.model.specs.declared.Settings.{Settings}
 use Rattle.model.specs.declared.Arrival.{Arrival}
 use Rattle.model.specs.Network.{siteAt}
 use Rattle.model.specs.Runs.{runOf}
-use Rattle.model.specs.Departures.{departures, droppedAt, countAt, Accounted}
+use Rattle.forgotten.specs.Departures.{departures, droppedAt, countAt, Accounted}
 use Rattle.history.specs.State.{State, networkOf, recordAt}
 
 -- What the rules' run over these arrivals has at a site.

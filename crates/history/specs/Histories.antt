@@ -24,7 +24,7 @@ use Rattle.model.specs.Refusals.{noRefusal}
 use Rattle.model.specs.Draws.{isDraw, drawsOf}
 use Rattle.model.specs.Messages.{toCoordinator}
 use Rattle.site_steps.specs.declared.Observed.{Observed}
-use Rattle.site_steps.specs.declared.Replied.{Replied}
+use Rattle.site_receiving.specs.declared.Replied.{Replied}
 use Rattle.site_start.specs.declared.StartedSites.{StartedSites}
 use Rattle.site.specs.Calls.{ObserveSays, SiteReceiveSays}
 use Rattle.site_start.specs.Starts.{StartSitesSays}

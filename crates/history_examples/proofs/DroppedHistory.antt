@@ -9,7 +9,7 @@ use lib.ListN.{replicate}
 use Rattle.model.specs.Limits.{valueCount}
 use Rattle.model.specs.Draws.{isTaken}
 use Rattle.model.specs.Instances.{settingsA}
-use Rattle.model.specs.DroppedInstances.{twelveDraws}
+use Rattle.forgotten.specs.DroppedInstances.{twelveDraws}
 use Rattle.history.specs.Histories.{Reachable}
 use Rattle.history_examples.specs.OneBatch.{answerFor}
 use Rattle.history_examples.specs.DroppedHistory.{afterTwelve, DroppedHistory}

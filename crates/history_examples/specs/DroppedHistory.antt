@@ -12,9 +12,9 @@ use Rattle.model.specs.declared.Message.{Message}
 use Rattle.model.specs.declared.Phase.the-variants.{Idle}
 use Rattle.model.specs.Messages.{countReport, poll, pollAnswer, announcement}
 use Rattle.model.specs.Network.{siteAt}
-use Rattle.model.specs.Departures.{departures, Accounted}
+use Rattle.forgotten.specs.Departures.{departures, Accounted}
 use Rattle.model.specs.Instances.{settingsA}
-use Rattle.model.specs.DroppedInstances.{left, twelveDraws}
+use Rattle.forgotten.specs.DroppedInstances.{left, twelveDraws}
 use Rattle.history.specs.State.{State, networkOf, recordAt}
 use Rattle.history.specs.Histories.{Reachable}
 use Rattle.history_examples.specs.OneBatch.{batchedState}

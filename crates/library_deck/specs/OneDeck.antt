@@ -9,7 +9,7 @@ use mathlib.Core.Path.{_≡_}
 use Prim.Native.Nat.{ℕ}
 use Rattle.model.specs.Instances.{arrivalWith}
 use Rattle.site_steps.specs.declared.Observed.{Observed}
-use Rattle.site_steps.specs.declared.Replied.{Replied}
+use Rattle.site_receiving.specs.declared.Replied.{Replied}
 use Rattle.site_start.specs.declared.StartedSite.{StartedSite}
 use Rattle.site.specs.Calls.{ObserveSays, SiteReceiveSays}
 use Rattle.site_start.specs.Starts.{StartSiteSays}

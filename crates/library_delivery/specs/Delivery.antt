@@ -7,8 +7,8 @@ use mathlib.Core.Path.{_≡_}
 use mathlib.Core.List.{[], _∷_}
 use Prim.Native.Nat.{ℕ}
 use Rattle.model.specs.Held.{heldBy}
-use Rattle.single_delivery.specs.declared.DeliveryAnswer.{DeliveryAnswer}
-use Rattle.single_delivery.specs.Delivery.{DeliverySays}
+use Rattle.single_outcome.specs.declared.DeliveryAnswer.{DeliveryAnswer}
+use Rattle.single_outcome.specs.Delivery.{DeliverySays}
 use Rattle.record_numbers.specs.Numbers.{settingsFrom, arrivalFrom, sitesFrom, sitesNumbers, coordinatorRead, coordinatorNumbers}
 use Rattle.library_rows.specs.Rows.{Row, handedOut}
 

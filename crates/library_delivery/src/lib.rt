@@ -11,7 +11,7 @@ use record_numbers::ARRIVAL_NUMBERS;
 use record_numbers::SETTINGS_NUMBERS;
 use record_numbers::arrival_from;
 use record_numbers::settings_from;
-use single_delivery::DeliveryAnswer;
+use single_outcome::DeliveryAnswer;
 use site_numbers::SITES_NUMBERS;
 use site_numbers::sites_from;
 use site_numbers::sites_row;

@@ -18,8 +18,8 @@ use Rattle.history.specs.State.{Held, heldBy, State, AtRest, holding}
 use Rattle.history.specs.Histories.{to-coordinator, to-site, next-announcement, Delivers, Reachable, Deliveries, no-step, delivered, refused-between}
 use Rattle.history.proofs.Answers.{left-choice}
 use Rattle.history.proofs.Refused.{refused-same}
-use Rattle.single_delivery.specs.declared.DeliveryAnswer.{DeliveryAnswer}
-use Rattle.single_delivery.specs.Delivery.{deliveryIn, ArrivalDelivered, HistoryGoesOn}
+use Rattle.single_outcome.specs.declared.DeliveryAnswer.{DeliveryAnswer}
+use Rattle.single_outcome.specs.Delivery.{deliveryIn, ArrivalDelivered, HistoryGoesOn}
 use Rattle.library_history.specs.Bench.{Bench, heldIn}
 use Rattle.library_history.specs.Calls.{DeliverCall, afterDeliver}
 use Rattle.library_history.specs.Used.{delivering}

@@ -20,7 +20,7 @@ use Rattle.history.specs.State.{State}
 use Rattle.history.specs.Histories.{Reachable}
 use Rattle.history.proofs.Accepted.{held-sound}
 use Rattle.history.proofs.Theorem.{arisen}
-use Rattle.single_delivery.proofs.HistoryLaws.{passes-of-reachable}
+use Rattle.single_outcome.proofs.HistoryLaws.{passes-of-reachable}
 
 -- Signals are at most k, a class at most 1023; a phase's deck is below k, its interval within 1023.
 narrow-phase : (settings : Settings) (signals quantile : ℕ) (phase : Phase)

@@ -10,8 +10,8 @@ use Rattle.record_numbers.specs.Numbers.{sitesWidth, settingsFrom, arrivalFrom}
 use Rattle.history.specs.State.{State, AtRest, holding}
 use Rattle.history.specs.Histories.{Reachable}
 use Rattle.history.proofs.Theorem.{demands, arisen}
-use Rattle.single_delivery.specs.Delivery.{deliveryIn}
-use Rattle.single_delivery.proofs.HistoryLaws.{passes-of-reachable}
+use Rattle.single_outcome.specs.Delivery.{deliveryIn}
+use Rattle.single_outcome.proofs.HistoryLaws.{passes-of-reachable}
 use Rattle.library_history.specs.Bench.{Bench, heldIn}
 use Rattle.library_history.specs.Calls.{afterDeliver}
 use Rattle.library_history.specs.Used.{delivering, Called, draw-accepted, draw-left, deck-message-accepted, deck-message-refused, desk-message-accepted, desk-message-refused, announcement-accepted, announcement-refused, run-at-rest, run-takes-none, delivered, delivery-left, start-decks-refused, start-desk-refused, Used, started, called}

@@ -27,7 +27,7 @@ use Rattle.record_numbers.specs.Numbers.{arrivalFrom, messageFrom, sitesFrom, c
 use Rattle.tracker_queue.specs.Log.{messagesIn}
 use Rattle.history.specs.State.{State, AtRest, holding, sending}
 use Rattle.history.specs.Histories.{startState}
-use Rattle.single_delivery.specs.Delivery.{deliveryIn}
+use Rattle.single_outcome.specs.Delivery.{deliveryIn}
 use Rattle.library_history.specs.Bench.{Bench, heldIn}
 use Rattle.library_history.specs.Calls.{Under, outOf, StartDecksCall, afterStartDecks, StartDeskCall, afterStartDesk, DrawCall, afterDraw, DeckMessageCall, afterDeckMessage, DeskMessageCall, afterDeskMessage, AnnouncementCall, afterAnnouncement, RunCall, afterRun, acceptedBy, writtenBy, DeliverCall, afterDeliver}
 

@@ -6,9 +6,6 @@ pub mod Deliveries
 pub mod MessageCount
 pub mod Runs
 pub mod Soundness
-pub mod Stages
-pub mod Numbers
-pub mod Dropped
 pub mod Touches
 pub mod Worklists
 pub mod Instances

@@ -27,9 +27,6 @@ pub mod TranscriptClaims
 pub mod Instances
 pub mod SoundNetwork
 pub mod DeliveryClaims
-pub mod SoundClaims
 pub mod NumberClaims
-pub mod Departures
 pub mod Edges
-pub mod DroppedInstances
 pub mod TouchInstances

@@ -9,8 +9,7 @@
 ghost use Rattle.model.specs.Lent.{before, after};
 ghost use mathlib.Core.Path.{_≡_};
 ghost use Rattle.model.specs.Held.{heldBy};
-ghost use Rattle.single_delivery.specs.Delivery.{leftBy, DeliverySays};
-use crate::arrivals::begin;
+ghost use Rattle.single_outcome.specs.Delivery.{leftBy, DeliverySays};
 use model::Arrival;
 use model::CoordinatorRecord;
 use model::NO_REFUSAL;
@@ -18,21 +17,10 @@ use model::Settings;
 use model::Sites;
 use model::UNKNOWN_SITE;
 use model::Word;
+use single_begin::begin;
+use single_outcome::DeliveryAnswer;
 use single_steps::deliver;
 use tracker_memory::network_refusal;
-
-mod arrivals;
-
-// Why the arrival is refused, or 0. If it is not: how many messages went out, each once; the number
-// of a call that was refused on the way and stopped the delivery, or 0 where it came to rest; and
-// both records as they are then. From records and memory that arose by the calls nothing stops it.
-pub struct DeliveryAnswer {
-    pub refusal: u32,
-    pub carried: u64,
-    pub stopped: u32,
-    pub sites: Sites,
-    pub coordinator: CoordinatorRecord,
-}
 
 // One arrival with full delivery. Refused, it changes nothing: 1, 2, 3; then 4 and 11 of the whole
 // network, coordinator and all; then 5, 6, 7, 8. Nor does a touch, which is not tested for 8.

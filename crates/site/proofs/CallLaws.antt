@@ -22,9 +22,10 @@ use Rattle.model.proofs.Thresholds.RefusalLaws.{both-accepted, passed}
 use Rattle.model.proofs.Touches.DrawLaws.{line-draw, takes, not-taken, touch-left}
 use Rattle.site_memory.proofs.ReadyLaws.{step-ready}
 use Rattle.site_steps.specs.declared.Observed.{Observed}
-use Rattle.site_steps.specs.declared.Replied.{Replied}
-use Rattle.site_steps.specs.Steps.{ObserveAsks, ObserveStepSays, ReceiveAsks, ReceiveStepSays}
-use Rattle.site_steps.proofs.ReceiveLaws.{message-due}
+use Rattle.site_receiving.specs.declared.Replied.{Replied}
+use Rattle.site_steps.specs.Steps.{ObserveAsks, ObserveStepSays}
+use Rattle.site_receiving.specs.Receiving.{ReceiveAsks, ReceiveStepSays}
+use Rattle.site_receiving.proofs.ReceiveLaws.{message-due}
 use Rattle.site.specs.Calls.{observeRefusal, observeTakes, unchangedBy, ObserveSays, receiveRefusal, SiteReceiveSays}
 
 -- ---- An arrival

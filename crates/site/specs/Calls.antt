@@ -22,7 +22,7 @@ use Rattle.model.specs.Messages.{noMessage}
 use Rattle.model.specs.Site.{SiteStep, lineRefusal, observed, siteMessageRefusal, siteReceives}
 use Rattle.model.specs.SiteMemory.{siteIn, siteRecord, siteMemory, siteMemoryRefusal}
 use Rattle.site_steps.specs.declared.Observed.{Observed}
-use Rattle.site_steps.specs.declared.Replied.{Replied}
+use Rattle.site_receiving.specs.declared.Replied.{Replied}
 
 -- ---- An arrival at a site
 

@@ -13,8 +13,8 @@ use model::Settings;
 use model::SiteRecord;
 use model::UNKNOWN_SITE;
 use model::Word;
+use site_receiving::Replied;
 use site_steps::Observed;
-use site_steps::Replied;
 
 // Why an arrival is refused: 1, 2, 3, 4, 11; then 5, 6, 7; then 8, unless it is a touch.
 fn observe_refusal(settings: Settings, site: SiteRecord, arrival: Arrival, memory: &[Word]) -> u32
@@ -100,5 +100,5 @@ pub fn receive(
             reply: none,
         };
     }
-    site_steps::receive_step(settings, site, message, memory)
+    site_receiving::receive_step(settings, site, message, memory)
 }

@@ -1,4 +1,3 @@
 -- Laws of the internal steps of a site.
 pub mod ObserveMemory
 pub mod StoreLaws
-pub mod ReceiveLaws

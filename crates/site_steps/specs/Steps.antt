@@ -1,11 +1,10 @@
--- The contracts of the internal steps on a site: what each requires, and what it promises.
+-- The contracts of the internal step on a draw at a site: what each requires, and what it promises.
 --
 --   ReportSays, StoredReportSays    a counter reported if it is due
 --   DueSays, GatherSays             the messages that are due, in order
 --   ObserveAsks, StoreSays, ObserveStepSays   an arrival
---   ReceiveAsks, ReceiveStepSays    a message
 use mathlib.Core.Path.{_≡_}
-use mathlib.Core.Bool.{Bool, true}
+use mathlib.Core.Bool.{Bool}
 use mathlib.Core.List.{List, [], _∷_, _++_}
 use Prim.Native.Nat.{ℕ, _+_, _*_, _≤_}
 use lib.Dec.{leb}
@@ -16,16 +15,14 @@ use Rattle.model.specs.declared.Message.{Message}
 use Rattle.model.specs.declared.SiteRecord.{SiteRecord}
 use Rattle.model.specs.Choice.{if_then_else_}
 use Rattle.model.specs.Refusals.{noRefusal}
-use Rattle.model.specs.Limits.{topValue}
-use Rattle.model.specs.Messages.{noMessage, isProbe}
+use Rattle.model.specs.Messages.{noMessage}
 use Rattle.model.specs.Counters.{Counter, unreported, goneWith}
-use Rattle.model.specs.Site.{SiteStep, arrivalRefusal, leavingFor, reportsItem, observed, siteReceives}
+use Rattle.model.specs.Site.{SiteStep, arrivalRefusal, leavingFor, reportsItem, observed}
 use Rattle.model.specs.SiteMemory.{siteIn, siteRecord, siteMemory}
 use Rattle.site_counters.specs.declared.StoredCounter.{StoredCounter}
 use Rattle.site_counters.specs.Stored.{counterOf, PartsWithin}
 use Rattle.site_memory.specs.Ready.{StepReady}
 use Rattle.site_steps.specs.declared.Observed.{Observed}
-use Rattle.site_steps.specs.declared.Replied.{Replied}
 use Rattle.site_steps.specs.declared.StoredArrival.{StoredArrival}
 
 -- ---- Parts of an arrival
@@ -118,28 +115,3 @@ pub record ObserveStepSays
       answer
   pub memory : after
       ≡ siteMemory settings (observedIn settings numbers arrival before .site) before
-
--- ---- A message
-
--- A consistent site, and a probe's value that is one.
-pub record ReceiveAsks
-    (settings : Settings)
-    (numbers : SiteRecord)
-    (m : Message)
-    (memory : List ℕ) : Type 0 where
-  pub ready : StepReady settings numbers memory
-  pub value-known : isProbe m ≡ true → m .a ≤ topValue
-
-abbrev pub receivedIn : Settings → SiteRecord → Message → List ℕ → SiteStep
-receivedIn settings numbers m memory = siteReceives (siteIn settings numbers memory) m
-
-pub record ReceiveStepSays
-    (settings : Settings)
-    (numbers : SiteRecord)
-    (m : Message)
-    (memory : List ℕ)
-    (answer : Replied) : Type 0 where
-  pub refusal : answer .refusal ≡ noRefusal
-  pub site : answer .site ≡ siteRecord (receivedIn settings numbers m memory .site)
-  pub count : answer .count ≡ length (receivedIn settings numbers m memory .messages)
-  pub reply : answer .reply ≡ getD (receivedIn settings numbers m memory .messages) 0 noMessage

@@ -1,5 +1,5 @@
-// The steps of a site: what an arrival and what a message do to its record and memory. They test
-// nothing. A site's memory is handed over as a slice that may be longer than it needs.
+// The step of a site on a draw: what it does to the site's record and memory. It tests nothing. A
+// site's memory is handed over as a slice that may be longer than it needs.
 
 ghost use mathlib.Core.Path.{_≡_};
 ghost use Prim.Native.Nat.{_+_, _<_};
@@ -9,17 +9,13 @@ ghost use Rattle.model.specs.Choice.{if_then_else_};
 ghost use Rattle.model.specs.Lent.{before, after};
 ghost use Rattle.model.specs.Site.{oneMoreAt};
 ghost use Rattle.site_counters.specs.Stored.{greatestWord, counterOf};
-ghost use Rattle.site_steps.specs.Steps.{ReportAsks, StoredReportSays, DueSays, ObserveAsks, StoreSays, ObserveStepSays, ReceiveAsks, ReceiveStepSays};
+ghost use Rattle.site_steps.specs.Steps.{ReportAsks, StoredReportSays, DueSays, ObserveAsks, StoreSays, ObserveStepSays};
 use messages::count_report_of;
 use messages::item_report_of;
 use messages::no_message;
-use messages::poll_answer_of;
-use messages::probe_answer_of;
 use model::Arrival;
 use model::Message;
 use model::NO_REFUSAL;
-use model::POLL;
-use model::PROBE;
 use model::Settings;
 use model::SiteRecord;
 use model::Word;
@@ -35,14 +31,6 @@ pub struct Observed {
     pub count: u32,
     pub first: Message,
     pub second: Message,
-}
-
-// What a message leads to: the site's record then, and the reply, if `count` is 1.
-pub struct Replied {
-    pub refusal: u32,
-    pub site: SiteRecord,
-    pub count: u32,
-    pub reply: Message,
 }
 
 // A counter reported if its unreported arrivals reach the threshold, and whether they do.
@@ -196,58 +184,4 @@ pub fn observe_step(
     let item_report = item_report_of(arrival.site, arrival.item, site.threshold);
     let count_report = count_report_of(arrival.site, site.threshold, value);
     gather(after, stored.due, item_report, count_due, count_report)
-}
-
-// A message at a site: a poll is answered by what is pending, a probe by the arrivals at or below
-// its value, and an announcement sets the threshold. The memory is only read. Internal: what it
-// requires is decided by `site_memory::site_memory_refusal` and `site_refusals::message_refusal`,
-// or by the tests of the batch call.
-pub fn receive_step(
-    settings: Settings,
-    site: SiteRecord,
-    message: Message,
-    memory: &[Word],
-) -> Replied
-    requires { ⌜ ReceiveAsks settings site message (now memory) ⌝ }
-    ensures { λ r. ⌜ ReceiveStepSays settings site message (before memory) r ⌝ }
-{
-    if message.kind == POLL {
-        let after = SiteRecord {
-            arrivals: site.arrivals,
-            pending: 0,
-            threshold: site.threshold,
-            used: site.used,
-            dropped: site.dropped,
-        };
-        return Replied {
-            refusal: NO_REFUSAL,
-            site: after,
-            count: 1,
-            reply: poll_answer_of(message.site, site.pending),
-        };
-    }
-    if message.kind == PROBE {
-        let from = 4 * (settings.capacity as usize);
-        let value = message.a as usize;
-        let count = site_memory::count_up_to(memory, from, value);
-        return Replied {
-            refusal: NO_REFUSAL,
-            site: site,
-            count: 1,
-            reply: probe_answer_of(message.site, message.a, count),
-        };
-    }
-    let after = SiteRecord {
-        arrivals: site.arrivals,
-        pending: site.pending,
-        threshold: message.a,
-        used: site.used,
-        dropped: site.dropped,
-    };
-    Replied {
-        refusal: NO_REFUSAL,
-        site: after,
-        count: 0,
-        reply: no_message(),
-    }
 }

@@ -30,7 +30,7 @@ use Rattle.model.specs.Limits.{mostSites}
 use Rattle.model.specs.Held.{noRecord}
 use Rattle.tracker_steps.specs.declared.BatchAnswer.{BatchAnswer}
 use Rattle.tracker_steps.specs.declared.Turn.{Turn}
-use Rattle.tracker_steps.specs.Turns.{counted}
+use Rattle.tracker_arrivals.specs.Counting.{counted}
 use Rattle.model.proofs.SiteRecord as R
 use Rattle.model.proofs.SiteRecord.Laws as R′
 use Rattle.model.proofs.Sites as P

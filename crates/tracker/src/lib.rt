@@ -13,11 +13,11 @@ use model::NO_REFUSAL;
 use model::Settings;
 use model::Sites;
 use model::Word;
+use tracker_arrivals::deliver_turn;
+use tracker_arrivals::take_arrival;
 use tracker_steps::BatchAnswer;
-use tracker_steps::deliver_turn;
 use tracker_steps::open_batch;
 use tracker_steps::place_of;
-use tracker_steps::take_arrival;
 use tracker_steps::take_turn;
 
 // A batch of one arrival: for callers that hold no run of arrivals.

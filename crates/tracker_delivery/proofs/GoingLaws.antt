@@ -21,15 +21,15 @@ use Rattle.model.specs.Network.{Network, siteAt, handOver, askAnnouncement, aft
 use Rattle.model.specs.SoundNetwork.{SoundSite, SoundNumbers}
 use Rattle.model.specs.Messages.{messageWidth}
 use Rattle.model.specs.DeliveryClaims.{Delivery, delivery, joining, deliveryStep, deliverySteps}
-use Rattle.model.specs.SoundClaims.{handed, asked, InMidDelivery}
+use Rattle.mid_delivery.specs.SoundClaims.{handed, asked, InMidDelivery}
 use Rattle.model.proofs.Thresholds.SettingsLaws.{Settled, settled}
 use Rattle.model.proofs.Soundness.SoundSites.{ArrivalTaken, taken-of-no-refusal}
 use Rattle.model.proofs.Deliveries.DeliveryTheorem.{delivery-claims}
-use Rattle.model.proofs.Stages.Stages.{Stage}
-use Rattle.model.proofs.Stages.StageFacts.{stage-length, stage-sites, stage-coordinator}
-use Rattle.model.proofs.Soundness.SoundTheorem.{StillLeft, reached-left, sound-claims}
+use Rattle.mid_delivery.proofs.Stages.Stages.{Stage}
+use Rattle.mid_delivery.proofs.Stages.StageFacts.{stage-length, stage-sites, stage-coordinator}
+use Rattle.mid_delivery.proofs.Soundness.SoundTheorem.{StillLeft, reached-left, sound-claims}
 use Rattle.site_memory.proofs.SitesMemoryLaws.{all-storable}
-use Rattle.model.proofs.Numbers.NumberBounds.{estimates-few, values-few}
+use Rattle.mid_delivery.proofs.Numbers.NumberBounds.{estimates-few, values-few}
 use Rattle.coordinator_steps.specs.Ready.{CoordinatorReady}
 use Rattle.tracker_delivery.specs.Holding.{Accepting, Going, rested, WithLog}
 use Rattle.tracker_delivery.proofs.OneAnswer.{answers-one, announced-one}

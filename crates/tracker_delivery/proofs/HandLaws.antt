@@ -15,7 +15,7 @@ use Rattle.model.specs.Refusals.{noRefusal}
 use Rattle.model.specs.Messages.{messageWidth}
 use Rattle.model.specs.Network.{Network, handOver}
 use Rattle.model.specs.DeliveryClaims.{messageRefusal}
-use Rattle.model.proofs.Stages.MidDelivery.{hand-on}
+use Rattle.mid_delivery.proofs.Stages.MidDelivery.{hand-on}
 use Rattle.tracker_queue.specs.declared.Queue.{Queue}
 use Rattle.tracker_queue.specs.Sending.{queueOf, withoutHead}
 use Rattle.tracker_delivery.specs.Holding.{Delivering, Carrying}

@@ -18,8 +18,8 @@ use Rattle.model.specs.Coordinator.{coordinatorReceives, announced}
 use Rattle.model.specs.CoordinatorMemory.{coordinatorIn}
 use Rattle.model.specs.SiteMemory.{siteWords}
 use Rattle.model.specs.DeliveryClaims.{deliveryStep}
-use Rattle.site_steps.specs.declared.Replied as SiteAnswer
-use Rattle.site_steps.specs.Steps.{ReceiveStepSays}
+use Rattle.site_receiving.specs.declared.Replied as SiteAnswer
+use Rattle.site_receiving.specs.Receiving.{ReceiveStepSays}
 use Rattle.coordinator_kinds.specs.declared.Answered.{Answered}
 use Rattle.coordinator_kinds.specs.Steps.{answerOf, KindSays}
 use Rattle.site_memory.proofs.SitePart.{part}

@@ -24,11 +24,11 @@ use Rattle.model.specs.SiteMemory.{siteWords, siteIn, siteRecord}
 use Rattle.model.specs.Network.{Network, siteAt, withSite}
 use Rattle.model.specs.DeliveryClaims.{delivery, deliveryStep}
 use Rattle.model.specs.SoundNetwork.{SoundSite}
-use Rattle.model.proofs.Stages.StageFacts.{stage-sites}
+use Rattle.mid_delivery.proofs.Stages.StageFacts.{stage-sites}
 use Rattle.model.proofs.Soundness.NeverFewer.{counters-kept, values-kept}
-use Rattle.site_steps.specs.declared.Replied as SiteAnswer
-use Rattle.site_steps.specs.Steps.{ReceiveAsks, ReceiveStepSays}
-use Rattle.site_steps.proofs.ReceiveLaws.{Due, message-due}
+use Rattle.site_receiving.specs.declared.Replied as SiteAnswer
+use Rattle.site_receiving.specs.Receiving.{ReceiveAsks, ReceiveStepSays}
+use Rattle.site_receiving.proofs.ReceiveLaws.{Due, message-due}
 use Rattle.site_memory.proofs.SitesMemoryLaws.{sitesMemory-kept}
 use Rattle.tracker_queue.specs.declared.Queue.{Queue}
 use Rattle.tracker_delivery.specs.declared.Underway.{Underway}

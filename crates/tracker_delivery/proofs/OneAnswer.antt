@@ -19,7 +19,7 @@ use Rattle.model.specs.Messages.{isItemReport, isPoll, isProbe, toCoordinator, 
 use Rattle.model.specs.Site.{Site, SiteStep, siteReceives}
 use Rattle.model.specs.Coordinator.{Coordinator, CoordinatorStep, withPhase, atRest, closesRound, closed, enough, middle, narrowed, halved, receivesIn, coordinatorReceives, announcedIn, announced}
 use Rattle.model.specs.Network.{Network, Delivered, siteAt, handOver, handToCoordinator, handToSite}
-use Rattle.model.proofs.Numbers.NeverFalls.{either}
+use Rattle.model.proofs.Soundness.NeverFalls.{either}
 
 none-of-one : 0 ≤ 1
 none-of-one = omega arith

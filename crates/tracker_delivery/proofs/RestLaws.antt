@@ -14,9 +14,9 @@ use Rattle.model.specs.NetworkMemory.{allArrivals}
 use Rattle.model.specs.SoundNetwork.{Sound}
 use Rattle.model.specs.NumberClaims.{Bounded}
 use Rattle.model.specs.DeliveryClaims.{delivery}
-use Rattle.model.proofs.Soundness.SoundTheorem.{sound-claims}
-use Rattle.model.proofs.Numbers.NumberBounds.{bounded-grown}
-use Rattle.model.proofs.Numbers.NumberTheorem.{number-claims}
+use Rattle.mid_delivery.proofs.Soundness.SoundTheorem.{sound-claims}
+use Rattle.mid_delivery.proofs.Numbers.NumberBounds.{bounded-grown}
+use Rattle.mid_delivery.proofs.Numbers.NumberTheorem.{number-claims}
 use Rattle.tracker_delivery.specs.Holding.{Holds, Accepting, WithLog, Carrying}
 
 -- ---- The network then

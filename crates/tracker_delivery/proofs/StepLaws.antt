@@ -16,7 +16,7 @@ use Rattle.model.specs.Coordinator.{Coordinator, CoordinatorStep, announced, is
 use Rattle.model.specs.CoordinatorMemory.{coordinatorIn, coordinatorMemory}
 use Rattle.model.specs.Network.{Network, withCoordinator, handOver, askAnnouncement}
 use Rattle.model.specs.DeliveryClaims.{Delivery, delivery, joining, deliveryStep}
-use Rattle.model.proofs.Stages.StageFacts.{stage-coordinator}
+use Rattle.mid_delivery.proofs.Stages.StageFacts.{stage-coordinator}
 use Rattle.coordinator_kinds.specs.declared.Answered as CoordinatorAnswer
 use Rattle.coordinator_kinds.specs.Steps.{answerOf}
 use Rattle.coordinator_steps.specs.Ready.{AnnounceAsks}

@@ -18,7 +18,7 @@ use Rattle.model.specs.Messages.{messageWidth}
 use Rattle.model.specs.Coordinator.{isAnnouncing}
 use Rattle.model.specs.Network.{Network, siteAt, afterArrival}
 use Rattle.model.specs.DeliveryClaims.{Delivery, deliveryOf}
-use Rattle.model.specs.SoundClaims.{begun}
+use Rattle.mid_delivery.specs.SoundClaims.{begun}
 use Rattle.tracker_queue.specs.declared.Queue.{Queue}
 use Rattle.tracker_queue.specs.declared.Traffic.{Traffic}
 use Rattle.tracker_queue.specs.Sending.{SendTwoAsks, SendTwoSays}

@@ -35,7 +35,7 @@ use Rattle.model.specs.Runs.{refusalIn}
 use Rattle.model.specs.SoundNetwork.{Sound}
 use Rattle.model.specs.NumberClaims.{Bounded}
 use Rattle.model.specs.DeliveryClaims.{Delivery, delivery, deliveryStep, deliveryOf}
-use Rattle.model.specs.SoundClaims.{Reached}
+use Rattle.mid_delivery.specs.SoundClaims.{Reached}
 use Rattle.tracker_queue.specs.declared.Queue.{Queue}
 use Rattle.tracker_queue.specs.declared.Traffic.{Traffic}
 use Rattle.tracker_delivery.specs.declared.Underway.{Underway}

@@ -97,7 +97,7 @@ pub fn hand_over(
     let which = message.site as usize;
     let start = which * site_memory::site_words(settings);
     let part = &site_memory[start..];
-    let answer = site_steps::receive_step(settings, own, message, part);
+    let answer = site_receiving::receive_step(settings, own, message, part);
     let after = answer.site;
     let out = answer.reply;
     Change {

@@ -15,7 +15,7 @@ use Rattle.model.specs.NetworkMemory.{networkIn, networkRefusal}
 use Rattle.model.specs.SoundNetwork.{Sound}
 use Rattle.model.specs.NumberClaims.{Bounded}
 use Rattle.model.proofs.Thresholds.SettingsLaws.{settled}
-use Rattle.model.proofs.Numbers.NumberBounds.{bounded-start}
+use Rattle.mid_delivery.proofs.Numbers.NumberBounds.{bounded-start}
 use Rattle.model.proofs.Soundness.ConsistentNetwork.{passes-of}
 use Rattle.site_memory.proofs.SitesReading.{enough-records, used-within}
 use Rattle.model.specs.Held.{noRecord}

@@ -1,18 +1,15 @@
--- One arrival of the batch call in three parts: its turn at its site, the answer that counts it,
--- and its messages with full delivery.
+-- The turn of an arrival of the batch call at its site, the first of its three parts; the answer
+-- that counts it and its messages with full delivery are in crate tracker_arrivals.
 --
 --   placeOf arrival            the place of its site among the records
 --   ownOf sites arrival        the record that stands there
 --   leftTurn number taken own  the turn of an arrival that leaves its site as it was
 --   takenIn now ..             what is held when the arrival's site has taken it
---   counted answer which turn  the answer with a turn in it
 --   TurnAsks, TurnSays         an arrival is refused, or a touch, or its site takes it
---   CountTurnAsks                  a turn that can be counted
---   DeliverTurnAsks, DeliverTurnSays   the messages of a turn
 use mathlib.Core.Path.{_≡_}
 use mathlib.Core.Bool.{true, false}
 use mathlib.Core.List.{List}
-use Prim.Native.Nat.{ℕ, _+_, _≤_, _<_}
+use Prim.Native.Nat.{ℕ}
 use lib.Dec.{ltb}
 use lib.ListN.{length}
 use Rattle.model.specs.declared.Settings.{Settings}
@@ -24,14 +21,13 @@ use Rattle.model.specs.Refusals.{noRefusal}
 use Rattle.model.specs.Limits.{mostSites}
 use Rattle.model.specs.Draws.{isDraw}
 use Rattle.model.specs.Runs.{Batch}
-use Rattle.model.specs.Held.{recordIn, withRecord, afterSiteCall}
+use Rattle.model.specs.Held.{recordIn, afterSiteCall}
 use Rattle.tracker_queue.specs.Log.{logRoom}
 use Rattle.tracker_queue.specs.Sending.{nothingWaits}
 use Rattle.tracker_delivery.specs.Holding.{WithLog}
 use Rattle.tracker_delivery.specs.Arriving.{Taken}
-use Rattle.tracker_steps.specs.declared.BatchAnswer.{BatchAnswer}
 use Rattle.tracker_steps.specs.declared.Turn.{Turn}
-use Rattle.tracker_steps.specs.Steps.{BatchHeld, batchHeld, batchAnswer, runLimit, oneRefusal, withOne, restingIn, BatchHolds, OneAsks}
+use Rattle.tracker_steps.specs.Steps.{BatchHeld, batchHeld, batchAnswer, oneRefusal, restingIn, OneAsks}
 
 -- ---- The turn
 
@@ -160,37 +156,3 @@ pub record TurnSays
       → numbers ≡ length (now .log)
       → (u : OneAsks settings (withSiteMemory now before))
       → TurnTold settings (u .given) (u .batch) arrival now turn before after
-
--- ---- The answer with a turn in it
-
--- The refusal, the arrivals accepted, and the record of the site at this place. The turn of a touch
--- or of a refused arrival brings the record that stands there.
-abbrev pub counted : BatchAnswer → ℕ → Turn → BatchAnswer
-counted answer which turn = record {
-  refusal = turn .refusal;
-  accepted = answer .accepted + turn .taken;
-  written = answer .written;
-  sites = withRecord (answer .sites) which (turn .site);
-  coordinator = answer .coordinator;
-}
-
-pub record CountTurnAsks (answer : BatchAnswer) (which : ℕ) (turn : Turn) : Type 0 where
-  pub which-within : which < mostSites
-  pub accepted-within : answer .accepted + 1 < runLimit
-  pub taken-within : turn .taken ≤ 1
-
--- ---- The messages of a turn
-
-pub record DeliverTurnAsks (settings : Settings) (turn : Turn) (now : BatchHeld) : Type 0 where
-  pub given : WithLog
-  pub batch : Batch
-  pub arrival : Arrival
-  pub is-draw : isDraw arrival ≡ true
-  pub accepted-more : now .accepted ≡ batch .accepted + 1
-  pub taken : Taken settings given (batch .messages) (batch .network) arrival (turn .out)
-      (restingIn now)
-
-pub record DeliverTurnSays (settings : Settings) (turn : Turn) (before after : BatchHeld) : Type 0
-  where
-    pub next : (u : DeliverTurnAsks settings turn before)
-        → BatchHolds settings (u .given) (withOne settings (u .batch) (u .arrival)) after

@@ -1,14 +1,15 @@
-// The parts of the batch call: its start, and one arrival of it. The functions are internal: the
-// calls of crate `tracker` call them. What some of them require is decided by `open_batch`, with
-// which these calls begin, and holds after each accepted arrival.
+// The parts of the batch call: its start, and the turn of one arrival at its site; the rest of an
+// arrival is in crate `tracker_arrivals`. The functions are internal: the calls of crate `tracker`
+// call them. What some of them require is decided by `open_batch`, with which these calls begin,
+// and holds after each accepted arrival.
 
 ghost use Rattle.model.specs.Lent.{before, after};
 ghost use mathlib.Core.Path.{_≡_};
 ghost use Prim.Native.Nat.{_-_, _/_};
 ghost use Rattle.model.specs.Messages.{messageWidth};
 ghost use Rattle.model.specs.Runs.{logRefusal};
-ghost use Rattle.tracker_steps.specs.Steps.{OpenBatchSays, OneAsks, OneSays, placesRefusal, PlacesAsk, batchHeld};
-ghost use Rattle.tracker_steps.specs.Turns.{placeOf, leftTurn, counted, TurnAsks, TurnSays, CountTurnAsks, DeliverTurnAsks, DeliverTurnSays};
+ghost use Rattle.tracker_steps.specs.Steps.{OpenBatchSays, placesRefusal, PlacesAsk};
+ghost use Rattle.tracker_steps.specs.Turns.{placeOf, leftTurn, TurnAsks, TurnSays};
 use model::Arrival;
 use model::CoordinatorRecord;
 use model::LOG_TOO_SHORT;
@@ -131,7 +132,8 @@ fn left_turn(number: u32, taken: u64, own: SiteRecord) -> Turn
 // An arrival is refused, or its site takes it, or it is a touch and accepted. It is handed the one
 // record that changes and hands it back: the records of 32 sites are not copied for an arrival.
 // `own` is that record, `written` the messages written so far, and `numbers` the log's length.
-// Internal: `take_arrival` and `tracker::run_batch` alone call it, after `open_batch` has accepted.
+// Internal: `tracker_arrivals::take_arrival` and `tracker::run_batch` alone call it, after
+// `open_batch` has accepted.
 pub fn take_turn(
     settings: Settings,
     own: SiteRecord,
@@ -166,95 +168,4 @@ pub fn take_turn(
         };
     }
     left_turn(NO_REFUSAL, 1, own)
-}
-
-// The answer with a turn in it, of the site at this place.
-fn count_turn(answer: BatchAnswer, which: usize, turn: Turn) -> BatchAnswer
-    requires { ⌜ CountTurnAsks answer which turn ⌝ }
-    ensures { λ r. ⌜ r ≡ counted answer which turn ⌝ }
-{
-    let sites = answer.sites;
-    let site = turn.site;
-    let mut next = answer;
-    next.refusal = turn.refusal;
-    next.accepted = answer.accepted + turn.taken;
-    next.sites = tracker_delivery::with_record(sites, which, site);
-    next
-}
-
-// The messages of a turn, with full delivery. Internal: it follows `take_turn`, once the turn
-// is counted in the answer.
-pub fn deliver_turn(
-    settings: Settings,
-    answer: BatchAnswer,
-    turn: Turn,
-    site_memory: &mut [Word],
-    coordinator_memory: &mut [u64],
-    log: &mut [u64],
-) -> BatchAnswer
-    requires { ⌜ DeliverTurnAsks settings turn
-        (batchHeld answer (now «site_memory») (now «coordinator_memory») (now log)) ⌝ }
-    ensures { λ r. ⌜ DeliverTurnSays settings turn
-        (batchHeld answer (before «site_memory») (before «coordinator_memory»)
-        (before log))
-        (batchHeld r (after «site_memory») (after «coordinator_memory»)
-        (after log)) ⌝ }
-{
-    let sites = answer.sites;
-    let coordinator = answer.coordinator;
-    let out = turn.out;
-    let underway = tracker_delivery::at_rest(sites, coordinator, answer.written);
-    let after = tracker_delivery::deliver_messages(
-        settings,
-        underway,
-        out,
-        site_memory,
-        coordinator_memory,
-        log,
-    );
-    let sites_then = after.sites;
-    let coordinator_then = after.coordinator;
-    BatchAnswer {
-        refusal: NO_REFUSAL,
-        accepted: answer.accepted,
-        written: after.written,
-        sites: sites_then,
-        coordinator: coordinator_then,
-    }
-}
-
-// One arrival of a batch, from its turn to its last message: what `run_batch` does in place.
-// Internal: `run_one` alone calls it, after `open_batch` has accepted.
-pub fn take_arrival(
-    settings: Settings,
-    answer: BatchAnswer,
-    arrival: Arrival,
-    site_memory: &mut [Word],
-    coordinator_memory: &mut [u64],
-    log: &mut [u64],
-) -> BatchAnswer
-    requires { ⌜ OneAsks settings
-        (batchHeld answer (now «site_memory») (now «coordinator_memory») (now log)) ⌝ }
-    ensures { λ r. ⌜ OneSays settings arrival
-        (batchHeld answer (before «site_memory») (before «coordinator_memory»)
-        (before log))
-        (batchHeld r (after «site_memory») (after «coordinator_memory»)
-        (after log)) ⌝ }
-{
-    let which = place_of(arrival);
-    let sites = answer.sites;
-    let own = tracker_delivery::record_of(sites, which);
-    let turn = take_turn(
-        settings,
-        own,
-        answer.written,
-        arrival,
-        log.len(),
-        site_memory,
-    );
-    let next = count_turn(answer, which, turn);
-    if turn.out.count == 0 {
-        return next;
-    }
-    deliver_turn(settings, next, turn, site_memory, coordinator_memory, log)
 }

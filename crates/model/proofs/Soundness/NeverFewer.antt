@@ -24,7 +24,7 @@ use Rattle.model.specs.Network.{Network, Delivered, siteAt, handToCoordi
 use Rattle.model.specs.Runs.{isTakenIn, Run, withArrival, runOne, runFrom}
 use Rattle.model.specs.DeliveryClaims.{Delivery, delivery, deliveryStep, deliverySteps, deliveryOf}
 use Rattle.model.proofs.Deliveries.DeliveryTheorem.{delivery-claims}
-use Rattle.model.proofs.Numbers.NeverFalls.{either}
+use Rattle.model.proofs.Soundness.NeverFalls.{either}
 
 -- ---- What no message changes of a site
 

@@ -12,9 +12,9 @@ use Rattle.model.proofs.Thresholds.SettingsLaws.{settled}
 use Rattle.model.proofs.Thresholds.RefusalLaws.{told}
 use Rattle.tracker_memory.specs.Contracts.{SitesFit}
 use Rattle.history.specs.State.{heldRefusal, Held, heldBy}
-use Rattle.single_delivery.specs.Delivery.{deliveryRefusal}
-use Rattle.single_delivery.proofs.PassedLaws.{Passed, passed-of, refused-start, refused-unknown, refused-arrival}
-use Rattle.single_delivery.proofs.ArrivalLaws.{left-says, taken-says}
+use Rattle.single_outcome.specs.Delivery.{deliveryRefusal}
+use Rattle.single_outcome.proofs.PassedLaws.{Passed, passed-of, refused-start, refused-unknown, refused-arrival}
+use Rattle.single_outcome.proofs.ArrivalLaws.{left-says, taken-says}
 use borrow.Author.Needs.{needs}
 use Rattle.single_delivery.proofs.deliver_arrival.Statement.{statement}
 use Rattle.single_delivery.proofs.deliver_arrival.Tie as tie

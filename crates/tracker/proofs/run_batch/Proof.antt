@@ -43,9 +43,9 @@ use Rattle.tracker_steps.proofs.place_of.Met as find-thm
 use Rattle.tracker_steps.proofs.take_turn.Symbol as take-def
 use Rattle.tracker_steps.proofs.take_turn.Symbol.{name as #steps·take-turn}
 use Rattle.tracker_steps.proofs.take_turn.Met as take-thm
-use Rattle.tracker_steps.proofs.deliver_turn.Symbol as deliver-def
-use Rattle.tracker_steps.proofs.deliver_turn.Symbol.{name as #steps·deliver-turn}
-use Rattle.tracker_steps.proofs.deliver_turn.Met as deliver-thm
+use Rattle.tracker_arrivals.proofs.deliver_turn.Symbol as deliver-def
+use Rattle.tracker_arrivals.proofs.deliver_turn.Symbol.{name as #arrivals·deliver-turn}
+use Rattle.tracker_arrivals.proofs.deliver_turn.Met as deliver-thm
 use Rattle.tracker.proofs.run_batch.Key.{name as #tracker·run-batch}
 use Rattle.tracker.proofs.run_batch as fun
 use Rattle.tracker.proofs.run_batch.Statement as stated
@@ -132,6 +132,6 @@ run-batch-spec 𝓤 H 𝓜 𝓖 𝓡 =
           cited 𝓤 H (Takes 𝓤 H (𝓖 .A) (𝓜 .mem) (𝓡 .run)) 𝓜 𝓡 code.env #steps·take-turn
           take-def.routine code.calls-tracker-steps·take-turn (take-thm.met 𝓤 H 𝓜 𝓖 𝓡);
       delivers-known =
-          cited 𝓤 H (Delivers 𝓤 H (𝓖 .A) (𝓜 .mem) (𝓡 .run)) 𝓜 𝓡 code.env #steps·deliver-turn
-          deliver-def.routine code.calls-tracker-steps·deliver-turn (deliver-thm.met 𝓤 H 𝓜 𝓖 𝓡);
+          cited 𝓤 H (Delivers 𝓤 H (𝓖 .A) (𝓜 .mem) (𝓡 .run)) 𝓜 𝓡 code.env #arrivals·deliver-turn
+          deliver-def.routine code.calls-tracker-arrivals·deliver-turn (deliver-thm.met 𝓤 H 𝓜 𝓖 𝓡);
     }))

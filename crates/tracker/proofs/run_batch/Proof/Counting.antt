@@ -9,7 +9,8 @@ use Rattle.model.specs.Limits.{mostSites}
 use Rattle.model.specs.Held.{noRecord}
 use Rattle.tracker_steps.specs.declared.BatchAnswer.{BatchAnswer}
 use Rattle.tracker_steps.specs.declared.Turn.{Turn}
-use Rattle.tracker_steps.specs.Turns.{placeOf, counted, CountTurnAsks}
+use Rattle.tracker_steps.specs.Turns.{placeOf}
+use Rattle.tracker_arrivals.specs.Counting.{counted, CountTurnAsks}
 use Rattle.tracker_steps.proofs.BatchAnswer.Laws as K′
 use Rattle.tracker.proofs.Records.{recordSize, recordsPlace, values, length-values, values-set, many-records, turn-refusal-fits, turn-record-good, counted-good}
 use Rattle.tracker.proofs.run_batch.Proof.Parameters.{Called, Point, answered, Logic}

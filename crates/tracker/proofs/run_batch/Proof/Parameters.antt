@@ -37,8 +37,8 @@ use Rattle.tracker_steps.proofs.place_of as finding
 use Rattle.tracker_steps.proofs.place_of.Symbol.{name as #steps·place-of}
 use Rattle.tracker_steps.proofs.take_turn as taking
 use Rattle.tracker_steps.proofs.take_turn.Symbol.{name as #steps·take-turn}
-use Rattle.tracker_steps.proofs.deliver_turn as delivering
-use Rattle.tracker_steps.proofs.deliver_turn.Symbol.{name as #steps·deliver-turn}
+use Rattle.tracker_arrivals.proofs.deliver_turn as delivering
+use Rattle.tracker_arrivals.proofs.deliver_turn.Symbol.{name as #arrivals·deliver-turn}
 use Rattle.tracker.proofs.run_batch as fun
 
 -- ---- The parameters
@@ -196,4 +196,4 @@ pub record Logic (M : Type 1) : Type 2 where
   pub opens-known : Triple 𝓤 (𝓣 .C #steps·open-batch) (Opens 𝓤 H A mem run)
   pub finds-known : Triple 𝓤 (𝓣 .C #steps·place-of) (Finds 𝓤 H A mem run)
   pub takes-known : Triple 𝓤 (𝓣 .C #steps·take-turn) (Takes 𝓤 H A mem run)
-  pub delivers-known : Triple 𝓤 (𝓣 .C #steps·deliver-turn) (Delivers 𝓤 H A mem run)
+  pub delivers-known : Triple 𝓤 (𝓣 .C #arrivals·deliver-turn) (Delivers 𝓤 H A mem run)

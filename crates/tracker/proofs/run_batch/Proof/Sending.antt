@@ -8,7 +8,7 @@
 use Rattle.walks.proofs.Kit.{_≡_, refl, _∙_, subst, Bool, true, false, not, ℕ, zero, suc, _<_, _^_, _+_, arith, List, [], _∷_, Holds, eqb, length, eq-eqb, eqb-true, Body, skip, seq, assign, block, loop, cond, switch, exit, return, call, named, SProp, ent, id⊢, Wp, afterTurn, ⋆, anyQ, Sq, runs, _$_, !, prop, by, move, whole, sub, look-in, look, init, store, forget, stop, fld, from, load, lit, of-opd, bin, and-then, no-more, assigns, assigns-last, branches, skips, first, exec, land, fmOf, u32, u64}
 use Rattle.tracker_steps.specs.declared.Turn.{Turn}
 use Rattle.tracker_steps.specs.Steps.{batchHeld}
-use Rattle.tracker_steps.specs.Turns.{DeliverTurnAsks, DeliverTurnSays}
+use Rattle.tracker_arrivals.specs.Counting.{DeliverTurnAsks, DeliverTurnSays}
 use Rattle.walks.proofs.Data.{Good, is-typed}
 use Rattle.walks.proofs.Again.{lends, returned}
 use Rattle.walks.proofs.Handing.{asking}
@@ -16,7 +16,7 @@ use Rattle.walks.proofs.Calling.{calls-by}
 use Rattle.walks.proofs.Locals.{Places}
 use Rattle.walks.proofs.Reborrow.{reborrows}
 use Rattle.tracker.proofs.Types.{answer-data, turn-data, VK}
-use Rattle.tracker_steps.proofs.deliver_turn as delivering
+use Rattle.tracker_arrivals.proofs.deliver_turn as delivering
 use Rattle.tracker.proofs.run_batch.Code.Mir as m
 use Rattle.tracker.proofs.run_batch.Proof.Parameters.{Called, Typed, Point, Logic, heldAt, lentOf}
 use Rattle.tracker.proofs.run_batch.Proof.Locals.{cell, locals, At, Counted, Left, at}

@@ -15,7 +15,7 @@ use Rattle.tracker_steps.specs.Turns.{placeOf, ownOf, TurnAsks, TurnSays}
 use Rattle.model.proofs.Arrival as T
 use Rattle.model.proofs.Arrival.Laws as T′
 use Rattle.model.proofs.SiteRecord.Laws as R′
-use Rattle.tracker_steps.proofs.TurnLaws.{turn-asks, count-asks, deliver-asks, quiet-says, loud-says}
+use Rattle.tracker_arrivals.proofs.ArrivalLaws.{turn-asks, count-asks, deliver-asks, quiet-says, loud-says}
 use Rattle.tracker_steps.proofs.RefusalLaws.{place-within}
 use Rattle.tracker.proofs.Records.{recordSize, recordsPlace, values, length-values, values-at, many-records, refusal-fits, record-good}
 use Rattle.walks.proofs.Locals.{Places}

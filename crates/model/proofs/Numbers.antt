@@ -1,5 +1,0 @@
--- How large numbers grow, from any sound network (PROOF.md section 8).
-pub mod NeverFalls
-pub mod NumberGrowth
-pub mod NumberBounds
-pub mod NumberTheorem

@@ -1,0 +1,2 @@
+-- The laws of the first call of a delivery.
+pub mod BeginLaws

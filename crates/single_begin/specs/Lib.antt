@@ -1,0 +1,2 @@
+-- What the first call of a delivery requires and promises.
+pub mod Arriving

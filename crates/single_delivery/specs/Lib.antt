@@ -1,3 +1,0 @@
--- A full delivery by the public calls, as steps of a history.
-pub mod Arriving
-pub mod Delivery

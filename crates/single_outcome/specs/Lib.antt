@@ -1,0 +1,2 @@
+-- A full delivery by the public calls, as steps of a history.
+pub mod Delivery

@@ -1,0 +1,2 @@
+-- The laws of a message at a site.
+pub mod ReceiveLaws

@@ -1,0 +1,2 @@
+-- What the step of a site on a message promises.
+pub mod Receiving

@@ -1,0 +1,2 @@
+-- The laws of an arrival after its turn.
+pub mod ArrivalLaws

@@ -1,0 +1,2 @@
+-- What the parts of an arrival after its turn require and promise.
+pub mod Counting

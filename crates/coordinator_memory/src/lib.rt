@@ -109,7 +109,7 @@ fn phase_consistent(settings: Settings, signals: u32, phase: Phase) -> bool
 }
 
 // What the record shows by itself.
-fn record_consistent(settings: Settings, coordinator: CoordinatorRecord) -> bool
+pub fn record_consistent(settings: Settings, coordinator: CoordinatorRecord) -> bool
     ensures { λ r. ⌜ r ≡ recordConsistent settings coordinator ⌝ }
 {
     let phase = coordinator.phase;

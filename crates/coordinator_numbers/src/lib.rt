@@ -36,7 +36,7 @@ fn all_zero(x: u64, y: u64, z: u64) -> bool
 }
 
 // Whether five numbers are a phase's: its number is at most 3, and those that it has not are 0.
-fn phase_well(which: u64, site: u64, low: u64, high: u64, sum: u64) -> bool
+pub fn phase_well(which: u64, site: u64, low: u64, high: u64, sum: u64) -> bool
     ensures { λ r. ⌜ r ≡ phaseWell which site low high sum ⌝ }
 {
     if which == 0 {

@@ -23,7 +23,7 @@ use Rattle.site_steps.specs.declared.Observed.{Observed}
 use Rattle.site.specs.Calls.{ObserveSays}
 use Rattle.tracker.specs.Batch.{BatchHeld, BatchSays}
 use Rattle.history.specs.State.{Held, State, recordAt, partOf, siteStart, Slices, fronts, lending}
-use Rattle.history.specs.Histories.{batchCall, batch, single, to-coordinator, to-site, next-announcement, Refuses, arrival-left, site-message-refused, coordinator-message-refused, announcement-refused, batch-takes-none, Step, arrives, delivers, refuses, Reachable, started, stepped}
+use Rattle.history.specs.Histories.{batchCall, batch, single, to-coordinator, to-site, next-announcement, Refuses, arrival-left, site-message-refused, coordinator-message-refused, announcement-refused, batch-takes-none, Step, arrives, delivers, refuses, Reachable, started, stepped, reopened}
 use Rattle.history.specs.Given.{ofArrival, decidedCount, Handed, noDraw, drawHanded, batchHanded, sameSettings, ownDraw, ownBatch, handedRefused, givenBy, givenIn, AsGiven}
 use Rattle.history.proofs.Invariant.{StateOk, run-of-standing}
 use Rattle.history.proofs.Refused.{refused-same}
@@ -214,6 +214,7 @@ module _ {settings : Settings} (passes : settingsRefusal settings ≡ noRefusal)
       runFrom-append settings _ (givenIn earlier) (givenBy step)
       ∙ ap (λ (run : Run). runFrom settings run (givenBy step)) (same-run before earlier)
       ∙ step-given passes before (arisen passes before earlier .ok) after step
+  same-run state (reopened before _ _ _ _ _ _ _ _ _ _ earlier _ _ _ _) = same-run before earlier
 
   -- The claim.
   pub as-given : (state : State) (history : Reachable settings state)

@@ -19,8 +19,8 @@ use Rattle.model.specs.Settings.{settingsRefusal}
 use Rattle.model.specs.Draws.{drawsOf}
 use Rattle.model.proofs.Touches.DrawLists.{drawsOf-draw, drawsOf-touch, drawsOf-append, drawsOf-twice}
 use Rattle.tracker.specs.Batch.{BatchHeld}
-use Rattle.history.specs.State.{State, Slices, fronts, lending, putBack}
-use Rattle.history.specs.Histories.{batchCall, afterBatch, batch, single, to-coordinator, to-site, next-announcement, Refuses, arrival-left, site-message-refused, coordinator-message-refused, announcement-refused, batch-takes-none, Step, arrives, delivers, refuses, Reachable, started, stepped, heldAtStart}
+use Rattle.history.specs.State.{Held, State, Slices, fronts, lending, putBack, carriedTo}
+use Rattle.history.specs.Histories.{batchCall, afterBatch, batch, single, to-coordinator, to-site, next-announcement, Refuses, arrival-left, site-message-refused, coordinator-message-refused, announcement-refused, batch-takes-none, Step, arrives, delivers, refuses, Reachable, started, stepped, reopened, heldAtStart}
 use Rattle.history.specs.Touches.{touchesBy, acceptedBy, acceptedIn, withoutTouches, answerWithout, LeftOut}
 use Rattle.history.proofs.Refused.{refused-same}
 use Rattle.history.proofs.CallWithout.{says-without}
@@ -65,6 +65,7 @@ draws-in state (stepped before after earlier step) =
     drawn-step before after step
     ∙ ap (λ (xs : List Arrival). xs ++ drawsOf (acceptedBy step)) (draws-in before earlier)
     ∙ sym (drawsOf-append (acceptedIn earlier) (acceptedBy step))
+draws-in state (reopened before _ _ _ _ _ _ _ _ _ _ earlier _ _ _ _) = draws-in before earlier
 
 -- ---- A state written otherwise
 
@@ -202,6 +203,19 @@ without state (stepped before after earlier step) =
           next .accepts-draws
           ∙ ap (λ (xs : List Arrival). xs ++ drawsOf (acceptedBy step)) (front .accepts-draws)
           ∙ sym (drawsOf-append (acceptedIn earlier) (acceptedBy step));
+    }
+-- A closing stands in both histories.
+without {settings} state
+    (reopened before siteCount coordinatorCount bytes written saved siteMemory memory siteAfter
+    after loaded earlier save-says save-accepted load-says load-accepted) =
+    let front = without before earlier in
+    record {
+      other =
+          reopened before siteCount coordinatorCount bytes written saved siteMemory memory
+          siteAfter after loaded (front .other) save-says save-accepted load-says load-accepted;
+      same-start =
+          ap (λ (start : Held). carriedTo settings start siteMemory memory) (front .same-start);
+      accepts-draws = front .accepts-draws;
     }
 
 -- The claim.

@@ -36,6 +36,11 @@ pub mod GoesOn
 pub mod Kept
 pub mod OneTouch
 pub mod FromStart
+pub mod Carried
+pub mod Lasting
+pub mod MachineNumbers
+pub mod Reopened
+pub mod Closings
 pub mod FirmShares
 pub mod ListReading
 pub mod Readings

@@ -12,7 +12,7 @@ use lib.Seq.{take-append-seam}
 use Rattle.model.specs.declared.Settings.{Settings}
 use Rattle.model.specs.declared.Arrival.{Arrival}
 use Rattle.model.specs.Refusals.{noRefusal}
-use Rattle.model.specs.Limits.{messagesPerArrival, allowanceFactor, firmMessages, firmMessagesPerDigit}
+use Rattle.model.specs.Limits.{mostSteps, messagesPerArrival, allowanceFactor, firmMessages, firmMessagesPerDigit}
 use Rattle.model.specs.Settings.{settingsRefusal, digits, allowance}
 use Rattle.model.specs.Site.{Site}
 use Rattle.model.specs.Network.{Network, siteAt}
@@ -22,15 +22,16 @@ use Rattle.forgotten.specs.Departures.{departures, Accounted}
 use Rattle.model.proofs.Runs.Theorem.{demands-over-runs}
 use Rattle.forgotten.proofs.DroppedTheorem.{dropped-claims}
 use Rattle.history.specs.State.{State, networkWritten}
-use Rattle.history.specs.Histories.{Reachable, heldAtStart}
+use Rattle.history.specs.Histories.{Reachable, heldAtStart, deliveredIn}
 use Rattle.history.specs.Reading.{FirmShare}
 use Rattle.history.specs.First.{First}
 use Rattle.history.specs.Second.{Second}
 use Rattle.history.specs.Whole.{Whole}
 use Rattle.history.specs.Third.{Third}
 use Rattle.history.specs.Dropped.{Dropped}
+use Rattle.history.specs.Closing.{Closing}
 use Rattle.history.specs.Demands.{Demands}
-use Rattle.history.proofs.Invariant.{BeginsRun, run-of-standing}
+use Rattle.history.proofs.Invariant.{BeginsRun, run-of-standing, firm-of-standing}
 use Rattle.history.proofs.Decoded.{site-is}
 use Rattle.history.proofs.Accounts.{accounted-held}
 use Rattle.history.proofs.Accepted.{held-sound, memory-accepted, refused-by-rules, resting-of, sound-rest-of}
@@ -43,7 +44,8 @@ use Rattle.history.proofs.Kept.{tails-kept, others-kept}
 use Rattle.history.proofs.OneTouch.{others-left, touch-or-draw}
 use Rattle.history.proofs.FromStart.{held-whole}
 pub use Rattle.history.proofs.Arisen.{Arisen, arisen}
-use Rattle.history.proofs.Arisen.{kept-from}
+use Rattle.history.proofs.Arisen.{lasting}
+use Rattle.history.proofs.Closings as Closings
 use Rattle.history.proofs.GivenDraws.{as-given}
 use Rattle.history.proofs.KeptOut.{nothing-lost}
 use Rattle.history.proofs.CallWithout.{says-without}
@@ -117,8 +119,8 @@ module _ (settings : Settings) (state : State) (passes : settingsRefusal setting
 
   whole : Whole settings (heldAtStart reachable) state
   whole =
-      let kept = kept-from passes state reachable in
-      let now = held-whole passes state (there .ok) (heldAtStart reachable) (kept .from) in
+      let kept = lasting passes state reachable in
+      let now = held-whole passes state (kept .ok) (heldAtStart reachable) (kept .from) in
       record {
         start-fresh = kept .fresh;
         nothing-else = now;
@@ -198,6 +200,15 @@ module _ (settings : Settings) (state : State) (passes : settingsRefusal setting
             (dropped-claims .run-accounted settings (take n (state .accepted)) passes j known);
       }
 
+  -- It can be closed, and is the same when it is opened again.
+  closing : Closing settings state
+  closing =
+      Closings.closing passes state (heldAtStart reachable) (lasting passes state reachable)
+
+  -- A delivery has few steps, closed in between or not.
+  few-steps : deliveredIn reachable ≤ mostSteps settings
+  few-steps = firm-of-standing passes (lasting passes state reachable .ok .standing)
+
 -- The three demands.
 pub demands : Demands
 demands = record {
@@ -209,5 +220,7 @@ demands = record {
   given = λ settings state passes reachable. as-given passes state reachable;
   touches = left-out;
   batch-touches = says-without;
+  closing = closing;
+  few-steps = few-steps;
   nothing-lost = λ settings before after step. nothing-lost step;
 }

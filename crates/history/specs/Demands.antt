@@ -10,25 +10,30 @@
 --   Third     the bounds on messages
 --   Dropped   every draw of a deck is reported, unreported or forgotten (request N1)
 --   LeftOut   touches are accepted, and leaving them out gives the same (request N2)
+--   Closing   it can be closed at any time, and is the same when it is opened again (request N3)
 --   AsGiven   of all draws that were given, the rules accept exactly what the calls accepted;
 --             NothingLost: a call decides on what it is handed, or keeps it out
 -- In all of them n is `counted (state .accepted)`: the draws accepted so far, of class 1 or more.
 use mathlib.Core.Path.{_≡_}
+use Prim.Native.Nat.{_≤_}
 use Rattle.model.specs.declared.Settings.{Settings}
 use Rattle.model.specs.Refusals.{noRefusal}
+use Rattle.model.specs.Limits.{mostSteps}
 use Rattle.model.specs.Settings.{settingsRefusal}
 use Rattle.tracker.specs.Batch.{BatchCall, BatchHeld, BatchSays}
 use Rattle.history.specs.State.{State}
-use Rattle.history.specs.Histories.{Step, Reachable, heldAtStart}
+use Rattle.history.specs.Histories.{Step, Reachable, heldAtStart, deliveredIn}
 pub use Rattle.history.specs.First.{DeliveryGoesOn, First}
 pub use Rattle.history.specs.Second.{Second}
 pub use Rattle.history.specs.Whole.{Whole}
 pub use Rattle.history.specs.Third.{Third}
 pub use Rattle.history.specs.Dropped.{Dropped}
 pub use Rattle.history.specs.Touches.{BatchWithout, LeftOut}
+pub use Rattle.history.specs.Closing.{Closing}
 pub use Rattle.history.specs.Given.{givenIn, AsGiven, NothingLost}
 
--- For all settings that pass their test and all states that a history reaches.
+-- For all settings that pass their test and all states that a history reaches, closed and opened
+-- again anywhere.
 pub record Demands : Type 0 where
   pub first : (settings : Settings) (state : State)
       → settingsRefusal settings ≡ noRefusal
@@ -59,6 +64,16 @@ pub record Demands : Type 0 where
   pub batch-touches : (call : BatchCall) (answer : BatchHeld)
       → BatchSays call answer
       → BatchWithout call answer
+  -- of every state, in mid-delivery too
+  pub closing : (settings : Settings) (state : State)
+      → settingsRefusal settings ≡ noRefusal
+      → Reachable settings state
+      → Closing settings state
+  -- no delivery has more steps than 24 × k + 2, closings between them or not
+  pub few-steps : (settings : Settings) (state : State)
+      → settingsRefusal settings ≡ noRefusal
+      → (history : Reachable settings state)
+      → deliveredIn history ≤ mostSteps settings
   -- of the draws given in a history, refused ones too
   pub given : (settings : Settings) (state : State)
       → settingsRefusal settings ≡ noRefusal

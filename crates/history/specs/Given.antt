@@ -23,7 +23,7 @@ use Rattle.model.specs.Refusals.{noRefusal, unknownSite, siteFull}
 use Rattle.model.specs.Runs.{runOf}
 use Rattle.tracker_steps.specs.Steps.{BatchHeld}
 use Rattle.history.specs.State.{State, siteStart, Slices}
-use Rattle.history.specs.Histories.{batch, single, Refuses, arrival-left, site-message-refused, coordinator-message-refused, announcement-refused, batch-takes-none, Step, arrives, delivers, refuses, Reachable, started, stepped}
+use Rattle.history.specs.Histories.{batch, single, Refuses, arrival-left, site-message-refused, coordinator-message-refused, announcement-refused, batch-takes-none, Step, arrives, delivers, refuses, Reachable, started, stepped, reopened}
 
 -- ---- What a call decides on
 
@@ -139,16 +139,18 @@ abbrev pub keptOutBy : {settings : Settings} {before after : State}
     → List Arrival
 keptOutBy step = drop (handedBy step .count) (handedBy step .arrivals)
 
--- In the order of the calls.
+-- In the order of the calls; a closing is given none.
 abbrev pub givenIn : {settings : Settings} {state : State} → Reachable settings state → List Arrival
 givenIn (started _ _ _ _ _ _ _ _ _ _ _ _) = []
 givenIn (stepped before after earlier step) = givenIn earlier ++ givenBy step
+givenIn (reopened _ _ _ _ _ _ _ _ _ _ _ earlier _ _ _ _) = givenIn earlier
 
 abbrev pub keptOutIn : {settings : Settings} {state : State}
     → Reachable settings state
     → List Arrival
 keptOutIn (started _ _ _ _ _ _ _ _ _ _ _ _) = []
 keptOutIn (stepped before after earlier step) = keptOutIn earlier ++ keptOutBy step
+keptOutIn (reopened _ _ _ _ _ _ _ _ _ _ _ earlier _ _ _ _) = keptOutIn earlier
 
 -- ---- What is claimed of them
 

@@ -8,8 +8,12 @@
 --   Delivers settings before after     one message handed over and accepted, or a kind 7 asked for
 --   Refuses before after               any call that accepts no draw, at any time
 --   Step settings before after         one of them
---   Reachable settings state           the states of all histories under these settings
+--   Reachable settings state           the states of all histories under these settings, closed and
+--                                      opened again anywhere
+--   heldAtStart history                what its start calls left, in the memories that it was last
+--                                      read into
 --   Deliveries settings start n state  n steps of delivery, with refused calls between them
+--   deliveredIn history                how many steps of delivery it has had since its last arrival
 use mathlib.Core.Path.{_≡_}
 use mathlib.Core.Bool.{true, false}
 use mathlib.Core.List.{List, [], _∷_, _++_}
@@ -32,7 +36,10 @@ use Rattle.coordinator.specs.declared.StartedCoordinator.{StartedCoordinator}
 use Rattle.coordinator.specs.declared.Received.{Received}
 use Rattle.coordinator.specs.Calls.{StartCoordinatorSays, CoordinatorReceiveSays, AnnounceSays}
 use Rattle.tracker.specs.Batch.{BatchCall, BatchHeld, BatchSays, messagesIn}
-use Rattle.history.specs.State.{Held, heldBy, State, AtRest, recordAt, partOf, siteStart, sitePart, coordinatorPart, Slices, fronts, lending, withPart, putBack, afterSiteCall, afterCoordinatorCall, holding, sending}
+use Rattle.snapshot_file.specs.declared.Saved.{Saved}
+use Rattle.snapshot_file.specs.declared.Loaded.{Loaded}
+use Rattle.snapshot_file.specs.Calls.{SaveSays, LoadSays}
+use Rattle.history.specs.State.{Held, heldBy, State, AtRest, recordAt, partOf, siteStart, sitePart, coordinatorPart, Slices, fronts, lending, withPart, putBack, afterSiteCall, afterCoordinatorCall, carriedTo, holding, sending}
 
 -- ---- Arrivals
 
@@ -226,14 +233,34 @@ pub data Reachable (settings : Settings) : State → Type 0 where
       → Reachable settings before
       → Step settings before after
       → Reachable settings after
+  -- Request N3: "A bench saved and read goes on exactly as one never closed": saved to lent bytes
+  -- from the first so many numbers of both memories, and read from these bytes into whatever
+  -- memory, in mid-delivery too; the messages on their way are the caller's to keep
+  reopened : (before : State) (siteCount coordinatorCount : ℕ) (bytes written : List ℕ)
+      (saved : Saved) (siteMemory coordinatorMemory siteAfter coordinatorAfter : List ℕ)
+      (loaded : Loaded)
+      → Reachable settings before
+      → SaveSays settings (lending (before .held) (fronts siteCount coordinatorCount)) bytes
+      written saved
+      → saved .refusal ≡ noRefusal
+      → LoadSays (take (saved .length) written) siteMemory coordinatorMemory siteAfter
+      coordinatorAfter loaded
+      → loaded .refusal ≡ noRefusal
+      → Reachable settings
+      (holding before
+      (heldBy (loaded .sites) (loaded .coordinator) siteAfter coordinatorAfter))
 
--- What the two start calls of a history left.
+-- What the two start calls of a history left; of one that was opened again, as if they had been
+-- lent the memories that it was read into.
 abbrev pub heldAtStart : {settings : Settings} {state : State} → Reachable settings state → Held
 heldAtStart
     (started siteMemory siteCount sitesAfter sites memory count after coordinator _ _ _ _) =
     startState (sites .sites) (coordinator .coordinator)
     (withPart siteMemory 0 siteCount sitesAfter) (withPart memory 0 count after) .held
 heldAtStart (stepped before after earlier step) = heldAtStart earlier
+heldAtStart {settings}
+    (reopened _ _ _ _ _ _ siteMemory coordinatorMemory _ _ _ earlier _ _ _ _) =
+    carriedTo settings (heldAtStart earlier) siteMemory coordinatorMemory
 
 -- ---- Deliveries
 
@@ -248,3 +275,18 @@ pub data Deliveries (settings : Settings) (start : State) : ℕ → State → Ty
       → Deliveries settings start n before
       → Refuses before after
       → Deliveries settings start n after
+
+-- The same of a history: the steps of delivery since its last arrival. Calls that accept no draw,
+-- and closings, may stand between them.
+abbrev pub deliveredBy : {settings : Settings} {before after : State}
+    → Step settings before after
+    → ℕ
+    → ℕ
+deliveredBy (arrives step) n = 0
+deliveredBy (delivers step) n = suc n
+deliveredBy (refuses step) n = n
+
+abbrev pub deliveredIn : {settings : Settings} {state : State} → Reachable settings state → ℕ
+deliveredIn (started _ _ _ _ _ _ _ _ _ _ _ _) = 0
+deliveredIn (stepped before after earlier step) = deliveredBy step (deliveredIn earlier)
+deliveredIn (reopened _ _ _ _ _ _ _ _ _ _ _ earlier _ _ _ _) = deliveredIn earlier

@@ -10,4 +10,5 @@ pub mod Whole
 pub mod Third
 pub mod Dropped
 pub mod Touches
+pub mod Closing
 pub mod Demands

@@ -10,6 +10,9 @@
 --   fronts siteCount coordinatorCount     so many numbers from the front of each memory
 --   lending held slices          what is held, with such parts in place of the memories
 --   putBack held slices answer   the memories with these parts as a batch call left them
+--   frontIn words memory other   so many numbers of a memory at the front of another
+--   carriedTo settings held siteMemory coordinatorMemory
+--                                what is held, in other memories: what lies past the network theirs
 -- Passed on: what is held, as crate `model` has it.
 use mathlib.Core.Path.{_≡_}
 use mathlib.Core.List.{List, [], _++_}
@@ -20,6 +23,8 @@ use Rattle.model.specs.declared.Arrival.{Arrival}
 use Rattle.model.specs.declared.Message.{Message}
 use Rattle.model.specs.declared.Phase.the-variants.{Idle}
 use Rattle.model.specs.SiteMemory.{siteWords}
+use Rattle.model.specs.CoordinatorMemory.{coordinatorWords}
+use Rattle.model.specs.NetworkMemory.{sitesWords}
 pub use Rattle.model.specs.Held.{Held, heldBy, noRecord, recordIn, recordAt, withRecord, networkOf, networkWritten, heldRefusal, afterSiteCall, afterCoordinatorCall}
 use Rattle.tracker_steps.specs.Steps.{BatchHeld, batchHeld, batchAnswer}
 
@@ -98,6 +103,17 @@ putBack held slices answer =
     (withPart (held .coordinatorMemory) (slices .coordinatorFrom) (slices .coordinatorCount)
     (answer .held .coordinatorMemory))
     (answer .log)
+
+-- So many numbers of a memory at the front of another, which keeps what lies behind them.
+abbrev pub frontIn : ℕ → List ℕ → List ℕ → List ℕ
+frontIn words memory other = take words memory ++ drop words other
+
+-- The same records, and the network's own numbers at the front of other memories.
+abbrev pub carriedTo : Settings → Held → List ℕ → List ℕ → Held
+carriedTo settings held siteMemory coordinatorMemory =
+    heldBy (held .sites) (held .coordinator)
+    (frontIn (sitesWords settings) (held .siteMemory) siteMemory)
+    (frontIn (coordinatorWords settings) (held .coordinatorMemory) coordinatorMemory)
 
 -- A call that hands out no message and accepts no arrival.
 abbrev pub holding : State → Held → State

@@ -17,7 +17,7 @@ use Rattle.model.specs.Choice.{if_then_else_, isZero}
 use Rattle.model.specs.Draws.{drawsOf}
 use Rattle.tracker.specs.Batch.{BatchCall, BatchHeld, BatchSays}
 use Rattle.history.specs.State.{State}
-use Rattle.history.specs.Histories.{batch, single, Refuses, arrival-left, site-message-refused, coordinator-message-refused, announcement-refused, batch-takes-none, Step, arrives, delivers, refuses, Reachable, started, stepped, heldAtStart}
+use Rattle.history.specs.Histories.{batch, single, Refuses, arrival-left, site-message-refused, coordinator-message-refused, announcement-refused, batch-takes-none, Step, arrives, delivers, refuses, Reachable, started, stepped, reopened, heldAtStart}
 
 -- ---- The lines accepted
 
@@ -47,6 +47,7 @@ abbrev pub acceptedIn : {settings : Settings} {state : State}
     → List Arrival
 acceptedIn (started _ _ _ _ _ _ _ _ _ _ _ _) = []
 acceptedIn (stepped before after earlier step) = acceptedIn earlier ++ acceptedBy step
+acceptedIn (reopened _ _ _ _ _ _ _ _ _ _ _ earlier _ _ _ _) = acceptedIn earlier
 
 -- ---- One batch call
 

@@ -22,7 +22,7 @@ use Rattle.model.specs.Limits.{mostSites}
 use Rattle.model.specs.Settings.{settingsRefusal}
 use Rattle.model.specs.SiteMemory.{siteWords}
 use Rattle.model.specs.NetworkMemory.{sitesWords}
-use Rattle.tracker_memory.specs.Contracts.{SitesFit}
+use Rattle.bench_memory.specs.Contracts.{SitesFit}
 use Rattle.site_steps.specs.declared.Observed.{Observed}
 use Rattle.site_receiving.specs.declared.Replied.{Replied}
 use Rattle.site_start.specs.declared.StartedSites.{StartedSites}

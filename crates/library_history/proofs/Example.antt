@@ -1,8 +1,12 @@
 -- The chain of calls of specs/Example.antt: `example-use`.
 use mathlib.Core.Path.{refl}
 use mathlib.Core.List.{[], _∷_, _++_}
-use lib.ListN.{take, replicate}
+use Prim.Native.Nat.{_≤_}
+use native.Mathlib.Omega.{arith}
+use lib.ListN.{length, take, replicate}
 use Rattle.model.specs.Limits.{valueCount}
+use Rattle.model.specs.CoordinatorMemory.{coordinatorWords}
+use Rattle.model.specs.NetworkMemory.{sitesWords}
 use Rattle.model.specs.Instances.{settingsA, draw}
 use Rattle.model.specs.TouchInstances.{touch}
 use Rattle.record_numbers.specs.Numbers.{messageNumbers, coordinatorNumbers}
@@ -12,9 +16,10 @@ use Rattle.history_examples.specs.Example as History
 use Rattle.history_examples.specs.Example.{siteNumbers, allMessages, startedState, afterDraw, afterItemReport, afterCountReport, afterPoll, afterPollAnswer, afterAnnouncement, atRestAgain, afterBatchOfTwo}
 use Rattle.library_history.specs.Bench.{changed}
 use Rattle.library_history.specs.Used.{run-at-rest, Used, called}
-use Rattle.library_history.specs.Example.{ExampleUse}
+use Rattle.library_history.specs.Example.{elsewhere, ExampleUse}
 use Rattle.library_history.proofs.ExampleDraws.{settingsRow, benchIn, StepTo, counts, begins, draw-refused, draw-taken, touch-left}
 use Rattle.library_history.proofs.ExampleMessages.{item-report, count-report, poll-answered, announced, polled, told}
+use Rattle.library_history.proofs.ExampleClosing.{load, closed-used, closed-same}
 
 -- One call more.
 abbrev then : {before : State} (after : State)
@@ -79,6 +84,15 @@ delivers-all =
     (then afterPollAnswer poll-answered
     (then afterPoll polled (then afterCountReport count-report draws-on))))
 
+-- As much of each memory is lent as the settings need, or more.
+deck-room : sitesWords settingsA ≤ length (take 1049 (elsewhere .deckMemory))
+unfolding valueCount
+deck-room = omega arith
+
+desk-room : coordinatorWords settingsA ≤ length (take 1035 (elsewhere .deskMemory))
+unfolding valueCount
+desk-room = omega arith
+
 pub example-use : ExampleUse
 unfolding valueCount
 example-use = record {
@@ -100,4 +114,10 @@ example-use = record {
     };
   };
   list-is = refl;
+  closed = load settingsA (benchIn afterItemReport) elsewhere afterItemReport draws-on 1049 1035
+      deck-room desk-room;
+  closed-used = closed-used settingsA (benchIn afterItemReport) elsewhere afterItemReport draws-on
+      1049 1035 deck-room desk-room;
+  closed-same = closed-same settingsA (benchIn afterItemReport) elsewhere afterItemReport draws-on
+      1049 1035 deck-room desk-room;
 }

@@ -24,7 +24,7 @@ use Rattle.library_rows.specs.Rows.{Row, Number}
 use Rattle.library_history.specs.Bench.{Bench, changed, unchanged}
 use Rattle.library_history.specs.Calls.{StartDecksCall}
 use Rattle.library_history.specs.Used.{Called, draw-accepted, draw-left, Used, started}
-use Rattle.library_history.specs.Example.{benchOf}
+use Rattle.library_history.specs.Example.{benchOf, elsewhere}
 
 -- ---- Rows
 
@@ -48,15 +48,7 @@ out m = changed (replicate 4 8) (messageNumbers m)
 
 -- ---- The two starts
 
-abbrev somewhere : Bench
-somewhere = record {
-  decks = replicate 161 8;
-  deckMemory = replicate 1050 5;
-  desk = replicate 10 8;
-  deskMemory = replicate 1036 9;
-}
-
-start-decks : StartDecksCall somewhere
+start-decks : StartDecksCall elsewhere
 unfolding valueCount
 start-decks = record {
   settings = settingsRow;
@@ -74,7 +66,7 @@ start-decks = record {
 pub begins : Used settingsA (benchIn startedState) startedState
 unfolding valueCount start-decks
 begins =
-    started somewhere start-decks
+    started elsewhere start-decks
     (record {
       settings = settingsRow;
       desk = benchIn startedState .desk;

@@ -10,9 +10,12 @@ pub mod DeskCalls
 pub mod Starts
 pub mod Runs
 pub mod Deliveries
+pub mod ReadRows
+pub mod Closings
 pub mod GoesOn
 pub mod Readings
 pub mod Theorem
 pub mod ExampleDraws
 pub mod ExampleMessages
+pub mod ExampleClosing
 pub mod Example

@@ -14,7 +14,7 @@ use Rattle.single_outcome.specs.Delivery.{deliveryIn}
 use Rattle.single_outcome.proofs.HistoryLaws.{passes-of-reachable}
 use Rattle.library_history.specs.Bench.{Bench, heldIn}
 use Rattle.library_history.specs.Calls.{afterDeliver}
-use Rattle.library_history.specs.Used.{delivering, Called, draw-accepted, draw-left, deck-message-accepted, deck-message-refused, desk-message-accepted, desk-message-refused, announcement-accepted, announcement-refused, run-at-rest, run-takes-none, delivered, delivery-left, start-decks-refused, start-desk-refused, Used, started, called}
+use Rattle.library_history.specs.Used.{delivering, Called, draw-accepted, draw-left, deck-message-accepted, deck-message-refused, desk-message-accepted, desk-message-refused, announcement-accepted, announcement-refused, run-at-rest, run-takes-none, delivered, delivery-left, closed-and-read, reading-refused, start-decks-refused, start-desk-refused, Used, started, called}
 use Rattle.library_history.specs.Claims.{AsHistory, Demanded, UseClaims, deskWidth}
 use Rattle.library_history.proofs.Draws.{draw-history, left-history, draw-long}
 use Rattle.library_history.proofs.DeckMessages.{to-deck-history, deck-refused-history, deck-message-long}
@@ -22,6 +22,8 @@ use Rattle.library_history.proofs.DeskCalls.{to-desk-history, desk-refu
 use Rattle.library_history.proofs.Starts.{started-history, start-decks-long, start-desk-long, decks-stay, desk-stays, start-decks-left, start-desk-left}
 use Rattle.library_history.proofs.Runs.{run-history, none-taken-history, run-decks-long, run-desk-long}
 use Rattle.library_history.proofs.Deliveries.{delivered-history, delivery-left-history, delivered-decks-long, delivered-desk-long}
+use Rattle.library_history.proofs.ReadRows.{read-decks-long, read-desk-long, unread-decks, unread-desk, reading-left}
+use Rattle.library_history.proofs.Closings.{read-history, closes}
 use Rattle.library_history.proofs.GoesOn.{goes-on}
 use Rattle.library_history.proofs.Readings.{reads-bench}
 
@@ -150,6 +152,19 @@ module _ {settings : Settings} (bench : Bench) (state : State)
     decks-long = delivered-decks-long call (there .decks-long);
     desk-long = delivered-desk-long call (there .desk-long);
   }
+  as-called after next (closed-and-read save other load under saves same loads) = record {
+    reachable = read-history bench state reach save under saves load same loads;
+    held-is = refl;
+    decks-long = read-decks-long load loads;
+    desk-long = read-desk-long load loads;
+  }
+  as-called after next (reading-refused call refused) = record {
+    reachable = subst (λ (held : Held). Reachable settings (holding state held))
+        (sym (reading-left call refused)) reach;
+    held-is = refl;
+    decks-long = ap length (unread-decks call refused) ∙ there .decks-long;
+    desk-long = ap length (unread-desk call refused) ∙ there .desk-long;
+  }
   as-called after next (start-decks-refused call refused) =
       after-decks after next
       (subst (λ (held : Held). Reachable settings (holding state held))
@@ -189,6 +204,7 @@ demanded settings state reachable =
       third = demands .third settings state passes reachable;
       dropped = demands .dropped settings state passes reachable;
       touches = demands .touches settings state passes reachable;
+      closing = demands .closing settings state passes reachable;
       given = demands .given settings state passes reachable;
     }
 
@@ -205,6 +221,9 @@ use-claims = record {
       (subst (λ (held : Held). sitesWords settings ≤ length (held .siteMemory)) (there .held-is)
       long)
       (demanded settings state (there .reachable) .first .delivery-goes-on);
+  closes = λ settings bench state used.
+      let there = as-history settings bench state used in
+      closes bench state (reach bench state there);
   reads-right = λ settings bench state used rest.
       let there = as-history settings bench state used in
       reads-bench settings bench state (there .held-is)

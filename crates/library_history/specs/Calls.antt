@@ -8,6 +8,8 @@
 --   DrawCall, DeckMessageCall      at the deck that draw or message names
 --   DeskMessageCall, AnnouncementCall   at the desk
 --   RunCall, DeliverCall           draws with full delivery
+--   SaveCall, LoadCall             a bench saved to bytes, and read from them (request N3)
+--   fileBy call                    the bytes that a saving wrote
 --   after..                        the bench after a call
 use mathlib.Core.Path.{_≡_}
 use mathlib.Core.List.{List}
@@ -21,6 +23,7 @@ use Rattle.tracker_queue.specs.Log.{messagesIn}
 use Rattle.library_rows.specs.Rows.{Row, Number}
 use Rattle.library_decks.specs.AllDecks.{StartDecksExported, DecksDrawExported, DecksMessageExported}
 use Rattle.library_desk.specs.Desk.{StartDeskExported, DeskMessageExported, AnnouncementExported}
+use Rattle.library_snapshot.specs.Snapshot.{SaveExported, LoadExported}
 use Rattle.library_batch.specs.Batch.{RunExported}
 use Rattle.library_delivery.specs.Delivery.{DeliveryExported}
 use Rattle.library_history.specs.Bench.{Bench, changed, unchanged, Front, frontRow, withFront, withDecks, withDesk}
@@ -168,3 +171,42 @@ pub record DeliverCall (bench : Bench) : Type 0 where
 
 abbrev pub afterDeliver : {bench : Bench} → DeliverCall bench → Bench
 afterDeliver call = call .left
+
+-- ---- Closing a bench
+
+-- `tracker_save`, which reads rows and memories alone: nothing of the bench changes
+pub record SaveCall (bench : Bench) : Type 0 where
+  pub settings : Row
+  pub deckLent : ℕ
+  pub deskLent : ℕ
+  pub bytes : Row
+  pub written : Number
+  pub answer : ℕ
+  pub says : SaveExported settings (unchanged (bench .decks)) (unchanged (bench .desk))
+      (unchanged (take deckLent (bench .deckMemory)))
+      (unchanged (take deskLent (bench .deskMemory))) bytes written answer
+
+-- Of the bytes lent the first so many.
+abbrev pub fileBy : {bench : Bench} → SaveCall bench → List ℕ
+fileBy call = take (call .written .after) (call .bytes .after)
+
+-- `tracker_load`, of any bytes
+pub record LoadCall (bench : Bench) : Type 0 where
+  pub file : List ℕ
+  pub settings : Row
+  pub decks : List ℕ
+  pub desk : List ℕ
+  pub deckMemory : Front
+  pub deskMemory : Front
+  pub answer : ℕ
+  pub says : LoadExported (unchanged file) settings (changed (bench .decks) decks)
+      (changed (bench .desk) desk) (frontRow (bench .deckMemory) deckMemory)
+      (frontRow (bench .deskMemory) deskMemory) answer
+
+abbrev pub afterLoad : {bench : Bench} → LoadCall bench → Bench
+afterLoad {bench} call = record {
+  decks = call .decks;
+  deckMemory = withFront (bench .deckMemory) (call .deckMemory);
+  desk = call .desk;
+  deskMemory = withFront (bench .deskMemory) (call .deskMemory);
+}

@@ -9,9 +9,10 @@
 --
 -- The chain has all calls on a whole bench that may write: `tracker_start_decks`,
 -- `tracker_start_desk`, `tracker_decks_draw`, `tracker_decks_message`, `tracker_desk_message`,
--- `tracker_desk_announcement`, `tracker_run` and `tracker_deliver`. Those that read (list, margin,
--- class) are lent `const` alone: specs/Claims.antt says what they answer at such a bench. The calls
--- of a process that holds one deck alone are not here.
+-- `tracker_desk_announcement`, `tracker_run`, `tracker_deliver`, and `tracker_load` on what
+-- `tracker_save` wrote. Those that read (list, margin, class) are lent `const` alone:
+-- specs/Claims.antt says what they answer at such a bench. The calls of a process that holds one
+-- deck alone are not here.
 use mathlib.Core.Path.{_≡_}
 use mathlib.Core.Bool.{true, false}
 use mathlib.Core.List.{List, [], _∷_, _++_}
@@ -29,7 +30,7 @@ use Rattle.history.specs.State.{State, AtRest, holding, sending}
 use Rattle.history.specs.Histories.{startState}
 use Rattle.single_outcome.specs.Delivery.{deliveryIn}
 use Rattle.library_history.specs.Bench.{Bench, heldIn}
-use Rattle.library_history.specs.Calls.{Under, outOf, StartDecksCall, afterStartDecks, StartDeskCall, afterStartDesk, DrawCall, afterDraw, DeckMessageCall, afterDeckMessage, DeskMessageCall, afterDeskMessage, AnnouncementCall, afterAnnouncement, RunCall, afterRun, acceptedBy, writtenBy, DeliverCall, afterDeliver}
+use Rattle.library_history.specs.Calls.{Under, outOf, StartDecksCall, afterStartDecks, StartDeskCall, afterStartDesk, DrawCall, afterDraw, DeckMessageCall, afterDeckMessage, DeskMessageCall, afterDeskMessage, AnnouncementCall, afterAnnouncement, RunCall, afterRun, acceptedBy, writtenBy, DeliverCall, afterDeliver, SaveCall, fileBy, LoadCall, afterLoad}
 
 -- ---- The state after a call
 
@@ -137,6 +138,20 @@ pub data Called (settings : Settings) (bench : Bench) (state : State)
       → (call .answer ≡ noRefusal → isDraw (arrivalFrom (call .draw .before)) ≡ false)
       → Called settings bench state (afterDeliver call)
       (holding state (heldIn (afterDeliver call)))
+  -- request N3, "A bench saved and read goes on exactly as one never closed": saved at any time,
+  -- and the bytes written read into whatever rows and memories, whatever was done meanwhile; the
+  -- messages on their way are the caller's to keep
+  closed-and-read : (save : SaveCall bench) (other : Bench) (load : LoadCall other)
+      → Under settings (save .settings)
+      → save .answer ≡ noRefusal
+      → load .file ≡ fileBy save
+      → load .answer ≡ noRefusal
+      → Called settings bench state (afterLoad load) (holding state (heldIn (afterLoad load)))
+  -- a reading that is refused, of any bytes; one that is accepted, of bytes that no bench of this
+  -- chain was saved to, is no part of it
+  reading-refused : (call : LoadCall bench)
+      → (call .answer ≡ noRefusal → ⊥)
+      → Called settings bench state (afterLoad call) (holding state (heldIn (afterLoad call)))
   -- a start that is refused; one that is accepted begins a chain of its own
   start-decks-refused : (call : StartDecksCall bench)
       → (call .answer ≡ noRefusal → ⊥)

@@ -11,7 +11,9 @@
 --   afterSiteCall, afterCoordinatorCall   what is held after a call on one of them
 --   networkOf settings held      the network that records and memory hold
 --   networkWritten settings held network messages    a network written over them
+--   heldConsistent settings held what records and memory must meet, in mid-delivery too
 --   heldRefusal settings held    1, 2, 3, 4, 11 of the batch call, or accepted
+use mathlib.Core.Bool.{Bool}
 use mathlib.Core.List.{List}
 use Prim.Native.Nat.{ℕ}
 use lib.ListN.{getD, set}
@@ -21,7 +23,7 @@ use Rattle.model.specs.declared.Sites.{Sites}
 use Rattle.model.specs.declared.CoordinatorRecord.{CoordinatorRecord}
 use Rattle.model.specs.CoordinatorMemory.{coordinatorRecord, coordinatorMemory}
 use Rattle.model.specs.Network.{Network}
-use Rattle.model.specs.NetworkMemory.{siteRecords, sitesMemory, networkIn, networkRefusal}
+use Rattle.model.specs.NetworkMemory.{siteRecords, sitesMemory, networkIn, benchConsistent, networkRefusal}
 
 -- ---- The records of the sites
 
@@ -89,6 +91,11 @@ networkWritten settings held network messages =
     (coordinatorRecord (network .coordinator))
     (sitesMemory settings (network .sites) (held .siteMemory))
     (coordinatorMemory (network .coordinator) (held .coordinatorMemory))
+
+abbrev pub heldConsistent : Settings → Held → Bool
+heldConsistent settings held =
+    benchConsistent settings (held .sites) (held .coordinator) (held .siteMemory)
+    (held .coordinatorMemory)
 
 abbrev pub heldRefusal : Settings → Held → ℕ
 heldRefusal settings held =

@@ -3,6 +3,8 @@
 --
 --   sitesIn k settings records memory     the first k sites; none for a record that is missing
 --   sitesMemory settings sites memory     the memory with these sites written into it
+--   benchConsistent ..                    what records and memory of every network must meet
+--   networkConsistent ..                  what the batch call asks: the same, and all is at rest
 --   networkRefusal ..                     1, 2, 3, 4, 11 of the batch call, or accepted
 use mathlib.Core.Bool.{Bool, true, false, _&&_, _||_, not}
 use mathlib.Core.List.{List, [], _∷_, _++_}
@@ -89,13 +91,18 @@ atRestTogether network =
     && sameThreshold (coordinator .threshold) (network .sites)
     && eqb (coordinator .total + allPending (network .sites)) (allArrivals (network .sites))
 
+-- Each site and the coordinator by themselves, and "the bench's message count"; in mid-delivery
+-- too.
+abbrev pub benchConsistent : Settings → Sites → CoordinatorRecord → List ℕ → List ℕ → Bool
+benchConsistent settings sites coordinator siteNumbers coordinatorNumbers =
+    sitesConsistent (settings .sites) settings (sites .records) siteNumbers
+    && coordinatorConsistent settings (coordinatorIn settings coordinator coordinatorNumbers)
+    && leb (sites .messages) messageLimit
+
 abbrev pub networkConsistent : Settings → Sites → CoordinatorRecord → List ℕ → List ℕ → Bool
 networkConsistent settings sites coordinator siteNumbers coordinatorNumbers =
-    let network = networkIn settings sites coordinator siteNumbers coordinatorNumbers in
-    sitesConsistent (settings .sites) settings (sites .records) siteNumbers
-    && coordinatorConsistent settings (network .coordinator)
-    && atRestTogether network
-    && leb (sites .messages) messageLimit
+    benchConsistent settings sites coordinator siteNumbers coordinatorNumbers
+    && atRestTogether (networkIn settings sites coordinator siteNumbers coordinatorNumbers)
 
 abbrev pub networkTooShort : Settings → List ℕ → List ℕ → Bool
 networkTooShort settings siteNumbers coordinatorNumbers =

@@ -74,3 +74,12 @@ malformedLine = 13
 -- "log lacks 23 × k + 2 free records before a draw"
 abbrev pub logTooShort : ℕ
 logTooShort = 14
+
+-- Request N3: "15 when the file is too short .. or the width is unknown", and where it is not laid
+-- out as its settings say
+abbrev pub fileUnreadable : ℕ
+fileUnreadable = 15
+
+-- Request N3: "16 .. when the sum differs"
+abbrev pub checksumWrong : ℕ
+checksumWrong = 16

@@ -35,6 +35,10 @@ pub const MALFORMED_LINE: u32 = 13;
 
 pub const LOG_TOO_SHORT: u32 = 14;
 
+pub const FILE_UNREADABLE: u32 = 15;
+
+pub const CHECKSUM_WRONG: u32 = 16;
+
 // The ranges of the settings: "Decks k 1 to 32. Leeway e 2 to 1000, list share p 1 to 1000, rank q
 // 1 to 1000, all in thousandths. Slots c 1 to 3000 for each deck. Code space u 1 to 65,536". All
 // but the leeway are at least 1.
@@ -65,6 +69,9 @@ pub const SITE_RECORDS: usize = MOST_SITES as usize;
 pub const TOP_VALUE: u32 = 1023;
 
 pub const VALUE_COUNT: usize = 1024;
+
+// The most numbers of a site's memory: four for each counter, and the histogram.
+pub const MOST_SITE_WORDS: usize = 4 * (MOST_CAPACITY as usize) + VALUE_COUNT;
 
 // The least value of a draw: an arrival of a smaller one is a touch.
 pub const LEAST_DRAWN: u32 = 1;

@@ -7,6 +7,7 @@
 --   site-back, site-same                 a site's record
 --   phase-back, phase-same               a phase
 --   coordinator-back, coordinator-same   the coordinator's record
+--   coordinator-whole                    the same of numbers of any size
 --   sites-back, sites-same               all sites' records and the count of messages
 --   getD-recordsFrom, site-behind        one record, by its place
 use Prim.Native.Nat.{ℕ, zero, suc, _+_, _*_, _<_, _≤_}
@@ -31,7 +32,7 @@ use Rattle.model.specs.declared.Phase.the-variants.{Idle, Collecting, Probing, 
 use Rattle.model.specs.declared.CoordinatorRecord.{CoordinatorRecord}
 use Rattle.model.specs.Choice.{isZero}
 use Rattle.model.specs.Held.{noRecord}
-use Rattle.record_numbers.specs.Numbers.{siteWidth, countPlace, sitesWidth, settingsNumbers, settingsFrom, messageNumbers, messageFrom, siteAt, siteNumbers, siteFrom, recordsNumbers, recordsFrom, sitesNumbers, sitesFrom, phaseOf, phaseNumbers, phaseFrom, phaseWell, tenNumbers, coordinatorNumbers, coordinatorFrom, greatestNarrow, greatestHeld, coordinatorWell}
+use Rattle.record_numbers.specs.Numbers.{siteWidth, countPlace, sitesWidth, settingsNumbers, settingsFrom, messageNumbers, messageFrom, siteAt, siteNumbers, siteFrom, recordsNumbers, recordsFrom, sitesNumbers, sitesFrom, phaseOf, phaseNumbers, phaseFrom, phaseWell, phaseWellIn, tenNumbers, coordinatorWidth, coordinatorNumbers, coordinatorFrom, greatestNarrow, greatestHeld, coordinatorWell}
 use Rattle.record_numbers.proofs.Records.{length-recordsFrom, length-recordsNumbers}
 
 -- ---- Settings, messages, a site's record
@@ -127,16 +128,24 @@ coordinator-back c rest =
     })
     (phase-back (c .phase))
 
-pub coordinator-same : (numbers : List ℕ)
-    → 10 ≤ length numbers
-    → coordinatorWell numbers ≡ true
-    → coordinatorNumbers (coordinatorFrom numbers) ≡ take 10 numbers
-coordinator-same numbers long well =
-    let both = both-true (leb (greatestHeld numbers) greatestNarrow) _ well in
+-- Of numbers of any size whose last five are a phase's.
+pub coordinator-whole : (numbers : List ℕ)
+    → coordinatorWidth ≤ length numbers
+    → phaseWellIn numbers ≡ true
+    → coordinatorNumbers (coordinatorFrom numbers) ≡ take coordinatorWidth numbers
+coordinator-whole numbers long well =
     ap (tenNumbers (coordinatorFrom numbers))
     (phase-same (getD numbers 5 0) (getD numbers 6 0) (getD numbers 7 0) (getD numbers 8 0)
-    (getD numbers 9 0) (both .second-true))
-    ∙ read-take 0 10 0 numbers (omega arith)
+    (getD numbers 9 0) well)
+    ∙ read-take 0 coordinatorWidth 0 numbers (omega arith)
+
+pub coordinator-same : (numbers : List ℕ)
+    → coordinatorWidth ≤ length numbers
+    → coordinatorWell numbers ≡ true
+    → coordinatorNumbers (coordinatorFrom numbers) ≡ take coordinatorWidth numbers
+coordinator-same numbers long well =
+    coordinator-whole numbers long
+    (both-true (leb (greatestHeld numbers) greatestNarrow) _ well .second-true)
 
 -- ---- All sites
 

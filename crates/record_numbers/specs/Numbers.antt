@@ -11,7 +11,8 @@
 --   phaseNumbers, phaseFrom              0 idle, 1 collecting, 2 probing or 3 announcing; then
 --                                        deck, low, high and sum, those not in use 0
 --   coordinatorNumbers, coordinatorFrom  total, base, threshold, signals, class, and the phase
---   phaseWell, coordinatorWell           whether numbers are those of the record made from them
+--   phaseWell, phaseWellIn, coordinatorWell   whether numbers are those of the record made from
+--                                        them
 --   coordinatorRead numbers              the record made from them where they are, else
 --                                        `noCoordinator`, all numbers 0
 use mathlib.Core.Bool.{Bool, true, _&&_}
@@ -44,6 +45,9 @@ abbrev pub narrowed : ℕ → ℕ
 narrowed n = min n greatestNarrow
 
 -- Six numbers: k, e, p, q, c, u.
+abbrev pub settingsWidth : ℕ
+settingsWidth = 6
+
 abbrev pub settingsNumbers : Settings → List ℕ
 settingsNumbers settings =
     settings .sites ∷ (settings .epsilon ∷ (settings .phi ∷ (settings .rank
@@ -145,6 +149,9 @@ phaseFrom which site low high sum =
     else Announcing site
 
 -- Total, base, threshold, signals, quantile; then the phase: which, site, low, high, sum.
+abbrev pub coordinatorWidth : ℕ
+coordinatorWidth = 10
+
 abbrev pub coordinatorFrom : List ℕ → CoordinatorRecord
 coordinatorFrom numbers = record {
   total = getD numbers 0 0;
@@ -204,16 +211,19 @@ phaseWell which site low high sum =
     else if eqb which 2 then true
     else leb which 3 && isZero (low + high + sum)
 
--- What the record holds in four bytes fits them, and the last five are a phase's.
-abbrev pub coordinatorWell : List ℕ → Bool
-coordinatorWell numbers =
-    leb (greatestHeld numbers) greatestNarrow
-    && phaseWell
+-- The last five of a record's numbers.
+abbrev pub phaseWellIn : List ℕ → Bool
+phaseWellIn numbers =
+    phaseWell
     (getD numbers 5 0)
     (getD numbers 6 0)
     (getD numbers 7 0)
     (getD numbers 8 0)
     (getD numbers 9 0)
+
+-- What the record holds in four bytes fits them, and the last five are a phase's.
+abbrev pub coordinatorWell : List ℕ → Bool
+coordinatorWell numbers = leb (greatestHeld numbers) greatestNarrow && phaseWellIn numbers
 
 -- All numbers 0. Its threshold is none that a base gives, so with any memory it is inconsistent.
 abbrev pub noCoordinator : CoordinatorRecord

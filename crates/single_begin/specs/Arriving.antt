@@ -16,7 +16,7 @@ use Rattle.model.specs.Refusals.{noRefusal}
 use Rattle.model.specs.Limits.{mostSteps}
 use Rattle.model.specs.Draws.{isDraw}
 use Rattle.model.specs.SiteMemory.{siteWords}
-use Rattle.tracker_memory.specs.Contracts.{SitesFit}
+use Rattle.bench_memory.specs.Contracts.{SitesFit}
 use Rattle.site_steps.specs.declared.Observed.{Observed}
 use Rattle.site.specs.Calls.{ObserveSays, observeRefusal}
 use Rattle.history.specs.State.{State, recordAt, sitePart, recordIn, heldBy}

@@ -16,7 +16,7 @@ use Rattle.model.specs.Settings.{settingsRefusal}
 use Rattle.model.specs.Network.{Network}
 use Rattle.model.proofs.Thresholds.RefusalLaws.{both-accepted}
 use Rattle.history.specs.State.{heldRefusal, State, AtRest}
-use Rattle.history.specs.Histories.{Reachable, started, stepped, delivers, refuses, Deliveries, no-step, delivered, refused-between}
+use Rattle.history.specs.Histories.{Reachable, started, stepped, reopened, delivers, refuses, Deliveries, no-step, delivered, refused-between}
 use Rattle.history.proofs.Accounts.{few-dropped}
 use Rattle.history.proofs.Accepted.{held-sound, network-accepted}
 use Rattle.history.proofs.Theorem.{arisen}
@@ -32,6 +32,8 @@ passes-of-reachable {settings} state
     both-accepted (settingsRefusal settings) _ (sym (sites-say .refusal) ∙ sites-accepted)
     .first-accepted
 passes-of-reachable state (stepped before after earlier step) =
+    passes-of-reachable before earlier
+passes-of-reachable state (reopened before _ _ _ _ _ _ _ _ _ _ earlier _ _ _ _) =
     passes-of-reachable before earlier
 
 -- Each step is a step of the history.

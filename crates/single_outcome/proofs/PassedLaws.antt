@@ -25,7 +25,7 @@ use Rattle.model.proofs.Touches.DrawLaws.{line-by-address}
 use Rattle.model.proofs.Thresholds.RefusalLaws.{begin, pass-part, refuse-part, end}
 use Rattle.model.proofs.Soundness.ConsistentCoordinator.{CoordinatorWithin}
 use Rattle.model.proofs.Soundness.ConsistentNetwork.{passes-of}
-use Rattle.tracker_memory.specs.Contracts.{SitesFit}
+use Rattle.bench_memory.specs.Contracts.{SitesFit}
 use Rattle.site.specs.Calls.{observeRefusal}
 use Rattle.history.specs.State.{heldRefusal, Held, State, networkOf, recordAt, siteStart}
 use Rattle.history.proofs.Decoded.{Lengths}

@@ -18,7 +18,7 @@ use Rattle.model.specs.Refusals.{noRefusal}
 use Rattle.model.specs.Messages.{toCoordinator}
 use Rattle.model.specs.SiteMemory.{siteWords}
 use Rattle.model.specs.Coordinator.{isAnnouncing}
-use Rattle.tracker_memory.specs.Contracts.{SitesFit}
+use Rattle.bench_memory.specs.Contracts.{SitesFit}
 use Rattle.site.specs.Calls as SiteCalls
 use Rattle.coordinator.specs.Calls as CoordinatorCalls
 use Rattle.history.specs.State.{State, recordAt, sitePart}

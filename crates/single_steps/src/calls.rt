@@ -8,7 +8,7 @@ ghost use mathlib.Core.List.{List};
 ghost use Prim.Native.Nat.{ℕ, _<_};
 ghost use Rattle.model.specs.Limits.{mostSites};
 ghost use Rattle.model.specs.Held.{recordIn};
-ghost use Rattle.tracker_memory.specs.Contracts.{SitesFit};
+ghost use Rattle.bench_memory.specs.Contracts.{SitesFit};
 ghost use Rattle.single_steps.specs.Progress.{carriedLimit, sent, refusedWith};
 ghost use Rattle.single_steps.specs.Steps.{AskAsks, HandByCallAsks, DueAsks, CallStepSays};
 use crate::Progress;

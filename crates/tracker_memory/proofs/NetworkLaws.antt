@@ -1,33 +1,27 @@
 -- What the tests of a whole network are worth, test by test.
 --
 --   counts-fit                        numbers that can be added up
---   count-refused .. sites-refused    the rows of the test
---   fits-of-long                      memory that is not too short
-use mathlib.Core.Path.{_≡_, sym, subst}
-use mathlib.Core.Bool.{Bool, true, false, _&&_}
+--   rest-decides, bench-refused       the rows of the test
+--   bench-counts                      what rest asks, from what is consistent
+use mathlib.Core.Path.{_≡_, subst}
+use mathlib.Core.Bool.{Bool, true, false}
 use mathlib.Core.List.{List}
-use Prim.Native.Nat.{ℕ, _*_, _≤_, _<_}
+use Prim.Native.Nat.{ℕ, _*_, _<_}
 use native.Mathlib.Omega.{arith}
-use lib.Dec.{ltb}
-use lib.ListN.{length, getD, drop}
-use borrow.Author.Tests.{ltb-false, le-leb, lt-leb}
-use Rattle.laws.proofs.Tests.{and-true, and-false, neither-of-or}
+use lib.ListN.{getD, drop}
 use Rattle.model.specs.declared.Settings.{Settings}
 use Rattle.model.specs.declared.Sites.{Sites}
 use Rattle.model.specs.declared.CoordinatorRecord.{CoordinatorRecord}
-use Rattle.model.specs.Refusals.{noRefusal}
-use Rattle.model.specs.Limits.{messageLimit}
-use Rattle.model.specs.Settings.{settingsRefusal}
 use Rattle.model.specs.SiteMemory.{siteWords, siteIn}
 use Rattle.model.specs.CoordinatorMemory.{coordinatorIn, coordinatorConsistent}
-use Rattle.model.specs.Network.{Network}
-use Rattle.model.specs.NetworkMemory.{sitesWords, networkIn, sitesConsistent, atRestTogether, networkConsistent, networkTooShort}
+use Rattle.model.specs.NetworkMemory.{networkIn, sitesConsistent, atRestTogether, benchConsistent, networkConsistent}
 use Rattle.model.specs.SoundNetwork.{SoundSite}
 use Rattle.model.proofs.Soundness.ConsistentCoordinator.{coordinator-within-of}
-use Rattle.model.proofs.Soundness.ConsistentNetwork.{sites-sound-of}
+use Rattle.model.proofs.Soundness.ConsistentNetwork.{sites-sound-of, bench-rows}
 use Rattle.site_memory.proofs.SitesReading.{getD-sitesIn, enough-records}
 use Rattle.model.specs.Held.{noRecord}
-use Rattle.tracker_memory.specs.Contracts.{SitesFit, NetworkFits, AllCountsFit}
+use Rattle.bench_memory.specs.Contracts.{SitesFit}
+use Rattle.tracker_memory.specs.Contracts.{AllCountsFit}
 
 pub counts-fit : {settings : Settings} {siteMemory : List ℕ}
     → SitesFit settings siteMemory
@@ -63,52 +57,25 @@ counts-fit {settings} {siteMemory} fits sites coordinator coordinatorNumbers sit
 
 -- ---- The rows of the test
 
--- The four tests, in the order of the definition, with the test that decides.
 module _ (settings : Settings) (sites : Sites) (coordinator : CoordinatorRecord)
     (siteMemory coordinatorMemory : List ℕ) where
-  abbrev network : Network
-  network = networkIn settings sites coordinator siteMemory coordinatorMemory
+  abbrev bench-test : Bool
+  bench-test = benchConsistent settings sites coordinator siteMemory coordinatorMemory
 
-  abbrev sites-test : Bool
-  sites-test = sitesConsistent (settings .sites) settings (sites .records) siteMemory
+  -- Where each is consistent, rest decides.
+  pub rest-decides : bench-test ≡ true
+      → atRestTogether (networkIn settings sites coordinator siteMemory coordinatorMemory)
+      ≡ networkConsistent settings sites coordinator siteMemory coordinatorMemory
+  rest-decides holds = rw holds
 
-  abbrev coordinator-test : Bool
-  coordinator-test = coordinatorConsistent settings (network .coordinator)
+  pub bench-refused : bench-test ≡ false
+      → false ≡ networkConsistent settings sites coordinator siteMemory coordinatorMemory
+  bench-refused fails = rw fails
 
-  abbrev whole-test : Bool
-  whole-test = networkConsistent settings sites coordinator siteMemory coordinatorMemory
-
-  pub count-refused : messageLimit < sites .messages → false ≡ whole-test
-  count-refused above =
-      rw (lt-leb (sites .messages) messageLimit above)
-      (sym (and-false (sites-test && coordinator-test && atRestTogether network)))
-
-  pub rest-decides : sites-test ≡ true → coordinator-test ≡ true
-      → sites .messages ≤ messageLimit
-      → atRestTogether network ≡ whole-test
-  rest-decides sites-hold coordinator-holds within =
-      rw (sites-hold, coordinator-holds, le-leb (sites .messages) messageLimit within)
-      (sym (and-true (atRestTogether network)))
-
-  pub coordinator-refused : sites-test ≡ true → coordinator-test ≡ false → false ≡ whole-test
-  coordinator-refused sites-hold fails = rw (sites-hold, fails)
-
-  pub sites-refused : sites-test ≡ false → false ≡ whole-test
-  sites-refused fails = rw fails
-
--- ---- What fits
-
-module _ (settings : Settings) (siteMemory coordinatorMemory : List ℕ) where
-  -- What passes the test 4 fits.
-  pub fits-of-long : settingsRefusal settings ≡ noRefusal
-      → networkTooShort settings siteMemory coordinatorMemory ≡ false
-      → NetworkFits settings siteMemory coordinatorMemory
-  fits-of-long none long =
-      let neither = neither-of-or (ltb (length siteMemory) (sitesWords settings)) _ long in
-      record {
-        sites-fit = record {
-          settings-accepted = none;
-          long-enough = ltb-false _ _ (neither .first-false);
-        };
-        coordinator-long = ltb-false _ _ (neither .second-false);
-      }
+  pub bench-counts : SitesFit settings siteMemory
+      → bench-test ≡ true
+      → AllCountsFit settings sites (coordinator .total)
+  bench-counts fits holds =
+      let rows = bench-rows settings sites coordinator siteMemory coordinatorMemory holds in
+      counts-fit fits sites coordinator coordinatorMemory (rows .sites-row)
+      (rows .coordinator-row)

@@ -19,7 +19,7 @@ use Rattle.mid_delivery.proofs.Numbers.NumberBounds.{bounded-start}
 use Rattle.model.proofs.Soundness.ConsistentNetwork.{passes-of}
 use Rattle.site_memory.proofs.SitesReading.{enough-records, used-within}
 use Rattle.model.specs.Held.{noRecord}
-use Rattle.tracker_memory.specs.Contracts.{NetworkFits}
+use Rattle.bench_memory.specs.Contracts.{NetworkFits}
 
 pub record Passing (settings : Settings) (sites : Sites) (coordinator : CoordinatorRecord)
     (siteMemory coordinatorMemory : List ℕ) : Type 0 where

@@ -1,11 +1,9 @@
 -- What the tests of a whole network require and promise.
 --
---   SitesFit         settings that pass, and memory for all sites
---   NetworkFits      the same with the coordinator's memory
 --   RecordsFit       a record for each site, each with numbers within a site's limits
 --   AllCountsFit        the same with a total within the coordinator's limit
---   SameSays, CountedSays, RestSays, ShortSays   what the tests that look at no memory answer: the
---                                                model's test, whatever the memory
+--   SameSays, CountedSays, RestSays   what the tests that look at no memory answer: the model's
+--                                     test, whatever the memory
 use mathlib.Core.Path.{_≡_}
 use mathlib.Core.Bool.{Bool}
 use mathlib.Core.List.{List}
@@ -18,19 +16,10 @@ use Rattle.model.specs.declared.CoordinatorRecord.{CoordinatorRecord}
 use Rattle.model.specs.Refusals.{noRefusal}
 use Rattle.model.specs.Limits.{siteLimit, coordinatorLimit}
 use Rattle.model.specs.Settings.{settingsRefusal}
-use Rattle.model.specs.CoordinatorMemory.{coordinatorWords}
-use Rattle.model.specs.NetworkMemory.{sitesWords, sitesIn, networkIn, sameThreshold, allPending, allArrivals, atRestTogether, networkTooShort}
+use Rattle.model.specs.NetworkMemory.{sitesIn, networkIn, sameThreshold, allPending, allArrivals, atRestTogether}
 use Rattle.model.specs.Held.{noRecord}
 
 -- ---- What is required
-
-pub record SitesFit (settings : Settings) (memory : List ℕ) : Type 0 where
-  pub settings-accepted : settingsRefusal settings ≡ noRefusal
-  pub long-enough : sitesWords settings ≤ length memory
-
-pub record NetworkFits (settings : Settings) (siteMemory coordinatorMemory : List ℕ) : Type 0 where
-  pub sites-fit : SitesFit settings siteMemory
-  pub coordinator-long : coordinatorWords settings ≤ length coordinatorMemory
 
 pub record RecordsFit (settings : Settings) (sites : Sites) : Type 0 where
   pub settings-accepted : settingsRefusal settings ≡ noRefusal
@@ -70,13 +59,3 @@ pub record RestSays
   pub at-rest : (siteMemory coordinatorMemory : List ℕ)
       → answer
       ≡ atRestTogether (networkIn settings sites coordinator siteMemory coordinatorMemory)
-
--- Memory of these lengths is shorter than the settings ask for.
-pub record ShortSays
-    (settings : Settings)
-    (siteNumbers coordinatorNumbers : ℕ)
-    (answer : Bool) : Type 0 where
-  pub too-short : (siteMemory coordinatorMemory : List ℕ)
-      → length siteMemory ≡ siteNumbers
-      → length coordinatorMemory ≡ coordinatorNumbers
-      → answer ≡ networkTooShort settings siteMemory coordinatorMemory

@@ -1,43 +1,19 @@
-// Whether the records and the lent memory of a whole network are consistent: what the batch call
-// tests once, when it starts (refusals 1 to 4 and 11). Functions with a `requires` are internal.
+// Whether a whole network is consistent and at rest: what the batch call tests once, when it starts
+// (refusals 1 to 4 and 11). Functions with a `requires` are internal.
 
 ghost use Rattle.model.specs.Lent.{before};
 ghost use mathlib.Core.Path.{_≡_};
-ghost use Rattle.model.specs.NetworkMemory.{sitesConsistent, networkConsistent, networkRefusal};
-ghost use Rattle.tracker_memory.specs.Contracts.{SitesFit, NetworkFits, RecordsFit, AllCountsFit, SameSays, CountedSays, RestSays, ShortSays};
-ghost use Rattle.model.specs.Settings.{settingsRefusal};
-ghost use Rattle.model.specs.Refusals.{noRefusal};
+ghost use Rattle.model.specs.NetworkMemory.{networkConsistent, networkRefusal};
+ghost use Rattle.bench_memory.specs.Contracts.{NetworkFits};
+ghost use Rattle.tracker_memory.specs.Contracts.{RecordsFit, AllCountsFit, SameSays, CountedSays, RestSays};
 use model::CoordinatorRecord;
 use model::MEMORY_INCONSISTENT;
 use model::MEMORY_TOO_SHORT;
-use model::MESSAGE_LIMIT;
 use model::NO_REFUSAL;
 use model::Phase;
 use model::Settings;
 use model::Sites;
-use model::VALUE_COUNT;
 use model::Word;
-
-// Whether each site is consistent by itself.
-fn sites_consistent(settings: Settings, sites: Sites, memory: &[Word]) -> bool
-    requires { ⌜ SitesFit settings (now memory) ⌝ }
-    ensures { λ r. ⌜ r
-        ≡ sitesConsistent (settings .sites) settings (sites .records) (before memory) ⌝ }
-{
-    let count = settings.sites as usize;
-    let words = site_memory::site_words(settings);
-    let mut j = 0;
-    while j < count {
-        let start = j * words;
-        let numbers = sites.records[j];
-        if site_memory::site_consistent(settings, numbers, &memory[start..]) {
-            j += 1;
-        } else {
-            return false;
-        }
-    }
-    true
-}
 
 // Whether each site has this threshold.
 fn same_thresholds(settings: Settings, sites: Sites, threshold: u64) -> bool
@@ -93,7 +69,7 @@ fn at_rest(settings: Settings, sites: Sites, coordinator: CoordinatorRecord) -> 
     }
 }
 
-// Whether records and memory of the whole network are consistent.
+// Whether records and memory of the whole network are consistent, and it is at rest.
 fn network_consistent(
     settings: Settings,
     sites: Sites,
@@ -106,28 +82,16 @@ fn network_consistent(
         ≡ networkConsistent settings sites coordinator
         (before «site_memory») (before «coordinator_memory») ⌝ }
 {
-    if MESSAGE_LIMIT < sites.messages {
-        return false;
-    }
-    if sites_consistent(settings, sites, site_memory) {
-        if coordinator_memory::coordinator_consistent(settings, coordinator, coordinator_memory) {
-            return at_rest(settings, sites, coordinator);
-        }
-        return false;
+    if bench_memory::bench_consistent(
+        settings,
+        sites,
+        coordinator,
+        site_memory,
+        coordinator_memory,
+    ) {
+        return at_rest(settings, sites, coordinator);
     }
     false
-}
-
-// Whether lent memory is shorter than the settings ask for.
-fn memory_short(settings: Settings, site_numbers: usize, coordinator_numbers: usize) -> bool
-    requires { ⌜ settingsRefusal settings ≡ noRefusal ⌝ }
-    ensures { λ r. ⌜ ShortSays settings «site_numbers» «coordinator_numbers» r ⌝ }
-{
-    let all = (settings.sites as usize) * site_memory::site_words(settings);
-    if site_numbers < all {
-        return true;
-    }
-    coordinator_numbers < (settings.universe as usize) + VALUE_COUNT
 }
 
 // Why the batch call is refused when it starts: 1, 2, 3; then 4, 11.
@@ -146,7 +110,7 @@ pub fn network_refusal(
     if refusal != NO_REFUSAL {
         return refusal;
     }
-    if memory_short(settings, site_memory.len(), coordinator_memory.len()) {
+    if bench_memory::memory_short(settings, site_memory.len(), coordinator_memory.len()) {
         return MEMORY_TOO_SHORT;
     }
     if network_consistent(

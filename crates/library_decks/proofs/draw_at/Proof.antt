@@ -2,7 +2,7 @@
 use mathlib.Core.Path.{refl}
 use native.Mathlib.Omega.{arith}
 use denote.Ref.{now}
-use Rattle.tracker_memory.proofs.PartLaws.{site-few, PartStarts, starts-at, own-is}
+use Rattle.bench_memory.proofs.PartLaws.{site-few, PartStarts, starts-at, own-is}
 use Rattle.library_decks.proofs.Named.{put-back}
 use borrow.Author.Needs.{needs}
 use Rattle.library_decks.proofs.draw_at.Statement.{statement}

@@ -2,7 +2,7 @@
 use mathlib.Core.Path.{refl}
 use native.Mathlib.Omega.{arith}
 use denote.Ref.{now}
-use Rattle.tracker_memory.proofs.PartLaws.{site-few, PartStarts, starts-at, own-is}
+use Rattle.bench_memory.proofs.PartLaws.{site-few, PartStarts, starts-at, own-is}
 use borrow.Author.Needs.{needs}
 use Rattle.library_decks.proofs.message_at.Statement.{statement}
 use Rattle.library_decks.proofs.message_at.Tie as tie

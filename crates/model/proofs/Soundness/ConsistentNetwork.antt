@@ -3,7 +3,9 @@
 --
 --   SitesRead, sites-sound-of   the sites of memory that passes: all are read, each is sound
 --   network-sound-of          what passes 4 and 11 holds a sound network
+--   BenchRows, bench-rows     the rows that every network must pass
 --   Passes, passes-of         what an accepted start is worth: no row of 1 to 4 and 11
+--   bench-consistent-of       sound parts within the limits pass those rows
 --   network-consistent-of     a sound network within the limits passes
 use mathlib.Core.Path.{_≡_, refl, ap}
 use mathlib.Core.Bool.{Bool, true, _&&_, false≢true}
@@ -30,8 +32,8 @@ use Rattle.model.specs.SiteMemory.{siteWords, siteIn, siteConsistent}
 use Rattle.model.specs.Coordinator.{isIdle}
 use Rattle.model.specs.CoordinatorMemory.{coordinatorWords, coordinatorConsistent}
 use Rattle.model.specs.Network.{Network, siteAt}
-use Rattle.model.specs.NetworkMemory.{sitesWords, sitesIn, networkIn, sitesConsistent, allPending, allArrivals, sameThreshold, atRestTogether, networkConsistent, networkTooShort, networkRefusal}
-use Rattle.model.specs.SoundNetwork.{SoundSite, DroppedWithin, Sound}
+use Rattle.model.specs.NetworkMemory.{sitesWords, sitesIn, networkIn, sitesConsistent, allPending, allArrivals, sameThreshold, atRestTogether, benchConsistent, networkConsistent, networkTooShort, networkRefusal}
+use Rattle.model.specs.SoundNetwork.{SoundSite, DroppedWithin, SoundCoordinator, Sound}
 use Rattle.model.proofs.Thresholds.RefusalLaws.{both-accepted, passed}
 use Rattle.model.proofs.Thresholds.TestedMemory.{consistent-of}
 use Rattle.model.proofs.Soundness.ConsistentSites.{sound-of-consistent, dropped-of-consistent, consistent-of-sound}
@@ -149,22 +151,38 @@ module _ (settings : Settings) (sites : Sites) (coordinator : CoordinatorRecord)
     rest-row : atRestTogether network ≡ true
     count-row : leb (sites .messages) messageLimit ≡ true
 
-  rows-of : networkConsistent settings sites coordinator siteNumbers coordinatorNumbers ≡ true
-      → Rows
-  rows-of passes =
+  -- Those that every network must pass, in mid-delivery too.
+  pub record BenchRows : Type 0 where
+    pub sites-row : sitesConsistent (settings .sites) settings (sites .records) siteNumbers ≡ true
+    pub coordinator-row : coordinatorConsistent settings (network .coordinator) ≡ true
+    pub count-row : leb (sites .messages) messageLimit ≡ true
+
+  pub bench-rows : benchConsistent settings sites coordinator siteNumbers coordinatorNumbers ≡ true
+      → BenchRows
+  bench-rows passes =
       let first : Bool =
       sitesConsistent (settings .sites) settings (sites .records) siteNumbers in
       let second : Bool = coordinatorConsistent settings (network .coordinator) in
-      let third : Bool = atRestTogether network in
-      let row-4 = both-true (first && second && third) (leb (sites .messages) messageLimit)
-      passes in
-      let row-3 = both-true (first && second) third (row-4 .first-true) in
+      let row-3 = both-true (first && second) (leb (sites .messages) messageLimit) passes in
       let row-2 = both-true first second (row-3 .first-true) in
       record {
         sites-row = row-2 .first-true;
         coordinator-row = row-2 .second-true;
-        rest-row = row-3 .second-true;
-        count-row = row-4 .second-true;
+        count-row = row-3 .second-true;
+      }
+
+  rows-of : networkConsistent settings sites coordinator siteNumbers coordinatorNumbers ≡ true
+      → Rows
+  rows-of passes =
+      let both = both-true
+      (benchConsistent settings sites coordinator siteNumbers coordinatorNumbers)
+      (atRestTogether network) passes in
+      let bench = bench-rows (both .first-true) in
+      record {
+        sites-row = bench .sites-row;
+        coordinator-row = bench .coordinator-row;
+        rest-row = both .second-true;
+        count-row = bench .count-row;
       }
 
   -- Memory that is long enough and passes holds a sound network.
@@ -228,6 +246,19 @@ module _ (settings : Settings) (sites : Sites) (coordinator : CoordinatorRecord)
         count-within = leb-true (sites .messages) messageLimit (rows .count-row);
       }
 
+  -- Sound parts within the limits pass what every network must meet, in mid-delivery too.
+  pub bench-consistent-of : SitesRead settings (settings .sites) (network .sites)
+      → SoundCoordinator settings (network .coordinator)
+      → CoordinatorWithin (network .coordinator)
+      → sites .messages ≤ messageLimit
+      → benchConsistent settings sites coordinator siteNumbers coordinatorNumbers ≡ true
+  bench-consistent-of read sound within few =
+      rw (
+        sites-consistent-of (settings .sites) settings (sites .records) siteNumbers read,
+        coordinator-consistent-of settings (network .coordinator) sound within,
+        le-leb (sites .messages) messageLimit few,
+      )
+
   -- A sound network within the limits passes.
   pub network-consistent-of : Sound settings network
       → ((j : ℕ) → j < settings .sites → DroppedWithin (siteAt network j))
@@ -236,18 +267,16 @@ module _ (settings : Settings) (sites : Sites) (coordinator : CoordinatorRecord)
       → networkConsistent settings sites coordinator siteNumbers coordinatorNumbers ≡ true
   network-consistent-of sound few-dropped within few =
       rw (
-        sites-consistent-of (settings .sites) settings (sites .records) siteNumbers
+        bench-consistent-of
             (record {
               all-read = sound .all-sites;
               each-sound = sound .sites-sound;
               each-within = few-dropped;
-            }),
-        coordinator-consistent-of settings (network .coordinator) (sound .coordinator-sound)
-            within,
+            })
+            (sound .coordinator-sound) within few,
         ap isIdle (sound .idle),
         same-threshold-test (network .coordinator .threshold) (network .sites)
             (λ j inside. sound .same-threshold j (omega (arith, sound .all-sites))),
         eq-eqb (network .coordinator .total + allPending (network .sites))
             (allArrivals (network .sites)) (sound .all-counted),
-        le-leb (sites .messages) messageLimit few,
       )

@@ -2,7 +2,7 @@
 -- of the memory.
 use mathlib.Core.Path.{refl}
 use native.Mathlib.Omega.{arith}
-use Rattle.tracker_memory.proofs.PartLaws.{site-few, PartStarts, starts-at}
+use Rattle.bench_memory.proofs.PartLaws.{site-few, PartStarts, starts-at}
 use Rattle.single_begin.proofs.BeginLaws.{begin-says}
 use denote.Ref.{now}
 use borrow.Author.Needs.{needs}

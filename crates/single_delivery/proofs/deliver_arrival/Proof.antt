@@ -10,7 +10,7 @@ use denote.Ref.{now}
 use Rattle.model.specs.Refusals.{noRefusal, unknownSite}
 use Rattle.model.proofs.Thresholds.SettingsLaws.{settled}
 use Rattle.model.proofs.Thresholds.RefusalLaws.{told}
-use Rattle.tracker_memory.specs.Contracts.{SitesFit}
+use Rattle.bench_memory.specs.Contracts.{SitesFit}
 use Rattle.history.specs.State.{heldRefusal, Held, heldBy}
 use Rattle.single_outcome.specs.Delivery.{deliveryRefusal}
 use Rattle.single_outcome.proofs.PassedLaws.{Passed, passed-of, refused-start, refused-unknown, refused-arrival}

@@ -8,7 +8,7 @@ use Rattle.model.specs.declared.Settings.{Settings}
 use Rattle.model.specs.declared.SiteRecord.{SiteRecord}
 use Rattle.model.specs.Limits.{siteLimit}
 use Rattle.model.proofs.Thresholds.SettingsLaws.{settled}
-use Rattle.tracker_memory.proofs.SitesLaws.{Counted, counted-start, counted-on, counted-end}
+use Rattle.bench_memory.proofs.SitesLaws.{Counted, counted-start, counted-on, counted-end}
 use borrow.Author.Needs.{needs}
 use Rattle.tracker_memory.proofs.all_counted.Statement.{statement}
 use Rattle.tracker_memory.proofs.all_counted.Tie as tie

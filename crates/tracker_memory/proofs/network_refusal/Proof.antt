@@ -5,7 +5,7 @@ use Prim.Native.Nat.{ℕ}
 use borrow.Author.Needs.{needs}
 use Rattle.model.specs.NetworkMemory.{networkTooShort, networkRefusal}
 use Rattle.model.proofs.Thresholds.RefusalLaws.{Still, begin, pass, pass-part, refuse, refuse-part, end, told}
-use Rattle.tracker_memory.proofs.NetworkLaws.{fits-of-long}
+use Rattle.bench_memory.proofs.BenchLaws.{fits-of-long}
 use Rattle.tracker_memory.proofs.network_refusal.Statement.{statement}
 use Rattle.tracker_memory.proofs.network_refusal.Tie as tie
 

@@ -5,7 +5,7 @@ use mathlib.Core.List.{List}
 use native.Mathlib.Omega.{arith}
 use Rattle.model.specs.declared.Settings.{Settings}
 use Rattle.model.proofs.Thresholds.SettingsLaws.{settled}
-use Rattle.tracker_memory.proofs.SitesLaws.{Same, same-start, same-on, same-fails, same-end}
+use Rattle.bench_memory.proofs.SitesLaws.{Same, same-start, same-on, same-fails, same-end}
 use borrow.Author.Needs.{needs}
 use Rattle.tracker_memory.proofs.same_thresholds.Statement.{statement}
 use Rattle.tracker_memory.proofs.same_thresholds.Tie as tie

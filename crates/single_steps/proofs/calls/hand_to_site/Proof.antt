@@ -2,7 +2,7 @@
 -- site accepts.
 use native.Mathlib.Omega.{arith}
 use denote.Ref.{now}
-use Rattle.tracker_memory.proofs.PartLaws.{site-few, PartStarts, starts-at}
+use Rattle.bench_memory.proofs.PartLaws.{site-few, PartStarts, starts-at}
 use Rattle.single_steps.proofs.SiteStepLaws.{site-unknown, site-stops, site-goes}
 use borrow.Author.Needs.{needs}
 use Rattle.single_steps.proofs.calls.hand_to_site.Statement.{statement}

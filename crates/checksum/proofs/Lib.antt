@@ -1,0 +1,2 @@
+-- Laws of the sum of bytes.
+pub mod SumLaws

@@ -1,0 +1,2 @@
+-- The sum of bytes.
+pub mod Sums

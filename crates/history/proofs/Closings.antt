@@ -1,0 +1,123 @@
+-- Every state of a history can be saved and read back: its parts are sound and within the limits,
+-- in mid-delivery too, and its messages are no more than those of a run.
+--
+--   few-counted     the count of messages is within its limit
+--   saves           saving is accepted
+--   closing         the claim
+use mathlib.Core.Path.{_≡_, sym, ap, subst}
+use mathlib.Core.Bool.{true}
+use Prim.Native.Nat.{ℕ, _≤_}
+use native.Mathlib.Omega.{arith}
+use lib.ListN.{length, length-append}
+use borrow.Author.Tests.{le-ltb}
+use Rattle.model.specs.declared.Settings.{Settings}
+use Rattle.model.specs.Refusals.{noRefusal}
+use Rattle.model.specs.Limits.{messageLimit}
+use Rattle.model.specs.Settings.{settingsRefusal}
+use Rattle.model.specs.CoordinatorMemory.{coordinatorWords}
+use Rattle.model.specs.Network.{Network}
+use Rattle.model.specs.NetworkMemory.{sitesWords}
+use Rattle.model.specs.Held.{heldConsistent}
+use Rattle.model.proofs.Soundness.ConsistentNetwork.{SitesRead, bench-consistent-of}
+use Rattle.snapshot_file.specs.Layout.{fileLength}
+use Rattle.snapshot_file.specs.File.{saveRefusal}
+use Rattle.snapshot_file.proofs.Theorem.{file-claims}
+use Rattle.history.specs.State.{Held, State, networkOf, fronts, lending}
+use Rattle.history.specs.Closing.{Closing}
+use Rattle.history.proofs.SiteParts.{front-long}
+use Rattle.history.proofs.RunSound.{messages-within}
+use Rattle.history.proofs.Underway.{SoundParts}
+use Rattle.history.proofs.Accounts.{few-dropped}
+use Rattle.history.proofs.NetworkFronts.{network-front}
+use Rattle.history.proofs.Invariant.{run-of-standing}
+use Rattle.history.proofs.Accepted.{held-sound}
+use Rattle.history.proofs.Lasting.{Lasting, all-sites}
+use Rattle.history.proofs.MachineNumbers.{of-machine}
+use Rattle.history.proofs.Reopened.{again}
+
+module _ {settings : Settings} (passes : settingsRefusal settings ≡ noRefusal)
+    {n : ℕ} (state : State) (start : Held) (now : Lasting settings start n state) where
+  -- What was logged is among the messages, and these are the first of a run's.
+  few-counted : state .held .sites .messages ≤ messageLimit
+  few-counted =
+      let begins = run-of-standing passes (now .ok .standing) in
+      omega (
+        arith,
+        now .ok .count-is-sum,
+        now .ok .logged-within,
+        ap length (begins .messages-are),
+        length-append (state .messages) (begins .later),
+        messages-within settings passes (state .accepted),
+      )
+
+  -- What is asked of each part, of the network that is held.
+  record Fit (network : Network) : Type 0 where
+    read : SitesRead settings (settings .sites) (network .sites)
+    parts : SoundParts settings network
+
+  fit : Fit (networkOf settings (state .held))
+  fit = record {
+    read = record {
+      all-read = all-sites passes state start now;
+      each-sound = held-sound passes (now .ok) .sites-sound;
+      each-within = few-dropped passes (now .ok .standing);
+    };
+    parts = held-sound passes (now .ok);
+  }
+
+  -- ---- Fronts of the memories
+
+  module _ (siteCount coordinatorCount : ℕ) (sites-enough : sitesWords settings ≤ siteCount)
+      (enough : coordinatorWords settings ≤ coordinatorCount) where
+    abbrev lent : Held
+    lent = lending (state .held) (fronts siteCount coordinatorCount)
+
+    sites-long : sitesWords settings ≤ length (lent .siteMemory)
+    sites-long =
+        front-long (sitesWords settings) siteCount (state .held .siteMemory) sites-enough
+        (now .ok .lengths .sites-long)
+
+    coordinator-long : coordinatorWords settings ≤ length (lent .coordinatorMemory)
+    coordinator-long =
+        front-long (coordinatorWords settings) coordinatorCount (state .held .coordinatorMemory)
+        enough (now .ok .lengths .coordinator-long)
+
+    consistent : heldConsistent settings lent ≡ true
+    consistent =
+        let there : Fit (networkOf settings lent) =
+        subst Fit
+        (sym (network-front passes (state .held) (now .ok .lengths)
+        (held-sound passes (now .ok) .sites-sound) siteCount coordinatorCount sites-long
+        coordinator-long))
+        fit in
+        bench-consistent-of settings (lent .sites) (lent .coordinator) (lent .siteMemory)
+        (lent .coordinatorMemory) (there .read) (there .parts .coordinator-sound)
+        (there .parts .within) few-counted
+
+    saves : (room : ℕ) → fileLength settings ≤ room → saveRefusal settings lent room ≡ noRefusal
+    saves room long =
+        rw (
+          passes,
+          le-ltb (length (lent .siteMemory)) (sitesWords settings) sites-long,
+          le-ltb (length (lent .coordinatorMemory)) (coordinatorWords settings) coordinator-long,
+          le-ltb room (fileLength settings) long,
+          consistent,
+        )
+
+  -- ---- The claim
+
+  pub closing : Closing settings state
+  closing = record {
+    saved = λ siteCount coordinatorCount room sites-enough enough.
+        saves siteCount coordinatorCount sites-enough enough room;
+    read = λ siteCount coordinatorCount siteRoom coordinatorRoom sites-enough enough sites-room
+        room.
+        file-claims .saved-accepted settings
+        (lending (state .held) (fronts siteCount coordinatorCount)) (fileLength settings) siteRoom
+        coordinatorRoom
+        (saves siteCount coordinatorCount sites-enough enough (fileLength settings) (omega arith))
+        (of-machine passes state start now siteCount coordinatorCount
+        (sites-long siteCount coordinatorCount sites-enough enough))
+        sites-room room;
+    goes-on = again passes state start now;
+  }

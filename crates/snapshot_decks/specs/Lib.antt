@@ -1,0 +1,2 @@
+-- What the tests of the decks of a file require and promise.
+pub mod Decks

@@ -1,0 +1,2 @@
+-- The figures of specs/, proved.
+pub mod Instances

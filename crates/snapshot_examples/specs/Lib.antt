@@ -1,0 +1,2 @@
+-- Benches saved to a file, in figures (request N3).
+pub mod Instances

@@ -1,0 +1,17 @@
+-- A site's memory has 1024 numbers for the values.
+use native.Mathlib.Omega.{arith}
+use borrow.Author.Needs.{needs}
+use Rattle.model.proofs.BetweenArrivals.ReportLaws.{valueCount-is}
+use Rattle.snapshot_file.proofs.deck_size.Statement.{statement}
+use Rattle.snapshot_file.proofs.deck_size.Tie as tie
+
+returns : tie.Need-returns
+returns c = omega (arith, valueCount-is)
+
+pub deck-size-spec : {M : Type 1} → statement M
+deck-size-spec =
+    tie.close
+    (tie.spec
+    (λ c. search needs) (λ c. search needs) (λ c. search needs) (λ c. search needs)
+    (λ c. search needs)
+    returns)

@@ -1,0 +1,2 @@
+-- The laws of the tests of a file before its bench.
+pub mod HeaderLaws

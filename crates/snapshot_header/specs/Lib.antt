@@ -1,0 +1,2 @@
+-- What the tests of a file before its bench require and promise.
+pub mod Header

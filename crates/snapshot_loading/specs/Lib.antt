@@ -1,0 +1,2 @@
+-- What the storing parts of reading a bench require.
+pub mod Loading

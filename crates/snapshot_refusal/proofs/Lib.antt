@@ -1,0 +1,3 @@
+-- The laws of the tests of a whole file.
+pub mod NarrowLaws
+pub mod BenchLaws

@@ -1,0 +1,2 @@
+-- What the tests of a whole file require and promise.
+pub mod Refusal

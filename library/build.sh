@@ -14,7 +14,7 @@ cd "$(dirname "$0")/.." || exit 1
 # of `rt` writes 'failed' to target/log before it looks at a crate, so a second run in the same tree
 # may take a proved crate for a failed one.
 here="library_decks library_desk library_deck controller"
-beside="library_batch library_delivery library_reading library_lengths"
+beside="library_batch library_delivery library_reading library_snapshot library_lengths"
 crates="$here $beside"
 headers=library/include
 made=target/staticlib

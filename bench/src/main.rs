@@ -1,13 +1,14 @@
 //! Times of the proved calls as a ratio to the separate implementation, on the same input in the
 //! same run. README.md says what is measured and how.
 //!
-//! `bench [calls] [steps] [streams] [batches] [long]`: these parts, or the first four; with `long`
-//! batches go on to ten million arrivals.
+//! `bench [calls] [steps] [snapshots] [streams] [batches] [long]`: these parts, or the first five;
+//! with `long` batches go on to ten million arrivals.
 
 mod batches;
 mod coordinators;
 mod networks;
 mod sites;
+mod snapshots;
 mod steps;
 mod streams;
 mod timing;
@@ -33,6 +34,9 @@ fn main() {
             steps::measure(capacity, &mut table);
         }
         table.print();
+    }
+    if asked("snapshots") {
+        snapshots::measure();
     }
     if asked("streams") {
         batches::measure_whole(1_000_000);

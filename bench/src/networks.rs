@@ -1,6 +1,7 @@
-//! A whole network twice: as the batch call of the proved code takes it, and as that of the other
-//! implementation does.
+//! A whole network twice: as the calls of the proved code on a whole network take it, and as those
+//! of the other implementation do.
 
+use boundary::snapshot::{self, ToLoad, ToSave};
 use boundary::Batch;
 use reference::coordinator::{self, CoordinatorRecord};
 use reference::message::{Arrival, Message};
@@ -53,6 +54,26 @@ impl Reference {
         answer.written
     }
 
+    /// Saves the network, which must be accepted; answers the file's length.
+    #[inline(never)]
+    pub fn save(&self, bytes: &mut [u8]) -> usize {
+        let memory = &self.coordinator_memory;
+        let (sites, coordinator) = (&self.sites, &self.coordinator);
+        let rules = &self.settings;
+        reference::snapshot::save(rules, sites, &self.site_memory, coordinator, memory, bytes)
+            .expect("it can be saved")
+    }
+
+    /// Reads a file, which must be accepted and of the same settings.
+    #[inline(never)]
+    pub fn load(&mut self, file: &[u8]) {
+        let loaded =
+            reference::snapshot::load(file, &mut self.site_memory, &mut self.coordinator_memory);
+        assert_eq!((loaded.refusal, loaded.settings), (0, self.settings));
+        self.sites = loaded.sites;
+        self.coordinator = loaded.coordinator;
+    }
+
     /// Makes this network the other one again, without another place in memory.
     pub fn restore(&mut self, other: &Reference) {
         self.sites = other.sites;
@@ -102,6 +123,30 @@ impl Proved {
         let refusal = boundary::run_batch(&self.settings, arrivals, batch);
         assert_eq!((out[0], refusal), (arrivals.len() as u64, 0));
         out[1] as usize
+    }
+
+    /// Saves the network, which must be accepted; answers the file's length.
+    pub fn save(&self, bytes: &mut [u8]) -> usize {
+        let network = ToSave {
+            sites: &self.sites,
+            coordinator: &self.coordinator,
+            site_memory: &self.site_memory,
+            coordinator_memory: &self.coordinator_memory,
+        };
+        snapshot::save(&self.settings, network, bytes).expect("it can be saved")
+    }
+
+    /// Reads a file, which must be accepted and of the same settings.
+    pub fn load(&mut self, file: &[u8]) {
+        let mut settings = [0; 6];
+        let network = ToLoad {
+            settings: &mut settings,
+            sites: &mut self.sites,
+            coordinator: &mut self.coordinator,
+            site_memory: &mut self.site_memory,
+            coordinator_memory: &mut self.coordinator_memory,
+        };
+        assert_eq!((snapshot::load(file, network), settings), (0, self.settings));
     }
 
     /// Makes this network the other one again, without another place in memory.

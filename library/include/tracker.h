@@ -61,6 +61,8 @@ extern "C" {
 #define TRACKER_MEMORY_INCONSISTENT 11 /* not as the calls leave it; to some, not at rest */
 #define TRACKER_LIST_TOO_SHORT 12      /* the list has fewer places than codes are listed */
 #define TRACKER_LOG_TOO_SHORT 14       /* the log lacks the places of one draw's messages */
+#define TRACKER_FILE_UNREADABLE 15     /* a file's length, width, offsets or phase are wrong */
+#define TRACKER_CHECKSUM_WRONG 16      /* a file's bytes do not add up to its sum */
 
 /* ---- Settings, draws and messages ------------------------------------------------------------ */
 
@@ -268,6 +270,38 @@ uint32_t tracker_desk_margin(const tracker_settings *settings, const tracker_des
 #define TRACKER_NO_CLASS UINT32_MAX
 uint32_t tracker_desk_class(const tracker_settings *settings, const tracker_desk *desk,
                             const uint64_t *memory, size_t numbers, uint32_t *volume_class);
+
+/* ---- A bench in a file ----------------------------------------------------------------------- */
+
+/* A bench is saved to bytes, from which it is read back, in another process or release, and goes on
+ * exactly as one never closed, draw by draw and in the midst of a delivery too. The file has no
+ * messages: what was on its way is the caller's to keep and to hand over afterwards.
+ *
+ * All numbers are little-endian: the settings and the desk's (memory, record, decks->messages) have
+ * 8 bytes, each deck's (memory, record) 4; then offset of the desk part and of the first deck (4
+ * bytes each), 4 for the width of a deck's numbers (2), the sum of all bytes before modulo 65,536
+ * (2). The sum finds every change of one byte; it does not find bytes that changed places. */
+#define TRACKER_FILE_BYTES(decks, slots, codes) \
+    (48 + 8 * ((size_t)(codes) + 1035) + 4 * (size_t)(decks) * (4 * (size_t)(slots) + 1029) + 12)
+
+/* The same as a call. Writes: *length. Refuses: 1, 2, 3. */
+uint32_t tracker_file_length(const tracker_settings *settings, size_t *length);
+
+/* Writes: the first TRACKER_FILE_BYTES(k, c, u) of `bytes`, and their number to *length. A bench
+ * that is not at rest is saved too. 4 also where `room` is less. Refuses: 1, 2, 3, 4, 11. */
+uint32_t tracker_save(const tracker_settings *settings, const tracker_decks *decks,
+                      const tracker_desk *desk, const uint32_t *deck_memory, size_t deck_numbers,
+                      const uint64_t *desk_memory, size_t desk_numbers, uint8_t *bytes, size_t room,
+                      size_t *length);
+
+/* The `length` bytes at `file` are the whole file: with a byte more it is 15. Settings and both
+ * records become the file's; those of decks from k on are as started. Every test comes before the
+ * first change. An accepted file that is read and saved again has the same bytes. Writes:
+ * *settings, *decks, *desk, of both memories what these settings ask for. Refuses: 15 (too short,
+ * or the width unknown), 16, 1, 2, 3, 15 (offset, length or phase), 4, 11. */
+uint32_t tracker_load(const uint8_t *file, size_t length, tracker_settings *settings,
+                      tracker_decks *decks, tracker_desk *desk, uint32_t *deck_memory,
+                      size_t deck_numbers, uint64_t *desk_memory, size_t desk_numbers);
 
 /* ---- Records as the calls see them: rows of numbers of one width ----------------------------- */
 

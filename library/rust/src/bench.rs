@@ -3,7 +3,7 @@
 use alloc::vec;
 use alloc::vec::Vec;
 
-use crate::calls::{self, Run, Sent};
+use crate::calls::{self, Loaded, Run, Sent};
 use crate::desk;
 use crate::records::{DeckRecord, DecksRecord, Delivery, DeskRecord};
 use crate::refusal::Refusal;
@@ -47,7 +47,7 @@ pub struct Bench {
     parts: BenchParts,
 }
 
-/// What a bench is made of, for a caller that saves it or brings memory of his own.
+/// What a bench is made of, for a caller that stores it his own way or brings memory of his own.
 #[derive(Clone, Debug, PartialEq, Eq)]
 pub struct BenchParts {
     /// The settings that it was started with.
@@ -78,13 +78,58 @@ impl Bench {
         Ok(Bench { parts })
     }
 
+    /// A bench read back from a file that [`Bench::save`] wrote: it goes on exactly as the one that
+    /// was saved. The settings are the file's, and the memory is allocated as they ask; all of
+    /// `file` is taken for the file, and nothing after it. Messages that were on their way when it
+    /// was saved are not in it: hand them over now.
+    ///
+    /// 15, 16, 1, 2, 3, 15, 11. No memory is allocated for a file whose length is not the one that
+    /// its settings give, so never more than its own bytes.
+    pub fn open(file: &[u8]) -> Result<Bench, Refusal> {
+        let (deck_numbers, desk_numbers) = memory_of_file(file).unwrap_or((0, 0));
+        let (mut deck_memory, mut desk_memory) = (vec![0; deck_numbers], vec![0; desk_numbers]);
+        let loaded = calls::load(file, &mut deck_memory, &mut desk_memory)?;
+        let Loaded { settings, decks, desk } = loaded;
+        Ok(Bench { parts: BenchParts { settings, decks, desk, deck_memory, desk_memory } })
+    }
+
+    /// How many bytes [`Bench::save`] writes. 1, 2, 3 if the bench was made of parts whose settings
+    /// don't pass.
+    pub fn file_length(&self) -> Result<usize, Refusal> {
+        self.parts.settings.file_length()
+    }
+
+    /// Saves the bench to the front of `bytes` and answers how many were written, which is
+    /// [`Bench::file_length`]; the bytes after them stay. Fewer are 4. A bench in mid-delivery is
+    /// saved too, but without the messages on their way: keep them, and hand them over after
+    /// [`Bench::open`]. 1, 2, 3, 4 and 11 also if the bench was made of such parts.
+    ///
+    /// ```
+    /// use draw_tracker::{Bench, Draw, Settings};
+    ///
+    /// # let settings =
+    /// #     Settings { decks: 1, leeway: 1000, share: 1000, rank: 500, slots: 6, codes: 10 };
+    /// let mut bench = Bench::start(settings)?;
+    /// bench.deliver(Draw { deck: 0, code: 7, class: 3 })?;
+    /// let mut bytes = vec![0; bench.file_length()?];
+    /// bench.save(&mut bytes)?;
+    ///
+    /// let opened = Bench::open(&bytes)?;
+    /// assert_eq!(opened, bench);
+    /// # Ok::<(), draw_tracker::Refusal>(())
+    /// ```
+    pub fn save(&self, bytes: &mut [u8]) -> Result<usize, Refusal> {
+        let BenchParts { settings, decks, desk, deck_memory, desk_memory } = &self.parts;
+        calls::save(settings, decks, desk, deck_memory, desk_memory, bytes)
+    }
+
     /// A bench of these parts. Nothing is tested here: each call tests what it is given, and
     /// refuses parts that don't belong together (1, 2, 3, 4, 11).
     pub fn from_parts(parts: BenchParts) -> Bench {
         Bench { parts }
     }
 
-    /// The parts, for instance to save them.
+    /// The parts, for instance to store them some other way than [`Bench::save`] does.
     pub fn into_parts(self) -> BenchParts {
         self.parts
     }
@@ -215,4 +260,13 @@ impl Bench {
         let BenchParts { settings, desk, desk_memory, .. } = &self.parts;
         calls::desk_class(settings, desk, desk_memory)
     }
+}
+
+/// The numbers of the decks' and the desk's memory that the settings of a file ask for, if they
+/// pass and give the file's length. A file without is refused whatever memory it is read into.
+fn memory_of_file(file: &[u8]) -> Option<(usize, usize)> {
+    let settings = Settings::of_file(file)?;
+    let lengths = settings.lengths().ok()?;
+    let fits = settings.file_length() == Ok(file.len());
+    fits.then_some((lengths.decks_numbers as usize, lengths.desk_numbers as usize))
 }

@@ -361,3 +361,73 @@ pub fn desk_class(
     })?;
     Ok((class != raw::TRACKER_NO_CLASS).then_some(class))
 }
+
+/// Saves a bench, in mid-delivery too, to the front of `bytes` and answers the file's length
+/// ([`Settings::file_length`]); the bytes after it stay. Messages on their way are not in the file:
+/// whoever saves in mid-delivery keeps them. 1, 2, 3, 4 (the bytes too), 11.
+pub fn save(
+    settings: &Settings,
+    decks: &DecksRecord,
+    desk: &DeskRecord,
+    deck_memory: &[u32],
+    desk_memory: &[u64],
+    bytes: &mut [u8],
+) -> Result<usize, Refusal> {
+    let mut length = 0;
+    // SAFETY: see above.
+    answer(unsafe {
+        raw::tracker_save(
+            settings,
+            decks,
+            desk,
+            deck_memory.as_ptr(),
+            deck_memory.len(),
+            desk_memory.as_ptr(),
+            desk_memory.len(),
+            bytes.as_mut_ptr(),
+            bytes.len(),
+            &mut length,
+        )
+    })?;
+    Ok(length)
+}
+
+/// What a file holds beside the memory: the settings and the records of the bench that was saved.
+/// The records of decks that it hasn't are fresh.
+#[derive(Clone, Copy, Debug, PartialEq, Eq)]
+pub struct Loaded {
+    /// The settings that it was started with.
+    pub settings: Settings,
+    /// The decks' records, and the count of messages.
+    pub decks: DecksRecord,
+    /// The desk's record.
+    pub desk: DeskRecord,
+}
+
+/// Reads a bench back from a file, which is all of `file`, into lent memory. How much it needs, the
+/// settings in the file say; what is lent beyond that stays, and a refused file leaves all as it
+/// was. 15, 16, 1, 2, 3, 15, 4, 11.
+pub fn load(
+    file: &[u8],
+    deck_memory: &mut [u32],
+    desk_memory: &mut [u64],
+) -> Result<Loaded, Refusal> {
+    let settings = Settings { decks: 0, leeway: 0, share: 0, rank: 0, slots: 0, codes: 0 };
+    let (decks, desk) = (DecksRecord::default(), DeskRecord::default());
+    let mut loaded = Loaded { settings, decks, desk };
+    // SAFETY: see above.
+    answer(unsafe {
+        raw::tracker_load(
+            file.as_ptr(),
+            file.len(),
+            &mut loaded.settings,
+            &mut loaded.decks,
+            &mut loaded.desk,
+            deck_memory.as_mut_ptr(),
+            deck_memory.len(),
+            desk_memory.as_mut_ptr(),
+            desk_memory.len(),
+        )
+    })?;
+    Ok(loaded)
+}

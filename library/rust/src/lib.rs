@@ -4,7 +4,8 @@
 //! which codes take at least a share p of all draws, and which volume class is their q-quantile,
 //! each within a leeway e, all in thousandths.
 //!
-//! - [`Bench`]: all decks and the desk in one process.
+//! - [`Bench`]: all decks and the desk in one process, saved to bytes and opened again
+//!   ([`Bench::save`], [`Bench::open`]).
 //! - [`Deck`] and [`Desk`]: one party a process; the messages between them go as
 //!   [`Message::to_bytes`] has them.
 //! - [`calls`]: every call over memory that the caller lends, without allocation.
@@ -60,7 +61,7 @@ mod values;
 
 #[cfg(feature = "alloc")]
 pub use bench::{Bench, BenchParts};
-pub use calls::{Run, Sent};
+pub use calls::{Loaded, Run, Sent};
 #[cfg(feature = "alloc")]
 pub use deck::Deck;
 #[cfg(feature = "alloc")]
@@ -68,6 +69,6 @@ pub use desk::Desk;
 pub use records::{Counts, DeckRecord, DecksRecord, Delivery, DeskRecord};
 pub use refusal::Refusal;
 pub use values::{
-    deck_numbers, decks_numbers, desk_numbers, most_messages, Draw, Lengths, Message, Settings,
-    CLASSES, MOST_CODES, MOST_DECKS, MOST_LISTED, MOST_SLOTS, TOP_CLASS,
+    deck_numbers, decks_numbers, desk_numbers, file_bytes, most_messages, Draw, Lengths, Message,
+    Settings, CLASSES, MOST_CODES, MOST_DECKS, MOST_LISTED, MOST_SLOTS, TOP_CLASS,
 };

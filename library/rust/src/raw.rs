@@ -206,4 +206,34 @@ extern "C" {
         numbers: usize,
         volume_class: *mut u32,
     ) -> u32;
+
+    /// How many bytes a saved bench has. 1, 2, 3.
+    pub fn tracker_file_length(settings: *const tracker_settings, length: *mut usize) -> u32;
+
+    /// A bench saved to bytes. 1, 2, 3, 4, 11.
+    pub fn tracker_save(
+        settings: *const tracker_settings,
+        decks: *const tracker_decks,
+        desk: *const tracker_desk,
+        deck_memory: *const u32,
+        deck_numbers: usize,
+        desk_memory: *const u64,
+        desk_numbers: usize,
+        bytes: *mut u8,
+        room: usize,
+        length: *mut usize,
+    ) -> u32;
+
+    /// A bench read back from bytes. 15, 16, 1, 2, 3, 15, 4, 11.
+    pub fn tracker_load(
+        file: *const u8,
+        length: usize,
+        settings: *mut tracker_settings,
+        decks: *mut tracker_decks,
+        desk: *mut tracker_desk,
+        deck_memory: *mut u32,
+        deck_numbers: usize,
+        desk_memory: *mut u64,
+        desk_numbers: usize,
+    ) -> u32;
 }

@@ -5,7 +5,7 @@ use core::fmt;
 /// Why a call was refused: document 01's table "Refused", with its numbers.
 ///
 /// These are all. Each call's promise lists the numbers that it may answer, and is proved, so there
-/// is no case for a number beyond them: a match over the fourteen is whole. An archive that answers
+/// is no case for a number beyond them: a match over the sixteen is whole. An archive that answers
 /// another number is not the one that belongs to this crate; then the crate panics and says so,
 /// since nothing else that such an archive answers could be trusted.
 #[derive(Clone, Copy, Debug, PartialEq, Eq, PartialOrd, Ord, Hash)]
@@ -39,11 +39,15 @@ pub enum Refusal {
     MalformedLine = 13,
     /// The log lacks the places of one draw's messages.
     LogTooShort = 14,
+    /// A file is too short for one, or not laid out as its settings ask.
+    FileUnreadable = 15,
+    /// The sum of a file's bytes is not the one that it ends with.
+    ChecksumWrong = 16,
 }
 
 impl Refusal {
     /// All refusals, in the order of their numbers.
-    pub const ALL: [Refusal; 14] = [
+    pub const ALL: [Refusal; 16] = [
         Refusal::SettingOutOfRange,
         Refusal::ShareBelowLeeway,
         Refusal::TooFewSlots,
@@ -58,14 +62,16 @@ impl Refusal {
         Refusal::ListTooShort,
         Refusal::MalformedLine,
         Refusal::LogTooShort,
+        Refusal::FileUnreadable,
+        Refusal::ChecksumWrong,
     ];
 
-    /// Document 01's number, 1 to 14.
+    /// Document 01's number, 1 to 14, or request N3's, 15 and 16.
     pub const fn number(self) -> u32 {
         self as u32
     }
 
-    /// The refusal with this number; `None` for 0, which is no refusal, and above 14.
+    /// The refusal with this number; `None` for 0, which is no refusal, and above 16.
     pub fn from_number(number: u32) -> Option<Refusal> {
         let place = number.checked_sub(1)?;
         Refusal::ALL.get(place as usize).copied()
@@ -88,6 +94,8 @@ impl Refusal {
             Refusal::ListTooShort => "the list has too few places",
             Refusal::MalformedLine => "the line is not deck;code;class and a line feed",
             Refusal::LogTooShort => "the log has too few places",
+            Refusal::FileUnreadable => "the file is not laid out as a saved bench",
+            Refusal::ChecksumWrong => "the file's checksum is wrong",
         }
     }
 }

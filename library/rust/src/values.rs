@@ -56,6 +56,32 @@ impl Settings {
         Ok(lengths)
     }
 
+    /// How many bytes a bench of these settings has when it is saved: 1, 2, 3.
+    pub fn file_length(&self) -> Result<usize, Refusal> {
+        let mut length = 0;
+        // SAFETY: as above.
+        answer(unsafe { raw::tracker_file_length(self, &mut length) })?;
+        Ok(length)
+    }
+
+    /// The settings at the begin of a saved bench: each a number of 8 bytes, the least first.
+    /// `None` where there are fewer bytes, or a number that no setting holds. Nothing is tested.
+    #[cfg(feature = "alloc")]
+    pub(crate) fn of_file(file: &[u8]) -> Option<Settings> {
+        let mut numbers = file.chunks_exact(8).map(|bytes| {
+            u64::from_le_bytes(bytes.try_into().expect("chunks of 8 bytes")).try_into().ok()
+        });
+        let mut next = || numbers.next().flatten();
+        Some(Settings {
+            decks: next()?,
+            leeway: next()?,
+            share: next()?,
+            rank: next()?,
+            slots: next()?,
+            codes: next()?,
+        })
+    }
+
     /// The most messages that so many draws may cost: 1, 2, 3. Class 0 is no draw and doesn't
     /// count.
     pub fn allowance(&self, draws: u64) -> Result<u64, Refusal> {
@@ -99,6 +125,13 @@ pub const fn decks_numbers(decks: u32, slots: u32) -> usize {
 /// The `u64`s that the desk's memory takes.
 pub const fn desk_numbers(codes: u32) -> usize {
     codes as usize + CLASSES
+}
+
+/// The bytes of a saved bench of so many decks, slots and codes.
+pub const fn file_bytes(decks: u32, slots: u32, codes: u32) -> usize {
+    let desk = 8 * (desk_numbers(codes) + 11);
+    let deck = 4 * (deck_numbers(slots) + 5);
+    48 + desk + decks as usize * deck + 12
 }
 
 /// The most messages that follow one draw: a log of so many always takes one.

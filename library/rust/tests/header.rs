@@ -7,8 +7,8 @@ use std::fs;
 use std::path::Path;
 
 use draw_tracker::{
-    deck_numbers, decks_numbers, desk_numbers, most_messages, DeskRecord, Refusal, CLASSES,
-    MOST_CODES, MOST_DECKS, MOST_LISTED, MOST_SLOTS, TOP_CLASS,
+    deck_numbers, decks_numbers, desk_numbers, file_bytes, most_messages, DeskRecord, Refusal,
+    CLASSES, MOST_CODES, MOST_DECKS, MOST_LISTED, MOST_SLOTS, TOP_CLASS,
 };
 
 fn read(name: &str) -> String {
@@ -83,7 +83,7 @@ fn calls_of_crate() -> Calls {
 #[test]
 fn calls_are_the_headers() {
     let calls = calls_of_headers();
-    assert_eq!(calls.len(), 18);
+    assert_eq!(calls.len(), 21);
     assert_eq!(calls, calls_of_crate());
 }
 
@@ -179,4 +179,5 @@ fn numbers_are_the_headers() {
     // The header's formulas for constant settings, with numbers put in by hand.
     assert_eq!((deck_numbers(100), decks_numbers(3, 100)), (1424, 4272));
     assert_eq!((desk_numbers(1000), most_messages(32)), (2024, 738));
+    assert_eq!((file_bytes(1, 6, 10), file_bytes(32, 3000, 65536)), (12_632, 2_200_340));
 }

@@ -1,8 +1,8 @@
 //! Settings, lengths, lines, refusals and the bytes on the wire.
 
 use draw_tracker::{
-    deck_numbers, decks_numbers, desk_numbers, most_messages, Draw, Message, Refusal, Settings,
-    MOST_LISTED,
+    deck_numbers, decks_numbers, desk_numbers, file_bytes, most_messages, Draw, Message, Refusal,
+    Settings, MOST_LISTED,
 };
 
 const A: Settings =
@@ -22,6 +22,7 @@ fn settings_are_tested() {
         assert_eq!(settings.test(), Err(refusal), "{settings:?}");
         assert_eq!(settings.lengths(), Err(refusal), "{settings:?}");
         assert_eq!(settings.allowance(6), Err(refusal), "{settings:?}");
+        assert_eq!(settings.file_length(), Err(refusal), "{settings:?}");
     }
 }
 
@@ -55,6 +56,7 @@ fn lengths_are_the_formulas() {
         assert_eq!(lengths.decks_numbers, decks_numbers(decks, slots) as u64);
         assert_eq!(lengths.desk_numbers, desk_numbers(codes) as u64);
         assert_eq!(lengths.log_numbers, 4 * most_messages(decks) as u64);
+        assert_eq!(settings.file_length(), Ok(file_bytes(decks, slots, codes)));
         let (leeway, share) = (u64::from(leeway), u64::from(share));
         let most = 6_000_000 / ((2 * share - leeway) * (3000 - leeway));
         assert_eq!(lengths.list_places, most.min(u64::from(codes)));
@@ -75,13 +77,13 @@ fn lines_are_read() {
 
 #[test]
 fn refusals_and_their_numbers() {
-    assert_eq!(Refusal::ALL.map(Refusal::number), [1, 2, 3, 4, 5, 6, 7, 8, 9, 10, 11, 12, 13, 14]);
+    assert!(Refusal::ALL.map(Refusal::number).into_iter().eq(1..=16));
     for refusal in Refusal::ALL {
         assert_eq!(Refusal::from_number(refusal.number()), Some(refusal));
         let error: &dyn std::error::Error = &refusal;
         assert_eq!(error.to_string(), format!("{} (refusal {})", refusal.text(), refusal.number()));
     }
-    for number in [0, 15, 255, u32::MAX] {
+    for number in [0, 17, 255, u32::MAX] {
         assert_eq!(Refusal::from_number(number), None);
     }
     let mut texts = Refusal::ALL.map(Refusal::text);

@@ -8,6 +8,7 @@
 
 mod batch;
 mod delivery;
+pub mod snapshot;
 mod whole;
 
 use draw_tracker::raw;

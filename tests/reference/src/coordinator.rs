@@ -9,6 +9,9 @@ use crate::site::MAX_ARRIVALS;
 /// Largest number of the coordinator's record and memory.
 pub const MAX_NUMBER: u64 = 100_000_000_000;
 
+/// Numbers of the coordinator's record, its phase being five of them.
+pub const COORDINATOR_NUMBERS: usize = 10;
+
 /// What the coordinator is waiting for: document 01's phase.
 #[derive(Clone, Copy, Debug, PartialEq, Eq)]
 pub enum Phase {
@@ -47,14 +50,14 @@ impl CoordinatorRecord {
     };
 
     /// Total, base, threshold, signals, class, then the phase as five numbers.
-    pub fn to_numbers(self) -> [u64; 10] {
+    pub fn to_numbers(self) -> [u64; COORDINATOR_NUMBERS] {
         let [phase, site, low, high, sum] = self.phase.to_numbers();
         let quantile = self.quantile;
         [self.total, self.base, self.threshold, self.signals, quantile, phase, site, low, high, sum]
     }
 
     /// The record of these plain numbers, or `None` where the phase is no phase.
-    pub fn from_numbers(numbers: [u64; 10]) -> Option<CoordinatorRecord> {
+    pub fn from_numbers(numbers: [u64; COORDINATOR_NUMBERS]) -> Option<CoordinatorRecord> {
         let [total, base, threshold, signals, quantile, phase, site, low, high, sum] = numbers;
         let phase = Phase::from_numbers([phase, site, low, high, sum])?;
         Some(CoordinatorRecord { total, base, threshold, signals, quantile, phase })

@@ -67,19 +67,41 @@ pub fn call_refusal(
     if refusal != refusal::ACCEPTED {
         return refusal;
     }
-    let site_memory_short = site_memory.len() < settings.sites_memory_len();
-    if site_memory_short || coordinator_memory.len() < settings.coordinator_memory_len() {
+    if memory_short(settings, site_memory.len(), coordinator_memory.len()) {
         return refusal::SHORT_MEMORY;
     }
-    let inconsistent = sites.messages > MAX_MESSAGES
-        || coordinator::inconsistent(settings, coordinator, coordinator_memory)
-        || sites_inconsistent(settings, sites, site_memory)
-        || not_at_rest(settings, sites, coordinator);
-    if inconsistent {
+    if inconsistent(settings, sites, site_memory, coordinator, coordinator_memory)
+        || not_at_rest(settings, sites, coordinator)
+    {
         refusal::INCONSISTENT
     } else {
         refusal::ACCEPTED
     }
+}
+
+/// Whether memory of so many numbers, the sites' and the coordinator's, is too
+/// short for a network with these settings.
+pub(crate) fn memory_short(settings: &Settings, of_sites: usize, of_coordinator: usize) -> bool {
+    of_sites < settings.sites_memory_len() || of_coordinator < settings.coordinator_memory_len()
+}
+
+/// Whether a network is inconsistent wherever its messages stand: each part by
+/// itself, and the count. The settings pass and the memory is long enough.
+pub(crate) fn inconsistent(
+    settings: &Settings,
+    sites: &Sites,
+    site_memory: &[u32],
+    coordinator: &CoordinatorRecord,
+    coordinator_memory: &[u64],
+) -> bool {
+    count_inconsistent(sites.messages)
+        || coordinator::inconsistent(settings, coordinator, coordinator_memory)
+        || sites_inconsistent(settings, sites, site_memory)
+}
+
+/// Whether a network cannot have counted so many messages.
+pub(crate) fn count_inconsistent(messages: u64) -> bool {
+    messages > MAX_MESSAGES
 }
 
 /// Whether one of the first k sites is inconsistent by itself.

@@ -1,4 +1,4 @@
-//! The refusal numbers of document 01's table "Refused".
+//! The refusal numbers of document 01's table "Refused" and of the requests.
 
 /// Nothing was refused.
 pub const ACCEPTED: u8 = 0;
@@ -30,6 +30,11 @@ pub const SHORT_LIST: u8 = 12;
 pub const MALFORMED_LINE: u8 = 13;
 /// The log lacks the free records that one draw may need.
 pub const SHORT_LOG: u8 = 14;
+/// A file is too short for settings and trailer, or of an unknown width, or it
+/// is not laid out as its settings ask (request N3).
+pub const MALFORMED_FILE: u8 = 15;
+/// A file's sum is not the one its trailer gives (request N3).
+pub const SUM_DIFFERS: u8 = 16;
 
 /// The first refusal of two tests. The second is made only where the first
 /// refuses nothing, since it may rely on that.

@@ -21,6 +21,9 @@ pub const MAX_VALUE: u32 = 1023;
 /// Numbers that one counter takes in a site's memory.
 pub const COUNTER_NUMBERS: usize = 4;
 
+/// Numbers of the settings.
+pub const SETTINGS_NUMBERS: usize = 6;
+
 /// The threshold is epsilon × base / (this × sites).
 const THRESHOLD_DIVISOR: u128 = 3000;
 /// The allowance is this × sites × (digits + 1) / epsilon.
@@ -44,10 +47,19 @@ pub struct Settings {
 }
 
 impl Settings {
+    /// All numbers 0: no settings.
+    pub const ZERO: Settings =
+        Settings { sites: 0, epsilon: 0, phi: 0, rank: 0, capacity: 0, universe: 0 };
+
     /// The settings from k, e, p, q, c, u.
-    pub fn from_numbers(numbers: [u32; 6]) -> Settings {
+    pub fn from_numbers(numbers: [u32; SETTINGS_NUMBERS]) -> Settings {
         let [sites, epsilon, phi, rank, capacity, universe] = numbers;
         Settings { sites, epsilon, phi, rank, capacity, universe }
+    }
+
+    /// k, e, p, q, c, u.
+    pub fn to_numbers(self) -> [u32; SETTINGS_NUMBERS] {
+        [self.sites, self.epsilon, self.phi, self.rank, self.capacity, self.universe]
     }
 
     /// Numbers of one site's memory that precede its histogram.

@@ -8,6 +8,7 @@
 
 pub mod batch;
 pub mod delivery;
+pub mod snapshot;
 pub mod whole;
 
 use boundary::{COORDINATOR_NUMBERS, SITES_NUMBERS, SITE_NUMBERS};
@@ -26,13 +27,13 @@ const JUNK: u64 = 77;
 /// of the coordinator with a number that four bytes don't hold.
 pub struct Both {
     pub calls: u64,
-    pub refusals: [u64; 15],
+    pub refusals: [u64; 17],
     pub wide: u64,
 }
 
 impl Both {
     pub fn new() -> Both {
-        Both { calls: 0, refusals: [0; 15], wide: 0 }
+        Both { calls: 0, refusals: [0; 17], wide: 0 }
     }
 
     /// Fails unless there were so many calls, with each of these refusals met often enough.

@@ -5,10 +5,14 @@
 #![allow(dead_code)]
 
 pub mod account;
+pub mod causes;
 pub mod defects;
 pub mod firm;
 pub mod full;
+pub mod never_arose;
 pub mod plain;
+pub mod saved;
+pub mod sha256;
 pub mod streams;
 pub mod touches;
 pub mod truth;

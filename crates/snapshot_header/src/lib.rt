@@ -48,7 +48,10 @@ pub fn sum_wrong(file: &[u8]) -> bool
     ensures { λ r. ⌜ r ≡ not (eqb (byteSum (unsummed (before file))) (sumIn (before file))) ⌝ }
 {
     let last = file.len() - SUM_BYTES;
-    byte_sum(&file[..last]) != read_number(file, last, SUM_BYTES)
+    if byte_sum(&file[..last]) == read_number(file, last, SUM_BYTES) {
+        return false;
+    }
+    true
 }
 
 // The settings, each number narrowed.
@@ -106,8 +109,8 @@ pub fn layout_wrong(settings: Settings, file: &[u8]) -> bool
         return true;
     }
     let row = desk_row(settings, file);
-    if phase_well(row[5], row[6], row[7], row[8], row[9]) {
-        return false;
+    if !phase_well(row[5], row[6], row[7], row[8], row[9]) {
+        return true;
     }
-    true
+    false
 }

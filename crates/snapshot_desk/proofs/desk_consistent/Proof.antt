@@ -6,6 +6,7 @@ use borrow.Author.Needs.{needs}
 use borrow.Author.Tests.{eq-eqb, ne-eqb}
 use Rattle.model.specs.declared.CoordinatorRecord.{CoordinatorRecord}
 use Rattle.model.specs.CoordinatorMemory.{coordinatorIn, coordinatorConsistent}
+use Rattle.model.specs.Settings.{thresholdOf}
 use Rattle.record_numbers.specs.Numbers.{coordinatorRead}
 use Rattle.coordinator_memory.proofs.ConsistencyLaws.{consistent-parts, record-facts}
 use Rattle.coordinator_steps.proofs.StepLaws.{settings-fit}
@@ -50,13 +51,15 @@ returns c =
     let at-record = limits .before in
     let read = at-record .before .before in
     let a = read .before .before .before .before .args in
+    let coordinator = read .coordinator-from .result in
+    let equal : coordinator .threshold ≡ thresholdOf (a .settings) (coordinator .base) =
+    same .if2 .taken ∙ limits .threshold-of .ensures in
     sym
     (sym (told read)
-    ∙ consistent-parts (a .settings) (read .coordinator-from .result)
-    (deskMemory (a .settings) (a .file .now))
+    ∙ consistent-parts (a .settings) coordinator (deskMemory (a .settings) (a .file .now))
     ∙ rw (
       sym (at-record .before .record-consistent .ensures) ∙ at-record .if1 .taken,
-      eq-eqb _ _ (same .if2 .taken ∙ limits .threshold-of .ensures),
+      eq-eqb _ _ equal,
     )
     (sym (c .memory-consistent .ensures)))
 

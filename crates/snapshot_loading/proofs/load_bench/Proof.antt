@@ -1,9 +1,9 @@
 -- Refused, or stored part by part.
 use mathlib.Core.Path.{_≡_}
+use native.Mathlib.Omega.{arith}
 use lib.ListN.{length}
 use borrow.Author.Needs.{needs}
 use Rattle.model.specs.Refusals.{noRefusal}
-use Rattle.model.proofs.Thresholds.RefusalLaws.{told}
 use Rattle.snapshot_file.specs.Reading.{loadRefusal}
 use Rattle.snapshot_file.proofs.ReadLaws.{accepted-of}
 use Rattle.snapshot_header.specs.Header.{WholeFile}
@@ -17,14 +17,14 @@ returns c =
     let a = tested .before .before .before .before .args in
     refused-says (a .file .now) (a .site-memory .now) (a .coordinator-memory .now)
     (tested .load-refusal .result) (c .refused .result) (tested .load-refusal .ensures)
-    (c .before .if1 .taken) (c .refused .ensures)
+    (λ none. omega (arith, none, c .before .if1 .taken)) (c .refused .ensures)
 
 -- The file is accepted.
 accepts : (c : tie.Else1)
     → let a = c .before .before .before .before .before .args in
     loadRefusal (a .file .now) (length (a .site-memory .now)) (length (a .coordinator-memory .now))
     ≡ noRefusal
-accepts c = told (c .before .load-refusal .ensures) (c .if1 .left)
+accepts c = omega (arith, c .if1 .left, c .before .load-refusal .ensures)
 
 settings-in-requires : tie.Need-settings-in-requires
 settings-in-requires c κs =

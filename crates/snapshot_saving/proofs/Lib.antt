@@ -1,3 +1,2 @@
--- Laws of the parts of a file, written one after another.
-pub mod SavingLaws
+-- The laws of a file that is written part by part.
 pub mod FileLaws

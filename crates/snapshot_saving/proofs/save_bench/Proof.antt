@@ -16,7 +16,7 @@ use Rattle.snapshot_file.specs.Layout.{deskBytes, deskPlace, decksPlace}
 use Rattle.snapshot_file.specs.File.{deskNumbers, deckSections}
 use Rattle.snapshot_file.proofs.LayoutLaws.{Long, length-of-decks}
 use Rattle.snapshot_file.proofs.FitLaws.{Passed, passed-of}
-use Rattle.snapshot_saving.specs.Saving.{TrailerAsks, trailerPlace, trailerOver}
+use Rattle.snapshot_writing.specs.Parts.{TrailerAsks, trailerPlace, trailerOver}
 use Rattle.snapshot_saving.proofs.FileLaws.{file-written}
 use Rattle.snapshot_saving.proofs.save_bench.Statement.{statement}
 use Rattle.snapshot_saving.proofs.save_bench.Tie as tie

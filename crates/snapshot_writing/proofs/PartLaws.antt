@@ -1,4 +1,4 @@
--- The parts of a file written one after another.
+-- The pieces of the desk part and the decks, written one after another.
 --
 --   numbers-append, numbers-written     numbers after numbers, as bytes, and written
 --   desk-fits, desk-written             the desk part fits; its three pieces
@@ -30,7 +30,7 @@ use Rattle.snapshot_file.specs.Layout.{deckBytes, deskPlace, decksPlace}
 use Rattle.snapshot_file.specs.File.{deckNumbers, deckSections}
 use Rattle.snapshot_file.specs.Reading.{deckSize}
 use Rattle.snapshot_file.proofs.LayoutLaws.{length-deck, length-of-decks}
-use Rattle.snapshot_saving.specs.Saving.{deskRow, TrailerAsks, DecksAsk}
+use Rattle.snapshot_writing.specs.Parts.{deskRow, TrailerAsks, DecksAsk}
 
 -- ---- Numbers after numbers
 

@@ -1,2 +1,2 @@
 -- What the writing parts of saving a bench require.
-pub mod Saving
+pub mod Parts

@@ -1,4 +1,4 @@
--- `snapshot_saving::write_decks` meets its contract. The invariant: the decks before j are written.
+-- The decks before j are written, at each turn.
 use mathlib.Core.Path.{_≡_, sym, _∙_}
 use Prim.Native.Nat.{_+_, _-_, _*_, _≤_}
 use native.Mathlib.Omega.{arith}
@@ -12,9 +12,9 @@ use Rattle.bench_memory.specs.Contracts.{SitesFit}
 use Rattle.bench_memory.proofs.PartLaws.{PartStarts, site-few, starts-at, own-is, part-fits}
 use Rattle.snapshot_file.specs.Layout.{deckBytes}
 use Rattle.snapshot_file.specs.File.{deckNumbers}
-use Rattle.snapshot_saving.proofs.SavingLaws.{deck-inside, Written, written-none, written-more, written-all}
-use Rattle.snapshot_saving.proofs.write_decks.Statement.{statement}
-use Rattle.snapshot_saving.proofs.write_decks.Tie as tie
+use Rattle.snapshot_writing.proofs.PartLaws.{deck-inside, Written, written-none, written-more, written-all}
+use Rattle.snapshot_writing.proofs.write_decks.Statement.{statement}
+use Rattle.snapshot_writing.proofs.write_decks.Tie as tie
 
 abbrev Inv-loop : tie.InvT-loop
 Inv-loop settings memory bytes₀ sites count words size first j₀ bytes j =

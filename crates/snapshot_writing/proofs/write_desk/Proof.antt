@@ -10,9 +10,9 @@ use Rattle.model.specs.CoordinatorMemory.{coordinatorWords}
 use Rattle.model.proofs.BetweenArrivals.ReportLaws.{valueCount-is}
 use Rattle.little_endian.specs.Numbers.{littleEndian, numbersBytes}
 use Rattle.snapshot_file.specs.Layout.{deskPlace}
-use Rattle.snapshot_saving.proofs.SavingLaws.{desk-fits, desk-written}
-use Rattle.snapshot_saving.proofs.write_desk.Statement.{statement}
-use Rattle.snapshot_saving.proofs.write_desk.Tie as tie
+use Rattle.snapshot_writing.proofs.PartLaws.{desk-fits, desk-written}
+use Rattle.snapshot_writing.proofs.write_desk.Statement.{statement}
+use Rattle.snapshot_writing.proofs.write_desk.Tie as tie
 
 -- The words that the code counts.
 abbrev counted : tie.Start → ℕ

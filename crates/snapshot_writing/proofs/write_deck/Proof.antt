@@ -9,9 +9,9 @@ use borrow.Author.Needs.{needs}
 use Rattle.laws.specs.Writing.{writtenAt}
 use Rattle.record_numbers.specs.Numbers.{siteNumbers}
 use Rattle.little_endian.specs.Numbers.{numbersBytes}
-use Rattle.snapshot_saving.proofs.SavingLaws.{numbers-written}
-use Rattle.snapshot_saving.proofs.write_deck.Statement.{statement}
-use Rattle.snapshot_saving.proofs.write_deck.Tie as tie
+use Rattle.snapshot_writing.proofs.PartLaws.{numbers-written}
+use Rattle.snapshot_writing.proofs.write_deck.Statement.{statement}
+use Rattle.snapshot_writing.proofs.write_deck.Tie as tie
 
 -- The memory has as many numbers as the code counted.
 long : (c : tie.After-site-words)

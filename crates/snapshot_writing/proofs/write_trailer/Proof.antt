@@ -11,9 +11,9 @@ use Rattle.little_endian.specs.Numbers.{littleEndian}
 use Rattle.checksum.specs.Sums.{byteSum}
 use Rattle.snapshot_file.specs.Layout.{deckBytes}
 use Rattle.snapshot_file.proofs.LayoutLaws.{length-of-decks}
-use Rattle.snapshot_saving.proofs.FileLaws.{tenOver, trailer-written}
-use Rattle.snapshot_saving.proofs.write_trailer.Statement.{statement}
-use Rattle.snapshot_saving.proofs.write_trailer.Tie as tie
+use Rattle.snapshot_writing.proofs.TrailerLaws.{tenOver, trailer-written}
+use Rattle.snapshot_writing.proofs.write_trailer.Statement.{statement}
+use Rattle.snapshot_writing.proofs.write_trailer.Tie as tie
 
 slice-aggregate-byte-sum : tie.Need-slice-aggregate-byte-sum
 slice-aggregate-byte-sum c =

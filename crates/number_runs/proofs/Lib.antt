@@ -1,0 +1,2 @@
+-- Laws of numbers one after another as bytes.
+pub mod RunLaws

@@ -97,9 +97,9 @@ pub extern "C" fn tracker_desk_announcement(
         coordinator_from(desk),
         memory,
     );
-    let next = received.coordinator;
+    let announcing = received.coordinator;
     let sent = received.out;
-    hand_coordinator(received.refusal, next, desk);
+    hand_coordinator(received.refusal, announcing, desk);
     hand_one(received.refusal, sent, out);
     received.refusal
 }

@@ -2,13 +2,15 @@
 use borrow.Author.Tests.{le-leb, lt-leb}
 use lib.Dec.{leb}
 use mathlib.Core.Path.{ap}
-use Prim.Native.Nat.{ℕ, _*_}
+use Prim.Native.Nat.{ℕ, _*_, _≤_, _<_}
 use borrow.Author.Needs.{needs}
 use Rattle.coordinator_list.proofs.is_listed.Statement.{statement}
 use Rattle.coordinator_list.proofs.is_listed.Tie as tie
 
 returns : tie.Need-returns
-returns c = rw (lt-leb _ _ (c .if1 .taken))
+returns c =
+    let none : c .before .args .total < 1 = c .if1 .taken in
+    rw (lt-leb _ _ none)
 
 side-needed-requires : tie.Need-side-needed-requires
 side-needed-requires c κs = search needs
@@ -18,8 +20,10 @@ mul-result c = search needs
 
 returns-2 : tie.Need-returns-2
 returns-2 c =
-    rw (le-leb _ _ (c .before .if1 .left))
-    (ap (λ (needed : ℕ). leb needed (2000 * c .before .before .args .number))
+    let a = c .before .before .args in
+    let some : 1 ≤ a .total = c .before .if1 .left in
+    rw (le-leb _ _ some)
+    (ap (λ (needed : ℕ). leb needed (2000 * a .number))
     (c .side-needed .ensures))
 
 pub is-listed-spec : {M : Type 1} → statement M

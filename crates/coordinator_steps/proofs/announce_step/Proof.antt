@@ -1,5 +1,6 @@
 -- By phase: out of announcing the step leaves all as it is; else the site after this one, if there
 -- is one, decides.
+use Prim.Native.Nat.{_+_, _≤_, _<_}
 use native.Mathlib.Omega.{arith}
 use borrow.Author.Tests.{lt-ltb, le-ltb}
 use borrow.Author.Needs.{needs}
@@ -25,11 +26,10 @@ add-if1 c =
 
 returns : tie.Need-returns
 returns c = λ memory.
-    rw (
-      c .before .before .before .before .before .phase .given .1,
-      lt-ltb _ _
-          (c .before .if1 .taken),
-    )
+    let phase = c .before .before .before .before .before .phase .given in
+    let settings = c .before .before .before .before .before .before .before .args .settings in
+    let more : phase .0 .0 + 1 < settings .sites = c .before .if1 .taken in
+    rw (phase .1, lt-ltb _ _ more)
     (rw (c .before .before .before .announcement-of .ensures) at (c .speak .ensures))
 
 returns-2 : tie.Need-returns-2
@@ -49,11 +49,10 @@ returns-4 c = λ memory.
 
 returns-5 : tie.Need-returns-5
 returns-5 c = λ memory.
-    rw (
-      c .before .before .before .before .before .phase .given .1,
-      le-ltb _ _
-          (c .before .if1 .left),
-    )
+    let phase = c .before .before .before .before .before .phase .given in
+    let settings = c .before .before .before .before .before .before .before .args .settings in
+    let last : settings .sites ≤ phase .0 .0 + 1 = c .before .if1 .left in
+    rw (phase .1, le-ltb _ _ last)
     (rw (c .before .before .before .announcement-of .ensures) at (c .speak2 .ensures))
 
 pub announce-step-spec : {M : Type 1} → statement M

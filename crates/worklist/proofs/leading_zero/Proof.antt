@@ -1,5 +1,5 @@
 -- A leading zero: a 0, and a digit right after it.
-use mathlib.Core.Path.{sym, _∙_}
+use mathlib.Core.Path.{_≡_, sym, _∙_}
 use borrow.Author.Tests.{eq-eqb, ne-eqb}
 use Rattle.worklist.proofs.ReadingLaws.{leading-zero-at, leading-zero-past}
 use borrow.Author.Needs.{needs}
@@ -18,13 +18,15 @@ is-digit-requires c κs = search needs
 returns-2 : tie.Need-returns-2
 returns-2 c =
     let here = c .before .before .before in
-    c .is-digit .ensures
-    ∙ sym
-    (leading-zero-at _ _ _ (here .if1 .left) ∙ rw (eq-eqb _ _ (c .before .before .if2 .taken)))
+    let first = here .before .before .args .first in
+    let zero : first ≡ 48 = c .before .before .if2 .taken in
+    c .is-digit .ensures ∙ sym (leading-zero-at _ _ _ (here .if1 .left) ∙ rw (eq-eqb first 48 zero))
 
 returns-3 : tie.Need-returns-3
 returns-3 c =
-    sym (leading-zero-at _ _ _ (c .before .if1 .left) ∙ rw (ne-eqb _ _ (c .if2 .left)))
+    let first = c .before .before .before .args .first in
+    let other : first ≡ 48 → ⊥ = c .if2 .left in
+    sym (leading-zero-at _ _ _ (c .before .if1 .left) ∙ rw (ne-eqb first 48 other))
 
 pub leading-zero-spec : {M : Type 1} → statement M
 leading-zero-spec =

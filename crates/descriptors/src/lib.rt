@@ -1,5 +1,5 @@
 // Reading and writing descriptors to the end. A call that a signal interrupted is made again; any
-// other failure ends it. One of the three libraries that stand on the kit's io, os or libc, for the
+// other failure ends it. One of the four libraries that stand on the kit's io, os or libc, for the
 // program's run (`drawtrack_run`): the contracts of the C functions that read and write are
 // assumed, and speak of how many bytes were moved and of no byte.
 

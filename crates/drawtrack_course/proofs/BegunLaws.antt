@@ -31,11 +31,12 @@ use Rattle.history.proofs.Invariant.{StateOk, Resting, rest-of-standing}
 use Rattle.history.proofs.StartedState.{start-ok}
 use Rattle.drawtrack_steps.specs.declared.Moved.{Moved}
 use Rattle.drawtrack_steps.specs.Outcome.{Buffers, Outcome, refusedOf}
-use Rattle.drawtrack_session.specs.Limits.{siteRoom, coordinatorRoom}
+use Rattle.drawtrack_start.specs.Limits.{siteRoom, coordinatorRoom}
 use Rattle.drawtrack_course.specs.Rooms.{outRoom}
 use Rattle.drawtrack_session.specs.Begin.{beginRefusalOf, freshSession, firstSession, startedOf, beginOf, BeginSays}
 use Rattle.drawtrack_course.specs.Course.{Represents, beginRefusal, BeginRight}
-use Rattle.drawtrack_session.proofs.BeginLaws.{Served, served, sites-start, coordinator-start}
+use Rattle.drawtrack_start.proofs.StartLaws.{Served, served}
+use Rattle.drawtrack_session.proofs.BeginLaws.{sites-start, coordinator-start}
 use Rattle.drawtrack_course.proofs.RefusalLaws.{begin-small, refused-line}
 
 -- ---- Behind the settings line

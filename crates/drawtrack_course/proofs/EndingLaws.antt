@@ -25,7 +25,7 @@ use Rattle.model.proofs.Worklists.TranscriptLaws.{lengthRefusal, refusal-some, 
 use Rattle.output_transcript.proofs.LineBounds.{message-lines-append}
 use Rattle.drawtrack_steps.specs.declared.Session.{Session}
 use Rattle.output_reason.specs.Reason.{firstLine}
-use Rattle.drawtrack_session.specs.Begin.{startLine}
+use Rattle.drawtrack_start.specs.Start.{startLine}
 use Rattle.drawtrack_course.specs.Ending.{endingAt, endingFrom, endingWith, endingOf, ending, Ending, Front, Last, EndsInResults, EndsAs}
 use Rattle.drawtrack_course.proofs.Standing.{ahead, Stands}
 

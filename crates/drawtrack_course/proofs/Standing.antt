@@ -19,7 +19,7 @@ use Rattle.drawtrack_steps.specs.declared.Moved.{Moved}
 use Rattle.drawtrack_steps.specs.Outcome.{Buffers}
 use Rattle.drawtrack_course.specs.Course.{Represents, beginRefusal, beginPiece, BeginRight}
 use Rattle.output_reason.specs.Reason.{firstLine}
-use Rattle.drawtrack_session.specs.Begin.{startLine}
+use Rattle.drawtrack_start.specs.Start.{startLine}
 use Rattle.drawtrack_course.specs.Ending.{endingAt, endingLine, endingFrom, endingWith, ending}
 
 -- ---- Where a course stands

@@ -12,7 +12,7 @@ use Rattle.worklist_reader.specs.Walk.{lastLine, stepAt}
 use Rattle.drawtrack_steps.specs.declared.Session.{Session}
 use Rattle.drawtrack_steps.specs.declared.Moved.{Moved}
 use Rattle.drawtrack_steps.specs.Outcome.{Buffers, stopped}
-use Rattle.drawtrack_session.specs.Limits.{siteRoom, coordinatorRoom}
+use Rattle.drawtrack_start.specs.Limits.{siteRoom, coordinatorRoom}
 use Rattle.drawtrack_course.specs.Rooms.{outRoom, inputRoom}
 use Rattle.drawtrack_session.specs.Begin.{firstSession, BeginSays}
 use Rattle.drawtrack_session.specs.Advance.{AdvanceSays}

@@ -33,7 +33,7 @@ use Rattle.worklist_reader.specs.Contracts.{lineRefusal, settingsIn, bytesAfter
 use Rattle.drawtrack_steps.specs.declared.Session.{Session}
 use Rattle.drawtrack_steps.specs.declared.Moved.{Moved}
 use Rattle.drawtrack_steps.specs.Outcome.{Buffers, heldOf}
-use Rattle.drawtrack_session.specs.Limits.{programSites, programUniverse, siteRoom, coordinatorRoom}
+use Rattle.drawtrack_start.specs.Limits.{programSites, programUniverse, siteRoom, coordinatorRoom}
 use Rattle.drawtrack_course.specs.Rooms.{logRoom, listRoom, outRoom}
 use Rattle.drawtrack_session.specs.Begin.{BeginSays}
 use Rattle.drawtrack_session.specs.Advance.{AdvanceSays}

@@ -17,7 +17,7 @@ use Rattle.model.specs.Lines.{Fields, malformed, fields, readFields, settingsOf
 use Rattle.model.specs.Runs.{Run, freshRun, runOne, lineRefusalIn}
 use Rattle.model.specs.Transcript.{refusedLine, resultLines, programRefusal}
 use Rattle.output_reason.specs.Reason.{settingsLine, firstLine}
-use Rattle.drawtrack_session.specs.Begin.{startLine}
+use Rattle.drawtrack_start.specs.Start.{startLine}
 
 pub record Ending : Type 0 where
   pub refusal : ℕ

@@ -7,7 +7,7 @@ use Prim.Native.Nat.{ℕ, _+_, _*_}
 use Rattle.model.specs.Limits.{mostMessages}
 use Rattle.model.specs.Settings.{settingsWith}
 use Rattle.model.specs.Messages.{messageWidth}
-use Rattle.drawtrack_session.specs.Limits.{programUniverse, programBytes, programSettings}
+use Rattle.drawtrack_start.specs.Limits.{programUniverse, programBytes, programSettings}
 
 -- The numbers of each message that may follow one draw, and a place for each item.
 abbrev pub logRoom : ℕ

@@ -1,2 +1,2 @@
--- The responses to an input.
-pub mod RespondLaws
+-- The answer of the run.
+pub mod RunLaws

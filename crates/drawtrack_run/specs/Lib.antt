@@ -1,2 +1,2 @@
--- What the run promises: of its response, and of its answer.
-pub mod Responding
+-- What the run promises of its answer.
+pub mod Running

@@ -1,45 +1,29 @@
 // The run of the program `drawtrack`: it reads its input to the end, or as many bytes of it as
 // matter, writes to standard output what the calls of a session write, and says on standard error
-// where and why the input is refused, or what failed. It and the two below it (`descriptors`,
-// `drawtrack_serving`) stand on the kit's io, os and libc: the contracts of the C functions that
-// read and write are assumed, and speak of how many bytes were moved and of no byte. So what is
-// proved is what the run makes of the bytes that it read: what there is to hand out, the status and
-// the reason. That these bytes come from the descriptor, that what is handed out arrives, and that
-// a failure is noticed, is tested (tests/program): a run whose writes were lost would still be
-// proved.
+// where and why the input is refused, or what failed. It and the three below it (`descriptors`,
+// `drawtrack_serving`, `drawtrack_response`) stand on the kit's io, os and libc: the contracts of
+// the C functions that read and write are assumed, and speak of how many bytes were moved and of no
+// byte. So what is proved is what the run makes of the bytes that it read: what there is to hand
+// out, the status and the reason. That these bytes come from the descriptor, that what is handed
+// out arrives, and that a failure is noticed, is tested (tests/program): a run whose writes were
+// lost would still be proved.
 
-ghost use Rattle.model.specs.Lent.{before, after};
-ghost use Rattle.drawtrack_steps.specs.Outcome.{buffers};
+ghost use Rattle.model.specs.Lent.{after};
 ghost use Rattle.descriptors.specs.Descriptors.{ReadAllSays};
-ghost use Rattle.drawtrack_run.specs.Responding.{RespondAsks, RespondSays, RunSays};
+ghost use Rattle.drawtrack_run.specs.Running.{RunSays};
 use descriptors::Read;
 use descriptors::read_all;
 use descriptors::write_all;
-use drawtrack_serving::serve;
-use drawtrack_session::SESSION_COORDINATOR_NUMBERS;
-use drawtrack_session::SESSION_INPUT_BYTES;
-use drawtrack_session::SESSION_LIST_PLACES;
-use drawtrack_session::SESSION_LOG_NUMBERS;
-use drawtrack_session::SESSION_OUT_BYTES;
-use drawtrack_session::SESSION_SITE_NUMBERS;
+use drawtrack_response::respond;
+use drawtrack_start::SESSION_COORDINATOR_NUMBERS;
+use drawtrack_start::SESSION_INPUT_BYTES;
+use drawtrack_start::SESSION_LIST_PLACES;
+use drawtrack_start::SESSION_LOG_NUMBERS;
+use drawtrack_start::SESSION_OUT_BYTES;
+use drawtrack_start::SESSION_SITE_NUMBERS;
 use libc::STDERR_FILENO;
-use model::NO_REFUSAL;
 use model::Word;
 use output_reason::REASON_BYTES;
-
-// What the run answers: results, a refusal, or that reading or writing failed.
-pub const STATUS_RESULTS: u32 = 0;
-
-pub const STATUS_REFUSED: u32 = 1;
-
-pub const STATUS_FAILED: u32 = 2;
-
-// What the run answers, whether anything failed, and how many bytes of the reason it wrote.
-pub struct Response {
-    pub failed: bool,
-    pub status: u32,
-    pub said: usize,
-}
 
 // Reads the input; where that fails says so.
 fn take_in(input: i32, bytes: &mut [u8]) -> Read
@@ -51,52 +35,6 @@ fn take_in(input: i32, bytes: &mut [u8]) -> Read
     }
     os::fail(b"drawtrack: input failed");
     read
-}
-
-// The response to an input, if all of it was read: the session's calls, handed out, and the reason
-// of a refusal in the lent bytes. An input that was not read to its end gives no results: nothing
-// is handed out, and all that was lent is as it was.
-fn respond(
-    read: bool,
-    input: &[u8],
-    site_memory: &mut [Word],
-    coordinator_memory: &mut [u64],
-    log: &mut [u64],
-    list: &mut [u32],
-    out: &mut [u8],
-    reason: &mut [u8],
-) -> Response
-    requires { ⌜ RespondAsks (now input) (buffers (now «site_memory») (now «coordinator_memory»)
-        (now log)
-        (now list) (now out)) (now reason) ⌝ }
-    ensures { λ r. ⌜ RespondSays read (before input)
-        (buffers (before «site_memory») (before «coordinator_memory») (before log)
-        (before list) (before out)) (buffers (after «site_memory»)
-        (after «coordinator_memory») (after log) (after list) (after out))
-        (before reason) (after reason) r ⌝ }
-{
-    if read {
-        let ended = serve(input, site_memory, coordinator_memory, log, list, out);
-        if ended.taken {
-            if ended.refusal == NO_REFUSAL {
-                return Response {
-                    failed: false,
-                    status: STATUS_RESULTS,
-                    said: 0,
-                };
-            }
-            return Response {
-                failed: false,
-                status: STATUS_REFUSED,
-                said: output_reason::write_reason(ended.line, ended.refusal, reason),
-            };
-        }
-    }
-    Response {
-        failed: true,
-        status: STATUS_FAILED,
-        said: 0,
-    }
 }
 
 // Runs `drawtrack` on a descriptor that is open for reading: the memory for the program's limits,

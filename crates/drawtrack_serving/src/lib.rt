@@ -3,25 +3,16 @@
 // handed out arrives, and that a failure is noticed, is tested and not proved.
 
 ghost use Rattle.model.specs.Lent.{before, after};
-ghost use mathlib.Core.Path.{_≡_};
 ghost use Prim.Native.Nat.{_≤_};
 ghost use lib.ListN.{length};
 ghost use Rattle.drawtrack_steps.specs.Outcome.{buffers};
-ghost use Rattle.drawtrack_course.specs.Rooms.{inputRoom};
-ghost use Rattle.drawtrack_serving.specs.Serving.{ServeAsks, ServeSays, stoppedOf};
+ghost use Rattle.drawtrack_turns.specs.Serving.{ServeAsks, ServeSays};
 use descriptors::write_all;
-use drawtrack_session::SESSION_INPUT_BYTES;
-use drawtrack_steps::Session;
+use drawtrack_start::SESSION_INPUT_BYTES;
+use drawtrack_turns::Stopped;
+use drawtrack_turns::stopped_at;
 use libc::STDOUT_FILENO;
 use model::Word;
-
-// What came of the calls of a session: whether every write was taken, the refusal or 0, and the
-// line of the input at which it ended.
-pub struct Stopped {
-    pub taken: bool,
-    pub refusal: u32,
-    pub line: usize,
-}
 
 // Writes the bytes that a call wrote to standard output; where that fails says so, and answers
 // false.
@@ -33,26 +24,6 @@ fn hand_out(written: usize, out: &[u8]) -> bool
     }
     os::fail(b"drawtrack: output failed");
     false
-}
-
-// What came of a session that stopped after so many calls of `advance`.
-fn stopped_at(taken: bool, session: Session, turns: usize) -> Stopped
-    requires { ⌜ turns ≤ inputRoom ⌝ }
-    ensures { λ r. ⌜ r ≡ stoppedOf taken session turns ⌝ }
-{
-    if turns == 0 {
-        let settings = session.settings;
-        return Stopped {
-            taken: taken,
-            refusal: session.refusal,
-            line: drawtrack_session::start_line(settings, session.refusal),
-        };
-    }
-    Stopped {
-        taken: taken,
-        refusal: session.refusal,
-        line: turns + 1,
-    }
 }
 
 // A call for each line, until the session has ended or a write was not taken; what each wrote is

@@ -1,28 +1,22 @@
 -- The call `begin` does what its definition says.
 --
---   Served, served                    what the tests of a start leave: all within the limits
+--   sites-start, coordinator-start    within the program's limits the start calls are accepted
 --   begin-refused, begin-started      the two answers
 use mathlib.Core.Path.{_≡_, sym, ap, _∙_}
-use mathlib.Core.Bool.{_||_}
 use mathlib.Core.List.{List}
 use Prim.Native.Nat.{ℕ, _-_, _≤_}
 use native.Mathlib.Nat.{mul-le-mul}
 use native.Mathlib.Omega.{arith}
-use lib.Dec.{ltb}
 use lib.ListN.{length, length-drop}
-use borrow.Author.Tests.{eq-eqb, ne-eqb, le-ltb, ltb-false}
-use Rattle.laws.proofs.Tests.{neither-of-or}
+use borrow.Author.Tests.{eq-eqb, ne-eqb, le-ltb}
 use Rattle.model.specs.declared.Settings.{Settings}
-use Rattle.model.specs.Refusals.{noRefusal, memoryTooShort}
-use Rattle.model.specs.Settings.{settingsRefusal}
+use Rattle.model.specs.Refusals.{noRefusal}
 use Rattle.model.specs.SiteMemory.{siteWords}
 use Rattle.model.specs.Coordinator.{freshCoordinator}
 use Rattle.model.specs.CoordinatorMemory.{coordinatorWords, coordinatorMemory}
 use Rattle.model.specs.NetworkMemory.{sitesWords}
 use Rattle.model.specs.Lines.{Fields, readFields}
-use Rattle.model.proofs.Thresholds.RefusalLaws.{both-accepted, passed}
 use Rattle.model.proofs.BetweenArrivals.ReportLaws.{valueCount-is}
-use Rattle.model.specs.Transcript.{beyondProgram}
 use Rattle.worklist_reader.specs.declared.SettingsRead.{SettingsRead}
 use Rattle.worklist_reader.specs.Contracts.{SettingsSays, bytesAfter}
 use Rattle.site_start.specs.declared.StartedSites.{StartedSites}
@@ -32,46 +26,14 @@ use Rattle.coordinator.specs.Calls as CoordinatorCalls
 use Rattle.drawtrack_steps.specs.declared.Session.{Session}
 use Rattle.drawtrack_steps.specs.declared.Moved.{Moved}
 use Rattle.drawtrack_steps.specs.Outcome.{Buffers, buffers, withOut, outcome, RefuseSays, refusedOf}
-use Rattle.drawtrack_session.specs.Limits.{programSites, programCapacity, programUniverse, siteRoom, coordinatorRoom}
-use Rattle.drawtrack_session.specs.Begin.{shorterThanLimits, startRefusalOf, beginRefusalOf, freshSession, firstSession, startedOf, beginOf}
+use Rattle.drawtrack_start.specs.Limits.{siteRoom}
+use Rattle.drawtrack_start.specs.Start.{startRefusalOf}
+use Rattle.drawtrack_start.proofs.StartLaws.{Served, served}
+use Rattle.drawtrack_session.specs.Begin.{beginRefusalOf, freshSession, firstSession, startedOf, beginOf}
 
--- ---- Settings and memory within the program's limits
+-- ---- The start calls
 
-pub record Served (settings : Settings) (siteNumbers coordinatorNumbers : ℕ) : Type 0 where
-  pub passes : settingsRefusal settings ≡ noRefusal
-  pub few-sites : settings .sites ≤ programSites
-  pub few-counters : settings .capacity ≤ programCapacity
-  pub few-items : settings .universe ≤ programUniverse
-  pub sites-long : siteRoom ≤ siteNumbers
-  pub coordinator-long : coordinatorRoom ≤ coordinatorNumbers
-
-pub served : (line : ℕ) (settings : Settings) (bytes siteNumbers coordinatorNumbers : ℕ)
-    → startRefusalOf line settings bytes siteNumbers coordinatorNumbers ≡ noRefusal
-    → Served settings siteNumbers coordinatorNumbers
-served line settings bytes siteNumbers coordinatorNumbers none =
-    let rows = both-accepted line _ none in
-    let later = both-accepted (settingsRefusal settings) _ (rows .later-accepted) in
-    let within = passed (beyondProgram settings bytes) memoryTooShort _ (omega arith)
-    (later .later-accepted) in
-    let long = passed (shorterThanLimits siteNumbers coordinatorNumbers) memoryTooShort _
-    (omega arith) (within .later-accepted) in
-    let three = neither-of-or
-    (ltb 4 (settings .sites) || ltb 100 (settings .capacity) || ltb 1000 (settings .universe)) _
-    (within .test-failed) in
-    let two = neither-of-or (ltb 4 (settings .sites) || ltb 100 (settings .capacity)) _
-    (three .first-false) in
-    let one = neither-of-or (ltb 4 (settings .sites)) _ (two .first-false) in
-    let both = neither-of-or (ltb siteNumbers siteRoom) _ (long .test-failed) in
-    record {
-      passes = later .first-accepted;
-      few-sites = ltb-false 4 (settings .sites) (one .first-false);
-      few-counters = ltb-false 100 (settings .capacity) (one .second-false);
-      few-items = ltb-false 1000 (settings .universe) (two .second-false);
-      sites-long = ltb-false siteNumbers siteRoom (both .first-false);
-      coordinator-long = ltb-false coordinatorNumbers coordinatorRoom (both .second-false);
-    }
-
--- The start calls are accepted then.
+-- Within the program's limits they are accepted.
 module _ (settings : Settings) (siteMemory memory : List ℕ)
     (fit : Served settings (length siteMemory) (length memory)) where
   sites-few : sitesWords settings ≤ siteRoom

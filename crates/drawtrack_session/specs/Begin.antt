@@ -1,63 +1,35 @@
 -- The call `begin`, for every input: the settings line, the program's limits and a fresh network
 -- (document 01's section "Worklist").
 --
---   startRefusalOf ..                13; 1, 2, 3; 4
---   startLine settings refusal       which line of the input is refused
+--   beginRefusalOf ..                why no session begins; 0 if one does
 --   firstSession input found         where the session stands then
 --   beginOf input given              the outcome of `begin`
 --   BeginSays                        the promise
 use mathlib.Core.Path.{_≡_}
-use mathlib.Core.Bool.{Bool, true, not, _&&_, _||_}
+use mathlib.Core.Bool.{true}
 use mathlib.Core.List.{List}
 use Prim.Native.Nat.{ℕ, _-_}
-use lib.Dec.{eqb, ltb}
 use lib.ListN.{length}
 use Rattle.model.specs.declared.Settings.{Settings}
 use Rattle.model.specs.Choice.{if_then_else_, isZero}
-use Rattle.model.specs.Refusals.{when, _orElse_, noRefusal, memoryTooShort}
-use Rattle.model.specs.Settings.{settingsRefusal}
+use Rattle.model.specs.Refusals.{noRefusal}
 use Rattle.model.specs.Coordinator.{freshCoordinator}
 use Rattle.model.specs.CoordinatorMemory.{coordinatorRecord, coordinatorMemory}
 use Rattle.model.specs.NetworkMemory.{freshSites}
 use Rattle.model.specs.Lines.{Fields, readFields}
-use Rattle.model.specs.Transcript.{beyondProgram}
 use Rattle.worklist_reader.specs.Contracts.{lineRefusal, settingsIn, bytesAfter}
 use Rattle.site_start.specs.Starts.{cleared}
-use Rattle.output_reason.specs.Reason.{wholeWorklist, settingsLine}
 use Rattle.drawtrack_steps.specs.declared.Session.{Session}
 use Rattle.drawtrack_steps.specs.declared.Moved.{Moved}
 use Rattle.drawtrack_steps.specs.Outcome.{Buffers, buffers, Outcome, outcome, SameLengths, refusedOf}
-use Rattle.drawtrack_session.specs.Limits.{siteRoom, coordinatorRoom}
+use Rattle.drawtrack_start.specs.Start.{startRefusalOf}
 
--- ---- Why a session does not start
-
--- Memory for the program's limits, of the sites and of the coordinator.
-abbrev pub shorterThanLimits : ℕ → ℕ → Bool
-shorterThanLimits siteNumbers coordinatorNumbers =
-    ltb siteNumbers siteRoom || ltb coordinatorNumbers coordinatorRoom
-
--- "beyond that it meets refusal 4, before any draw, but after 13 for the settings line and 1 to 3":
--- by the line's refusal, its settings, the bytes after it, and the memory lent.
-abbrev pub startRefusalOf : ℕ → Settings → ℕ → ℕ → ℕ → ℕ
-startRefusalOf line settings bytes siteNumbers coordinatorNumbers =
-    line
-    orElse settingsRefusal settings
-    orElse when (beyondProgram settings bytes) memoryTooShort
-    orElse when (shorterThanLimits siteNumbers coordinatorNumbers) memoryTooShort
-    orElse noRefusal
+-- ---- Why a session does not begin
 
 abbrev pub beginRefusalOf : List ℕ → Fields → Buffers → ℕ
 beginRefusalOf input found given =
     startRefusalOf (lineRefusal found) (settingsIn found) (length (bytesAfter input found))
     (length (given .siteMemory)) (length (given .coordinatorMemory))
-
--- Before any draw the settings line is refused; but where the program serves the settings, 4 is of
--- a worklist that is too long.
-abbrev pub startLine : Settings → ℕ → ℕ
-startLine settings refusal =
-    if eqb refusal memoryTooShort && not (beyondProgram settings 0)
-    then wholeWorklist
-    else settingsLine
 
 -- ---- What comes of it
 

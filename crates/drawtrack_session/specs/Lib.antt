@@ -1,4 +1,3 @@
 -- What the calls of a session promise.
-pub mod Limits
 pub mod Begin
 pub mod Advance

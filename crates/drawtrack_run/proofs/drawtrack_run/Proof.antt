@@ -6,7 +6,7 @@ use lib.ListN.{length, take}
 use lib.Seq.{length-take-le}
 use borrow.Author.Needs.{needs}
 use Rattle.drawtrack_course.specs.Rooms.{inputRoom}
-use Rattle.drawtrack_run.proofs.RespondLaws.{run-says}
+use Rattle.drawtrack_run.proofs.RunLaws.{run-says}
 use Rattle.drawtrack_run.proofs.drawtrack_run.Statement.{statement}
 use Rattle.drawtrack_run.proofs.drawtrack_run.Tie as tie
 

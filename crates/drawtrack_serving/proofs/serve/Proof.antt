@@ -8,8 +8,8 @@ use borrow.Author.Needs.{needs}
 use borrow.Author.Tests.{ltb-true, ltb-false}
 use Rattle.drawtrack_steps.specs.Outcome.{buffers}
 use Rattle.drawtrack_course.specs.Rooms.{inputRoom}
-use Rattle.drawtrack_serving.specs.Serving.{situation, Serving}
-use Rattle.drawtrack_serving.proofs.ServingLaws.{begun-within, advanced-within, serving-begins, serving-on, serving-over, serves}
+use Rattle.drawtrack_turns.specs.Serving.{situation, Serving}
+use Rattle.drawtrack_turns.proofs.ServingLaws.{begun-within, advanced-within, serving-begins, serving-on, serving-over, serves}
 use Rattle.drawtrack_serving.proofs.serve.Statement.{statement}
 use Rattle.drawtrack_serving.proofs.serve.Tie as tie
 

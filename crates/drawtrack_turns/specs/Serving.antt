@@ -16,13 +16,13 @@ use Rattle.model.specs.Transcript.{transcript}
 use Rattle.worklist_reader.specs.Walk.{stepAt}
 use Rattle.drawtrack_steps.specs.declared.Session.{Session}
 use Rattle.drawtrack_steps.specs.Outcome.{Buffers, buffers, Outcome, SameLengths}
-use Rattle.drawtrack_session.specs.Limits.{siteRoom, coordinatorRoom}
+use Rattle.drawtrack_start.specs.Limits.{siteRoom, coordinatorRoom}
 use Rattle.drawtrack_course.specs.Rooms.{logRoom, listRoom, outRoom, inputRoom}
 use Rattle.drawtrack_session.specs.Begin.{beginOf}
 use Rattle.drawtrack_session.specs.Advance.{lineOf}
 use Rattle.drawtrack_course.specs.Course.{Course}
 use Rattle.drawtrack_course.specs.Ending.{Ending, endingAt, endingLine, ending, Front}
-use Rattle.drawtrack_serving.specs.declared.Stopped.{Stopped}
+use Rattle.drawtrack_turns.specs.declared.Stopped.{Stopped}
 
 -- "Its memory serves k up to 4, c up to 100, u up to 1000 and a worklist up to 8192 bytes": of the
 -- input no more bytes than matter; log, list and output for the longest answer.

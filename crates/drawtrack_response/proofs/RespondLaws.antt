@@ -4,8 +4,7 @@
 --   respond-lost        a write was not taken
 --   respond-results     results
 --   respond-refused     a refusal, with its reason
---   run-says            what a response is worth as the answer of the run
-use mathlib.Core.Path.{_≡_, refl, sym, ap, _∙_, subst}
+use mathlib.Core.Path.{_≡_, refl, sym, ap, _∙_}
 use mathlib.Core.Bool.{Bool, true, false, false≢true}
 use mathlib.Core.List.{List, [], _++_}
 use Prim.Native.Nat.{ℕ, zero, suc, _+_, _≤_}
@@ -18,12 +17,11 @@ use Rattle.model.specs.Refusals.{noRefusal}
 use Rattle.output_lines.specs.Contracts.{writtenTo, atStart}
 use Rattle.output_reason.specs.Reason.{reasonLine, reasonRoom, ReasonSays}
 use Rattle.drawtrack_steps.specs.Outcome.{Buffers}
-use Rattle.drawtrack_course.specs.Rooms.{inputRoom}
 use Rattle.drawtrack_course.specs.Ending.{Ending, ending}
-use Rattle.drawtrack_serving.specs.declared.Stopped.{Stopped}
-use Rattle.drawtrack_run.specs.declared.Response.{Response}
-use Rattle.drawtrack_serving.specs.Serving.{endingIn, ServeSays}
-use Rattle.drawtrack_run.specs.Responding.{statusOf, statusFailed, reasonOf, writtenFirst, RespondSays, RunSays, failed, answered}
+use Rattle.drawtrack_turns.specs.declared.Stopped.{Stopped}
+use Rattle.drawtrack_response.specs.declared.Response.{Response}
+use Rattle.drawtrack_turns.specs.Serving.{endingIn, ServeSays}
+use Rattle.drawtrack_response.specs.Responding.{statusOf, statusFailed, reasonOf, writtenFirst, RespondSays}
 
 abbrev failure : Response
 failure = record { failed = true; status = statusFailed; said = 0 }
@@ -126,16 +124,3 @@ module _ (read : Bool) (input : List ℕ) (given left : Buffers) (before : List 
           length-append (take 0 before) line,
         ))
         (written ∙ ap (λ (bytes : List ℕ). writtenFirst bytes before) reason-is)
-
--- ---- The run
-
-pub run-says : (read : Bool) (input : List ℕ) (given left : Buffers) (before after : List ℕ)
-    (answer : Response)
-    → length input ≤ inputRoom
-    → RespondSays read input given left before after answer
-    → RunSays (answer .status)
-run-says read input given left before after answer few says = by-failed (answer .failed) refl
-  where
-    by-failed : (lost : Bool) → answer .failed ≡ lost → RunSays (answer .status)
-    by-failed true lost = subst RunSays (sym (says .status ∙ rw lost)) failed
-    by-failed false fine = subst RunSays (sym (says .status ∙ rw fine)) (answered input few)

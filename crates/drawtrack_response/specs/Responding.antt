@@ -1,10 +1,9 @@
--- What the run answers, and what it says of a refusal.
+-- What the program answers to an input, and what it says of a refusal.
 --
 --   statusOf refusal             0 after results, 1 after a refusal
 --   statusFailed                 2: reading or writing failed
 --   reasonOf ending              the bytes for standard error; none after results
 --   RespondAsks, RespondSays     the response to an input
---   RunSays status               the whole run
 use mathlib.Core.Path.{_≡_}
 use mathlib.Core.Bool.{Bool, true, false}
 use mathlib.Core.List.{List, []}
@@ -15,11 +14,10 @@ use Rattle.model.specs.Choice.{if_then_else_, isZero}
 use Rattle.output_lines.specs.Contracts.{Written, writtenTo, atStart}
 use Rattle.output_reason.specs.Reason.{reasonLine, reasonRoom}
 use Rattle.drawtrack_steps.specs.Outcome.{Buffers}
-use Rattle.drawtrack_course.specs.Rooms.{inputRoom}
 use Rattle.drawtrack_course.specs.Ending.{Ending, ending}
-use Rattle.drawtrack_serving.specs.declared.Stopped.{Stopped}
-use Rattle.drawtrack_run.specs.declared.Response.{Response}
-use Rattle.drawtrack_serving.specs.Serving.{ServeAsks, ServeSays}
+use Rattle.drawtrack_turns.specs.declared.Stopped.{Stopped}
+use Rattle.drawtrack_response.specs.declared.Response.{Response}
+use Rattle.drawtrack_turns.specs.Serving.{ServeAsks, ServeSays}
 
 -- ---- The answer, and the reason
 
@@ -63,13 +61,3 @@ pub record RespondSays (read : Bool) (input : List ℕ) (given left : Buffers)
   pub said-fits : answer .said ≤ length after
   pub reason : writtenTo (answer .said) after
       ≡ (if answer .failed then atStart before else writtenFirst (reasonOf (ending input)) before)
-
--- ---- The run
-
--- 2 where something failed; otherwise the status of the input that was read. Which bytes these are
--- no contract of the C function that reads says.
-pub data RunSays : ℕ → Type 0 where
-  failed : RunSays statusFailed
-  answered : (input : List ℕ)
-      → length input ≤ inputRoom
-      → RunSays (statusOf (ending input .refusal))

@@ -1,7 +1,7 @@
 -- Each test of the code is a row of the definition.
 use borrow.Author.Tests.{lt-ltb, le-ltb}
-use Rattle.drawtrack_session.proofs.beyond_limits.Statement.{statement}
-use Rattle.drawtrack_session.proofs.beyond_limits.Tie as tie
+use Rattle.drawtrack_start.proofs.beyond_limits.Statement.{statement}
+use Rattle.drawtrack_start.proofs.beyond_limits.Tie as tie
 
 returns : tie.Need-returns
 returns c =

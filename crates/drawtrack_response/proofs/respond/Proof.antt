@@ -1,9 +1,9 @@
 -- By whether the input was read, whether every write was taken, and whether it is refused.
 use Rattle.drawtrack_steps.specs.Outcome.{buffers}
 use borrow.Author.Needs.{needs}
-use Rattle.drawtrack_run.proofs.RespondLaws.{respond-unread, respond-lost, respond-results, respond-refused}
-use Rattle.drawtrack_run.proofs.respond.Statement.{statement}
-use Rattle.drawtrack_run.proofs.respond.Tie as tie
+use Rattle.drawtrack_response.proofs.RespondLaws.{respond-unread, respond-lost, respond-results, respond-refused}
+use Rattle.drawtrack_response.proofs.respond.Statement.{statement}
+use Rattle.drawtrack_response.proofs.respond.Tie as tie
 
 serve-requires : tie.Need-serve-requires
 serve-requires c κs =

@@ -3,13 +3,13 @@ use mathlib.Core.Path.{_≡_, refl}
 use Prim.Native.Nat.{ℕ, zero, suc, _+_}
 use native.Mathlib.Omega.{arith}
 use borrow.Author.Needs.{needs}
-use Rattle.drawtrack_session.specs.Begin.{startLine}
+use Rattle.drawtrack_start.specs.Start.{startLine}
 use Rattle.drawtrack_course.specs.Ending.{endingLine}
-use Rattle.drawtrack_serving.specs.declared.Stopped.{Stopped}
-use Rattle.drawtrack_serving.specs.Serving.{stoppedOf}
-use Rattle.drawtrack_serving.proofs.ServingLaws.{line-first, line-later}
-use Rattle.drawtrack_serving.proofs.stopped_at.Statement.{statement}
-use Rattle.drawtrack_serving.proofs.stopped_at.Tie as tie
+use Rattle.drawtrack_turns.specs.declared.Stopped.{Stopped}
+use Rattle.drawtrack_turns.specs.Serving.{stoppedOf}
+use Rattle.drawtrack_turns.proofs.ServingLaws.{line-first, line-later}
+use Rattle.drawtrack_turns.proofs.stopped_at.Statement.{statement}
+use Rattle.drawtrack_turns.proofs.stopped_at.Tie as tie
 
 returns : tie.Need-returns
 returns c =

@@ -1,8 +1,8 @@
 -- Each test of the code is a row of the definition.
 use borrow.Author.Tests.{lt-ltb, le-ltb}
-use Rattle.drawtrack_session.specs.Limits.{siteRoom}
-use Rattle.drawtrack_session.proofs.shorter_than_limits.Statement.{statement}
-use Rattle.drawtrack_session.proofs.shorter_than_limits.Tie as tie
+use Rattle.drawtrack_start.specs.Limits.{siteRoom}
+use Rattle.drawtrack_start.proofs.shorter_than_limits.Statement.{statement}
+use Rattle.drawtrack_start.proofs.shorter_than_limits.Tie as tie
 
 returns : tie.Need-returns
 returns c = rw (lt-ltb (c .before .args .site-numbers) siteRoom (c .if1 .taken))

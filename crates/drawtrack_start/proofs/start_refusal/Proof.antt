@@ -3,9 +3,9 @@ use mathlib.Core.Path.{refl}
 use Prim.Native.Nat.{ℕ}
 use borrow.Author.Needs.{needs}
 use Rattle.model.proofs.Thresholds.RefusalLaws.{Still, begin, pass, pass-part, refuse, refuse-part, end, told}
-use Rattle.drawtrack_session.specs.Begin.{startRefusalOf}
-use Rattle.drawtrack_session.proofs.start_refusal.Statement.{statement}
-use Rattle.drawtrack_session.proofs.start_refusal.Tie as tie
+use Rattle.drawtrack_start.specs.Start.{startRefusalOf}
+use Rattle.drawtrack_start.proofs.start_refusal.Statement.{statement}
+use Rattle.drawtrack_start.proofs.start_refusal.Tie as tie
 
 abbrev answer : tie.Else1 → ℕ
 answer c =

@@ -2,8 +2,8 @@
 use borrow.Author.Needs.{needs}
 use borrow.Author.Tests.{eq-eqb, ne-eqb}
 use Rattle.model.proofs.Thresholds.RefusalLaws.{told}
-use Rattle.drawtrack_session.proofs.start_line.Statement.{statement}
-use Rattle.drawtrack_session.proofs.start_line.Tie as tie
+use Rattle.drawtrack_start.proofs.start_line.Statement.{statement}
+use Rattle.drawtrack_start.proofs.start_line.Tie as tie
 
 returns : tie.Need-returns
 returns c =

@@ -16,14 +16,15 @@ use Rattle.drawtrack_steps.specs.declared.Session.{Session}
 use Rattle.drawtrack_steps.specs.declared.Moved.{Moved}
 use Rattle.drawtrack_steps.specs.Outcome.{Buffers, buffers}
 use Rattle.drawtrack_course.specs.Rooms.{inputRoom}
-use Rattle.drawtrack_session.specs.Begin.{startLine, BeginSays}
+use Rattle.drawtrack_start.specs.Start.{startLine}
+use Rattle.drawtrack_session.specs.Begin.{BeginSays}
 use Rattle.drawtrack_session.specs.Advance.{AdvanceSays}
 use Rattle.drawtrack_course.specs.Course.{Course, begun, advanced}
 use Rattle.output_reason.specs.Reason.{firstLine}
 use Rattle.drawtrack_course.specs.Ending.{Ending, endingAt, endingLine, ending}
 use Rattle.drawtrack_course.proofs.Theorem.{session-claims}
-use Rattle.drawtrack_serving.specs.declared.Stopped.{Stopped}
-use Rattle.drawtrack_serving.specs.Serving.{ServeAsks, Situation, situation, begunWith, withoutLists, afterBegin, situationOf, afterCall, afterCalls, Serving, stoppedOf, AllTaken, ServeSays}
+use Rattle.drawtrack_turns.specs.declared.Stopped.{Stopped}
+use Rattle.drawtrack_turns.specs.Serving.{ServeAsks, Situation, situation, begunWith, withoutLists, afterBegin, situationOf, afterCall, afterCalls, Serving, stoppedOf, AllTaken, ServeSays}
 
 -- ---- The line at which a session stopped
 

@@ -1,0 +1,2 @@
+-- The responses to an input.
+pub mod RespondLaws

@@ -1,0 +1,2 @@
+-- What the response to an input promises.
+pub mod Responding

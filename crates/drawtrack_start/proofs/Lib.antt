@@ -1,0 +1,2 @@
+-- What a start that is not refused leaves.
+pub mod StartLaws

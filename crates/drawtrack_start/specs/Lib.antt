@@ -1,0 +1,3 @@
+-- The program's limits, and what a start that is judged by them answers.
+pub mod Limits
+pub mod Start

@@ -1,27 +1,26 @@
--- Memory that arose is never refused, and so each call is refused by what the rules say of its
--- arrival or message alone. PROOF.md section 9, "Never 11".
+-- Memory that arose is never refused, and so a call is refused by what the rules say of its
+-- arrivals or message alone. PROOF.md section 9, "Never 11".
 --
 --   held-sound, resting-of, sound-rest-of    what the invariant is worth: sound parts; at rest, the
 --                             model's run, which is sound
---   memory-accepted           neither 4 nor 11, nor 1, 2, 3
---   refused-by-rules          the number that each call then answers
+--   coordinator-accepted, network-accepted   neither 4 nor 11, nor 1, 2, 3: all memory lent
+--   coordinator-front, network-accepted-front   the same of fronts of it
+--   batch-by-rules            the number that a batch call then answers
 use mathlib.Core.Path.{_≡_, refl, sym, ap, _∙_, subst}
 use mathlib.Core.List.{List}
 use Prim.Native.Nat.{ℕ, _≤_, _<_}
 use native.Mathlib.Omega.{arith}
-use lib.Dec.{leb, ltb}
 use lib.ListN.{length}
 use borrow.Author.Tests.{le-ltb}
 use Rattle.model.specs.declared.Settings.{Settings}
 use Rattle.model.specs.declared.Arrival.{Arrival}
-use Rattle.model.specs.Refusals.{when, _orElse_, noRefusal, unknownItem, listTooShort}
+use Rattle.model.specs.Refusals.{noRefusal}
 use Rattle.model.specs.Limits.{messageLimit}
 use Rattle.model.specs.Settings.{settingsRefusal}
-use Rattle.model.specs.Coordinator.{Coordinator, isAnnouncing, coordinatorRefusal, announcementRefusal}
+use Rattle.model.specs.Coordinator.{Coordinator, isAnnouncing}
 use Rattle.model.specs.CoordinatorMemory.{coordinatorWords, coordinatorIn, coordinatorMemoryRefusal}
 use Rattle.model.specs.Network.{Network, siteAt}
 use Rattle.model.specs.NetworkMemory.{sitesWords}
-use Rattle.model.specs.Reading.{heavyHitters}
 use Rattle.model.specs.Runs.{batchOf}
 use Rattle.model.specs.SoundNetwork.{DroppedWithin, Sound}
 use Rattle.model.proofs.Soundness.ConsistentCoordinator.{CoordinatorWithin}
@@ -29,8 +28,6 @@ use Rattle.model.proofs.Soundness.ConsistentNetwork.{network-consistent-of}
 use Rattle.tracker.specs.Batch.{BatchHeld, BatchSays, logRoom}
 use Rattle.history.specs.State.{Held, heldBy, State, AtRest, networkOf, heldRefusal, partOf, coordinatorPart, fronts, lending}
 use Rattle.history.specs.Histories.{batchCall}
-use Rattle.history.specs.First.{MemoryAccepted, RefusedByRules}
-use Rattle.history.proofs.Answers.{accepted-choice, or-accepted}
 use Rattle.history.proofs.SiteParts.{front-long}
 use Rattle.history.proofs.RunSound.{sound-run, messages-within}
 use Rattle.history.proofs.Underway.{SoundRest}
@@ -118,7 +115,7 @@ module _ {settings : Settings} (passes : settingsRefusal settings ≡ noRefusal)
   -- ---- Fronts of the memories
 
   -- As many numbers as the coordinator's own, or more.
-  front-enough : (words : ℕ)
+  pub front-enough : (words : ℕ)
       → coordinatorWords settings ≤ words
       → coordinatorWords settings ≤ length (coordinatorPart (state .held) 0 words)
   front-enough words enough =
@@ -135,7 +132,7 @@ module _ {settings : Settings} (passes : settingsRefusal settings ≡ noRefusal)
       ≡ of noRefusal (networkOf settings (state .held) .coordinator)
   coordinator-front = Parts.coordinator-front passes (state .held) (ok .lengths) held-sound
 
-  network-accepted-front : (siteCount coordinatorCount : ℕ)
+  pub network-accepted-front : (siteCount coordinatorCount : ℕ)
       → sitesWords settings ≤ siteCount
       → coordinatorWords settings ≤ coordinatorCount
       → AtRest state
@@ -150,17 +147,6 @@ module _ {settings : Settings} (passes : settingsRefusal settings ≡ noRefusal)
       (network-front passes (state .held) (ok .lengths) (held-sound .sites-sound) siteCount
       coordinatorCount sites-long coordinator-long)
 
-  -- The claim of demand 1 on memory.
-  pub memory-accepted : MemoryAccepted settings state
-  memory-accepted = record {
-    of-site = λ which words known enough.
-        Parts.site-accepted passes (state .held) (ok .lengths) held-sound which words known
-        (few-dropped passes (ok .standing) which known) enough;
-    of-coordinator = λ words.
-        coordinator-front words (λ (refusal : ℕ) (c : Coordinator). refusal);
-    of-network = network-accepted-front;
-  }
-
   -- ---- The numbers that calls answer
 
   -- All of both memories lent.
@@ -171,57 +157,3 @@ module _ {settings : Settings} (passes : settingsRefusal settings ≡ noRefusal)
       ≡ batchOf settings (logRoom log) (networkOf settings (state .held)) arrivals .refusal
   batch-by-rules at-rest arrivals log answer says =
       says .refusal ∙ rw (network-accepted at-rest)
-
-  batch-front-by-rules : (siteCount coordinatorCount : ℕ)
-      → sitesWords settings ≤ siteCount
-      → coordinatorWords settings ≤ coordinatorCount
-      → AtRest state
-      → (arrivals : List Arrival) (log : List ℕ) (answer : BatchHeld)
-      → BatchSays
-      (batchCall settings (lending (state .held) (fronts siteCount coordinatorCount)) arrivals log)
-      answer
-      → answer .refusal
-      ≡ batchOf settings (logRoom log) (networkOf settings (state .held)) arrivals .refusal
-  batch-front-by-rules siteCount coordinatorCount sites-enough enough at-rest arrivals log
-      answer says =
-      says .refusal
-      ∙ accepted-choice _ _ _
-      (network-accepted-front siteCount coordinatorCount sites-enough enough at-rest)
-      ∙ ap (λ (network : Network). batchOf settings (logRoom log) network arrivals .refusal)
-      (network-front passes (state .held) (ok .lengths) (held-sound .sites-sound) siteCount
-      coordinatorCount
-      (front-long (sitesWords settings) siteCount (state .held .siteMemory) sites-enough
-      (ok .lengths .sites-long))
-      (front-enough coordinatorCount enough))
-
-  -- The claim of demand 1 on the numbers of refusals.
-  pub refused-by-rules : RefusedByRules settings state
-  refused-by-rules = record {
-    arrival = λ which words arrival known enough.
-        Parts.arrival-by-rules passes (state .held) (ok .lengths) held-sound which words known
-        (few-dropped passes (ok .standing) which known) enough arrival;
-    site-message = λ which words m known enough.
-        Parts.site-message-by-rules passes (state .held) (ok .lengths) held-sound which words
-        known (few-dropped passes (ok .standing) which known) enough m;
-    coordinator-message = λ words m.
-        coordinator-front words
-        (λ (refusal : ℕ) (c : Coordinator). refusal orElse coordinatorRefusal settings c m);
-    next-announcement = λ words.
-        coordinator-front words
-        (λ (refusal : ℕ) (c : Coordinator). refusal orElse announcementRefusal c);
-    list = λ words places enough.
-        coordinator-front words
-        (λ (refusal : ℕ) (c : Coordinator).
-        refusal
-        orElse when (ltb places (length (heavyHitters settings c))) listTooShort
-        orElse noRefusal)
-        enough
-        ∙ or-accepted _;
-    margin = λ words item enough.
-        coordinator-front words
-        (λ (refusal : ℕ) (c : Coordinator).
-        refusal orElse when (leb (settings .universe) item) unknownItem orElse noRefusal)
-        enough
-        ∙ or-accepted _;
-    batch = batch-front-by-rules;
-  }

@@ -1,11 +1,11 @@
--- Every delivery goes on until it has come to rest: the head of the queue is accepted, and so is
+-- Why a delivery goes on until it has come to rest: the head of the queue is accepted, and so is
 -- the wish for a kind 7 while the coordinator announces; from any sound network as long as numbers
 -- stay small, and so in a history. PROOF.md section 9, "Never 5, 6, 7, 9 or 10".
 --
 --   Further, further          what every step of delivery keeps, after so many steps
 --   coordinator-accepts, site-accepts, announcement-accepted   sound parts accept the next step
---   underway-goes-on          the claim of a delivery from any sound network
---   delivery-goes-on          the claim of a history
+--   deliveries-on, deliveries-ok   steps from any sound network, and in a history
+--   rests-at-end              where nothing is to come, the coordinator is idle
 use mathlib.Core.Path.{_≡_, sym, ap, _∙_, subst}
 use mathlib.Core.Bool.{true, false}
 use mathlib.Core.List.{List, []}
@@ -22,24 +22,19 @@ use Rattle.model.specs.Site.{siteMessageRefusal}
 use Rattle.model.specs.SiteMemory.{siteWords}
 use Rattle.model.specs.Coordinator.{Coordinator, isAnnouncing, coordinatorRefusal, announcementRefusal}
 use Rattle.model.specs.CoordinatorMemory.{coordinatorWords}
-use Rattle.model.specs.Network.{Network, Delivered, siteAt, afterArrival}
+use Rattle.model.specs.Network.{Network, siteAt}
 use Rattle.model.specs.SoundNetwork.{DroppedWithin}
 use Rattle.model.specs.DeliveryClaims.{messageRefusal}
 use Rattle.model.proofs.Thresholds.SettingsLaws.{site-known}
-use Rattle.mid_delivery.proofs.Soundness.SoundTheorem.{sound-claims}
-use Rattle.model.proofs.Soundness.ConsistentCoordinator.{CoordinatorWithin}
 use Rattle.site.specs.Calls as SiteCalls
 use Rattle.coordinator.specs.Calls as CoordinatorCalls
 use Rattle.history.specs.State.{State, networkOf, recordAt, sitePart, coordinatorPart}
 use Rattle.history.specs.Histories.{Delivers, Deliveries, no-step, delivered, refused-between}
-use Rattle.history.specs.First.{DeliveryGoesOn}
 use Rattle.history.proofs.RunSound.{sound-run}
 use Rattle.history.proofs.Decoded.{Lengths}
-use Rattle.history.proofs.Underway.{SoundParts, Underway, in-mid, parts-underway, dropped-underway}
-use Rattle.history.proofs.Invariant.{StateOk, rest-of-standing, head-of-standing, few-of-standing, firm-of-standing}
+use Rattle.history.proofs.Underway.{SoundParts, Underway}
+use Rattle.history.proofs.Invariant.{StateOk, rest-of-standing}
 use Rattle.history.proofs.SoundMemory.{coordinator-front, site-message-by-rules}
-use Rattle.history.proofs.Accounts.{few-dropped}
-use Rattle.history.proofs.Accepted.{held-sound}
 use Rattle.history.proofs.Refused.{refused-same}
 use Rattle.history.proofs.DeliveredState.{delivered-on, delivered-ok}
 
@@ -145,38 +140,6 @@ module _ {settings : Settings} (passes : settingsRefusal settings ≡ noRefusal)
         further (Underway settings origin arrival past)
         (λ steps before after here step. delivered-on passes before here after step) n state mid
 
-    -- What it comes to is within the limit, so no step is refused.
-    pub underway-goes-on : {n : ℕ} {state : State}
-        → Underway settings origin arrival past n state
-        → CoordinatorWithin (afterArrival settings origin arrival .network .coordinator)
-        → ((j : ℕ) → j < settings .sites
-        → DroppedWithin (siteAt (afterArrival settings origin arrival .network) j))
-        → DeliveryGoesOn settings state
-    underway-goes-on {n} {state} mid within few-then =
-        let here = in-mid passes mid in
-        let parts = parts-underway passes mid within in
-        record {
-          coordinator-accepts = λ m later words waits.
-              coordinator-accepts passes state (mid .lengths) parts m words
-              (here .head-accepted m later waits);
-          site-accepts = λ m later words waits.
-              site-accepts passes state (mid .lengths) parts m words
-              (λ known. dropped-underway passes mid (m .site) (few-then (m .site) known))
-              (here .head-accepted m later waits);
-          announcement-accepted = announcement-accepted passes state (mid .lengths) parts;
-          rests-at-end = λ none silent.
-              ap (λ (there : Delivered). there .network .coordinator .phase)
-              (here .ends none silent)
-              ∙ sound-claims .arrival-sound settings origin arrival passes (mid .origin-sound)
-              (mid .taken) .idle;
-          few-steps = λ m after steps.
-              let there = deliveries-on mid m after steps in
-              omega (arith, there .in-all, in-mid passes (there .holds) .few-steps);
-          firm-steps = λ m after steps.
-              let there = deliveries-on mid m after steps in
-              omega (arith, there .in-all, in-mid passes (there .holds) .firm-steps);
-        }
-
 -- ---- In a history
 
 module _ {settings : Settings} (passes : settingsRefusal settings ≡ noRefusal)
@@ -190,31 +153,10 @@ module _ {settings : Settings} (passes : settingsRefusal settings ≡ noRefusal)
       further (StateOk settings)
       (λ steps before after here step. delivered-ok passes before here after step) n state ok
 
-  rests-at-end : state .waiting ≡ []
+  pub rests-at-end : state .waiting ≡ []
       → isAnnouncing (state .held .coordinator .phase) ≡ false
       → state .held .coordinator .phase ≡ Idle
   rests-at-end none silent =
       let rest = rest-of-standing passes (ok .standing) none silent in
       ap (λ (there : Network). there .coordinator .phase) (rest .network-is)
       ∙ sound-run settings passes (state .accepted) .sound .idle
-
-  -- The claim of demand 1 on deliveries.
-  pub delivery-goes-on : DeliveryGoesOn settings state
-  delivery-goes-on =
-      let parts = held-sound passes ok in
-      let head = head-of-standing passes (ok .standing) in
-      record {
-        coordinator-accepts = λ m later words waits.
-            coordinator-accepts passes state (ok .lengths) parts m words (head m later waits);
-        site-accepts = λ m later words waits.
-            site-accepts passes state (ok .lengths) parts m words
-            (few-dropped passes (ok .standing) (m .site)) (head m later waits);
-        announcement-accepted = announcement-accepted passes state (ok .lengths) parts;
-        rests-at-end = rests-at-end;
-        few-steps = λ m after steps.
-            let there = deliveries-ok m after steps in
-            omega (arith, there .in-all, few-of-standing passes (there .holds .standing));
-        firm-steps = λ m after steps.
-            let there = deliveries-ok m after steps in
-            omega (arith, there .in-all, firm-of-standing passes (there .holds .standing));
-      }

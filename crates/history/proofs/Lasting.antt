@@ -25,7 +25,7 @@ use Rattle.site_memory.proofs.SitesMemoryLaws.{AllStorable, all-storable, lengt
 use Rattle.site_memory.proofs.SitesReading.{length-sitesIn}
 use Rattle.site_memory.proofs.SitesFronts.{sitesMemory-front}
 use Rattle.history.specs.State.{Held, State, networkOf, frontIn, carriedTo, holding}
-use Rattle.history.specs.Whole.{StartedFresh}
+use Rattle.history.specs.Start.{StartedFresh}
 use Rattle.history.proofs.Invariant.{StateOk}
 use Rattle.history.proofs.Accepted.{held-sound}
 use Rattle.history.proofs.FromStart.{FromStart}

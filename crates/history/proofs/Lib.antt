@@ -1,4 +1,4 @@
--- The demands over every history of calls.
+-- Laws of every history of calls: the invariant, and what is held from the start.
 pub mod SiteParts
 pub mod SitesMemory
 pub mod FreshSites
@@ -10,7 +10,6 @@ pub mod KeptLengths
 pub mod CallFronts
 pub mod RunSound
 pub mod BatchRuns
-pub mod BatchStops
 pub mod HandedOut
 pub mod Decoded
 pub mod DecodedCoordinator
@@ -34,23 +33,9 @@ pub mod NextAnnouncement
 pub mod DeliveredState
 pub mod GoesOn
 pub mod Kept
-pub mod OneTouch
 pub mod FromStart
 pub mod Carried
 pub mod Lasting
 pub mod MachineNumbers
 pub mod Reopened
-pub mod Closings
-pub mod FirmShares
-pub mod ListReading
-pub mod Readings
-pub mod FewFollow
-pub mod SiteArrivals
 pub mod Arisen
-pub mod RefusedDraws
-pub mod GivenDraws
-pub mod KeptOut
-pub mod BatchWithout
-pub mod CallWithout
-pub mod LeftOut
-pub mod Theorem

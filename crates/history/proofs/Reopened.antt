@@ -4,7 +4,7 @@
 --
 --   file-back                what is read is the file that was saved
 --   ReadBack, read-back      of every bench that saving accepts, arisen or not
---   again, lasting-reopened  of every state of a history
+--   back, held-again, lasting-reopened   of every state of a history
 use mathlib.Core.Path.{_≡_, sym, ap, _∙_, subst}
 use mathlib.Core.List.{List, _++_}
 use Prim.Native.Nat.{ℕ, _+_, _-_, _≤_}
@@ -33,7 +33,6 @@ use Rattle.snapshot_file.specs.Claims.{OfMachine, closed}
 use Rattle.snapshot_file.proofs.FitLaws.{Passed, passed-of}
 use Rattle.snapshot_file.proofs.Theorem.{file-claims}
 use Rattle.history.specs.State.{Held, heldBy, State, fronts, lending, frontIn, carriedTo, holding}
-use Rattle.history.specs.Closing.{Again}
 use Rattle.history.proofs.Answers.{accepted-choice, words-enough}
 use Rattle.history.proofs.Lasting.{Lasting, lasting-carried}
 use Rattle.history.proofs.MachineNumbers.{of-machine}
@@ -187,14 +186,14 @@ module _ {settings : Settings} (passes : settingsRefusal settings ≡ noRefusal)
     long : Passed settings lent (length bytes)
     long = passed-save settings lent bytes written saved save-says save-accepted
 
-    back : ReadBack settings lent siteMemory coordinatorMemory siteAfter coordinatorAfter loaded
+    pub back : ReadBack settings lent siteMemory coordinatorMemory siteAfter coordinatorAfter loaded
     back =
         read-back settings lent bytes written saved save-says save-accepted
         (of-machine passes state start now siteCount coordinatorCount
         (long .sites-long))
         siteMemory coordinatorMemory siteAfter coordinatorAfter loaded load-says load-accepted
 
-    held-again : heldBy (loaded .sites) (loaded .coordinator) siteAfter coordinatorAfter
+    pub held-again : heldBy (loaded .sites) (loaded .coordinator) siteAfter coordinatorAfter
         ≡ carriedTo settings (state .held) siteMemory coordinatorMemory
     held-again =
         let sites = back .sites-are ∙ sites-closed siteCount coordinatorCount in
@@ -205,10 +204,6 @@ module _ {settings : Settings} (passes : settingsRefusal settings ≡ noRefusal)
         ∙ front-again (coordinatorWords settings) coordinatorCount
         (state .held .coordinatorMemory) coordinatorMemory (long .coordinator-long) in
         λ i. heldBy (sites i) (back .coordinator-is i) (memory i) (coordinators i)
-
-    pub again : Again settings (state .held) siteMemory coordinatorMemory siteAfter
-        coordinatorAfter loaded
-    again = record { settings-are = back .settings-are; held-is = held-again }
 
     -- So all that holds of a state holds of the one that is opened again.
     pub lasting-reopened : Lasting settings

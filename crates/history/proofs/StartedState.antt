@@ -27,7 +27,7 @@ use Rattle.coordinator.specs.declared.StartedCoordinator.{StartedCoordinator}
 use Rattle.coordinator.specs.Calls as CoordinatorCalls
 use Rattle.history.specs.State.{State, networkOf}
 use Rattle.history.specs.Histories.{startState}
-use Rattle.history.specs.Whole.{StartedFresh}
+use Rattle.history.specs.Start.{StartedFresh}
 use Rattle.history.proofs.Answers.{accepted-choice}
 use Rattle.history.proofs.FreshSites.{sitesIn-fresh}
 use Rattle.history.proofs.Decoded.{Lengths}

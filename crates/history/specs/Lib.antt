@@ -1,14 +1,5 @@
--- Histories of calls, and what is claimed of all of them.
+-- Histories of calls on records and lent memory.
 pub mod State
 pub mod Histories
+pub mod Start
 pub mod Frame
-pub mod Reading
-pub mod Given
-pub mod First
-pub mod Second
-pub mod Whole
-pub mod Third
-pub mod Dropped
-pub mod Touches
-pub mod Closing
-pub mod Demands

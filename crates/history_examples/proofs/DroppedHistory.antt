@@ -13,7 +13,7 @@ use Rattle.forgotten.specs.DroppedInstances.{twelveDraws}
 use Rattle.history.specs.Histories.{Reachable}
 use Rattle.history_examples.specs.OneBatch.{answerFor}
 use Rattle.history_examples.specs.DroppedHistory.{afterTwelve, DroppedHistory}
-use Rattle.history.proofs.Theorem.{demands}
+use Rattle.demands.proofs.Theorem.{demands}
 use Rattle.history_examples.proofs.OneBatch.{reached-by-batch}
 
 -- Twelve draws in one batch, with a log of 150 records.

@@ -16,10 +16,10 @@ use Rattle.coordinator_reading.specs.Contracts.{QuantileSays}
 use Rattle.coordinator_list.specs.Contracts.{ListSays}
 use Rattle.history.specs.State.{State, coordinatorPart}
 use Rattle.history.specs.Histories.{Step, arrives, delivers, refuses, Reachable, stepped}
-use Rattle.history.specs.Given.{givenIn, keptOutIn}
-use Rattle.history.specs.Touches.{acceptedIn}
+use Rattle.demands.specs.Given.{givenIn, keptOutIn}
+use Rattle.demands.specs.Touches.{acceptedIn}
 use Rattle.history_examples.specs.Example.{startedState, afterDraw, afterItemReport, afterCountReport, afterPoll, afterPollAnswer, afterAnnouncement, atRestAgain, afterBatchOfTwo}
-use Rattle.history.proofs.LeftOut.{left-out}
+use Rattle.demands.proofs.LeftOut.{left-out}
 use Rattle.history_examples.proofs.Example.{begins, draw-refused, draw-accepted, item-report, message-refused, slice-refused, draw-refused-underway, touch-underway, count-report, polled, poll-answered, announced, told, touches-alone, batch-stopped}
 
 -- ---- The whole history

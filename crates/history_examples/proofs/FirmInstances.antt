@@ -14,10 +14,10 @@ use Rattle.model.specs.Instances.{settingsA}
 use Rattle.model.proofs.Thresholds.SettingsLaws.{settled}
 use Rattle.history.specs.Histories.{Reachable}
 use Rattle.history_examples.specs.OneBatch.{answerFor}
-use Rattle.history.specs.Reading.{ListRight}
+use Rattle.demands.specs.Reading.{ListRight}
 use Rattle.history_examples.specs.FirmInstances.{sevenDraws, afterSeven, threeBefore, threeAfter, answerOfTwo, settings400, fortyFour, FirmInstances}
-use Rattle.history.proofs.FirmShares.{listed-firm}
-use Rattle.history.proofs.Theorem.{demands}
+use Rattle.demands.proofs.FirmShares.{listed-firm}
+use Rattle.demands.proofs.Theorem.{demands}
 use Rattle.history_examples.proofs.OneBatch.{reached-by-batch}
 
 -- Seven draws in one batch, with a log of 75 records.

@@ -24,7 +24,7 @@ use Rattle.coordinator_list.specs.Contracts.{ListSays}
 use Rattle.history.specs.State.{State, coordinatorPart}
 use Rattle.history.specs.Histories.{Reachable}
 use Rattle.history_examples.specs.OneBatch.{batchedState}
-use Rattle.history.specs.Reading.{FirmShare}
+use Rattle.demands.specs.Reading.{FirmShare}
 
 -- ---- Seven draws under settings A
 

@@ -26,12 +26,12 @@ use Rattle.snapshot_file.proofs.ReadLaws.{Accepted, accepted-of}
 use Rattle.snapshot_file.proofs.Theorem.{file-claims}
 use Rattle.history.specs.State.{Held, heldBy, State, fronts, lending, holding}
 use Rattle.history.specs.Histories.{Reachable, heldAtStart, reopened}
-use Rattle.history.specs.Closing.{Again, Closing}
+use Rattle.demands.specs.Closing.{Again, Closing}
 use Rattle.history.proofs.Answers.{accepted-choice, words-enough}
 use Rattle.history.proofs.Arisen.{lasting}
 use Rattle.history.proofs.MachineNumbers.{of-machine}
 use Rattle.history.proofs.Reopened.{passed-save, file-back}
-use Rattle.history.proofs.Theorem.{demands}
+use Rattle.demands.proofs.Theorem.{demands}
 use Rattle.single_outcome.proofs.HistoryLaws.{passes-of-reachable}
 use Rattle.library_history.specs.Bench.{Bench, heldIn}
 use Rattle.library_history.specs.Calls.{Under, SaveCall, fileBy, LoadCall, afterLoad}

@@ -1,4 +1,4 @@
--- What waits is accepted by the library's calls: `goes-on`. By crate `history`'s word on it, once
+-- What waits is accepted by the library's calls: `goes-on`. By crate `demands`' word on it, once
 -- the message is read from its row as it is.
 use mathlib.Core.Path.{_≡_, ap, _∙_, subst}
 use mathlib.Core.Bool.{true, false}
@@ -22,7 +22,7 @@ use Rattle.record_numbers.specs.Numbers.{sitesWidth, settingsFrom, messageRead,
 use Rattle.site.specs.Calls as SiteCalls
 use Rattle.coordinator.specs.Calls as CoordinatorCalls
 use Rattle.history.specs.State.{Held, State, recordAt, siteStart, sitePart, coordinatorPart}
-use Rattle.history.specs.First.{DeliveryGoesOn}
+use Rattle.demands.specs.First.{DeliveryGoesOn}
 use Rattle.library_decks.specs.AllDecks.{decksRefusal}
 use Rattle.library_history.specs.Bench.{Bench, heldIn}
 use Rattle.library_history.specs.Calls.{Under, DeckMessageCall, DeskMessageCall, AnnouncementCall}

@@ -19,7 +19,7 @@ use Rattle.coordinator_numbers.proofs.Rows.{row-claims}
 use Rattle.history.specs.State.{State}
 use Rattle.history.specs.Histories.{Reachable}
 use Rattle.history.proofs.Accepted.{held-sound}
-use Rattle.history.proofs.Theorem.{arisen}
+use Rattle.history.proofs.Arisen.{arisen}
 use Rattle.single_outcome.proofs.HistoryLaws.{passes-of-reachable}
 
 -- Signals are at most k, a class at most 1023; a phase's deck is below k, its interval within 1023.

@@ -15,7 +15,7 @@ use Rattle.record_numbers.specs.Numbers.{settingsFrom}
 use Rattle.coordinator_list.specs.Contracts.{ListSays}
 use Rattle.coordinator_reading.specs.Contracts.{MarginSays, QuantileSays}
 use Rattle.history.specs.State.{Held, State, coordinatorPart}
-use Rattle.history.specs.Reading as History
+use Rattle.demands.specs.Reading as History
 use Rattle.history.proofs.Answers.{accepted-choice}
 use Rattle.library_reading.specs.Reading.{classNumber}
 use Rattle.library_history.specs.Bench.{Bench, heldIn}

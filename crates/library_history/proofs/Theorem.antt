@@ -1,5 +1,5 @@
 -- What a caller does with the library is a history of calls: `use-claims`. Call by call, from what
--- each is worth as steps of a history; then by crate `history`'s theorem.
+-- each is worth as steps of a history; then by crate `demands`' theorem.
 use mathlib.Core.Path.{_≡_, refl, sym, ap, _∙_, subst}
 use Prim.Native.Nat.{_≤_}
 use lib.ListN.{length}
@@ -9,7 +9,7 @@ use Rattle.model.specs.Held.{Held, networkOf}
 use Rattle.record_numbers.specs.Numbers.{sitesWidth, settingsFrom, arrivalFrom}
 use Rattle.history.specs.State.{State, AtRest, holding}
 use Rattle.history.specs.Histories.{Reachable}
-use Rattle.history.proofs.Theorem.{demands, arisen}
+use Rattle.demands.proofs.Theorem.{demands, arisen}
 use Rattle.single_outcome.specs.Delivery.{deliveryIn}
 use Rattle.single_outcome.proofs.HistoryLaws.{passes-of-reachable}
 use Rattle.library_history.specs.Bench.{Bench, heldIn}

@@ -1,8 +1,8 @@
--- What a caller does with the library is a history of calls, so that all that crate `history`
--- demands of every history holds of it.
+-- What a caller does with the library is a history of calls, so that all that crate `demands`
+-- claims of every history holds of it.
 --
 --   AsHistory settings bench state        the state is that of a history, and the bench holds it
---   Demanded settings state reachable     crate `history`'s demands of one state
+--   Demanded settings state reachable     crate `demands`' claims of one state
 --   GoesOn settings bench state           what waits is accepted
 --   ReadAgain settings bench other load   what is read is what was held
 --   Closes settings bench                 saving and reading are accepted, and give that
@@ -23,7 +23,7 @@ use Rattle.record_numbers.specs.Numbers.{sitesWidth, messageFrom}
 use Rattle.snapshot_file.specs.Layout.{fileLength}
 use Rattle.history.specs.State.{State, AtRest, carriedTo}
 use Rattle.history.specs.Histories.{Reachable, heldAtStart}
-use Rattle.history.specs.Demands.{First, Second, Whole, Third, Dropped, LeftOut, Closing, givenIn, AsGiven}
+use Rattle.demands.specs.Demands.{First, Second, Whole, Third, Dropped, LeftOut, Closing, givenIn, AsGiven}
 use Rattle.library_history.specs.Bench.{Bench, heldIn, unchanged}
 use Rattle.library_history.specs.Calls.{Under, DeckMessageCall, DeskMessageCall, AnnouncementCall, SaveCall, fileBy, LoadCall, afterLoad}
 use Rattle.library_history.specs.Used.{Used}

@@ -20,7 +20,7 @@ use Rattle.model.specs.Reading.{mostListed, margin}
 use Rattle.model.specs.Claims.{counted, countOf, below, above, contains}
 use Rattle.record_numbers.specs.Numbers.{greatestNarrow}
 use Rattle.history.specs.State.{State}
-use Rattle.history.specs.Reading.{rulesCoordinator, FirmShare}
+use Rattle.demands.specs.Reading.{rulesCoordinator, FirmShare}
 use Rattle.library_rows.specs.Rows.{Lent, Row, Number}
 use Rattle.library_reading.specs.Reading.{ListExported, MarginExported, ClassExported}
 use Rattle.library_history.specs.Bench.{Bench, unchanged}

@@ -57,7 +57,7 @@ pub record SoundSite (settings : Settings) (site : Site) : Type 0 where
 
 -- "A forgotten sum above the deck's draws is inconsistent memory." Memory that never arose may pass
 -- and be above it after one call: the counter that is replaced may hold more than arrived. So no
--- step keeps it; of a history it follows from what is counted (crate history, Dropped.antt).
+-- step keeps it; of a history it follows from what is counted (crate demands, Dropped.antt).
 abbrev pub DroppedWithin : Site → Type 0
 DroppedWithin site = site .dropped ≤ site .arrivals
 

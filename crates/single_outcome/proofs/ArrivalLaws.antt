@@ -22,7 +22,7 @@ use Rattle.history.specs.Histories.{afterSingle, Reachable, stepped, arrives, s
 use Rattle.model.proofs.Touches.DrawLaws.{takes, not-taken}
 use Rattle.history.proofs.Answers.{taken-choice, left-choice}
 use Rattle.history.proofs.SingleState.{begins}
-use Rattle.history.proofs.Theorem.{demands}
+use Rattle.demands.proofs.Theorem.{demands}
 use Rattle.history.proofs.Underway.{SoundRest}
 use Rattle.single_steps.specs.declared.Progress.{Progress}
 use Rattle.single_outcome.specs.declared.DeliveryAnswer.{DeliveryAnswer}

@@ -1,5 +1,5 @@
 -- Deliveries in a history: they stay in it, and no call of theirs is refused. By crate `history`'s
--- theorem.
+-- invariant.
 --
 --   passes-of-reachable    the settings of a history pass their test
 --   reachable-after        after steps of delivery it is the history still
@@ -19,7 +19,7 @@ use Rattle.history.specs.State.{heldRefusal, State, AtRest}
 use Rattle.history.specs.Histories.{Reachable, started, stepped, reopened, delivers, refuses, Deliveries, no-step, delivered, refused-between}
 use Rattle.history.proofs.Accounts.{few-dropped}
 use Rattle.history.proofs.Accepted.{held-sound, network-accepted}
-use Rattle.history.proofs.Theorem.{arisen}
+use Rattle.history.proofs.Arisen.{arisen}
 use Rattle.single_outcome.proofs.EndLaws.{AtEnd, not-blocked, by-end}
 
 -- The start call on the sites is accepted.

@@ -65,7 +65,7 @@ meetsLimit settings network arrival =
     && ltb coordinatorLimit (estimateOf network (arrival .item) + site .threshold)
 
 -- The arrival closes the round, and its site has then forgotten more than arrived: its poll meets a
--- site whose memory is inconsistent. No site that arose has (crate history, Dropped.antt).
+-- site whose memory is inconsistent. No site that arose has (crate demands, Dropped.antt).
 abbrev pub meetsForgotten : Settings → Network → Arrival → Bool
 meetsForgotten settings network arrival =
     let site = siteAt network (arrival .site) in

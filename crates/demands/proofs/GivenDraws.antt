@@ -22,13 +22,13 @@ use Rattle.model.proofs.Runs.RunLaws.{runFrom-append, runFrom-draws}
 use Rattle.site_steps.specs.declared.Observed.{Observed}
 use Rattle.site.specs.Calls.{ObserveSays}
 use Rattle.tracker.specs.Batch.{BatchHeld, BatchSays}
 use Rattle.history.specs.State.{Held, State, recordAt, partOf, siteStart, Slices, fronts, lending}
 use Rattle.history.specs.Histories.{batchCall, batch, single, to-coordinator, to-site, next-announcement, Refuses, arrival-left, site-message-refused, coordinator-message-refused, announcement-refused, batch-takes-none, Step, arrives, delivers, refuses, Reachable, started, stepped, reopened}
-use Rattle.history.specs.Given.{ofArrival, decidedCount, Handed, noDraw, drawHanded, batchHanded, sameSettings, ownDraw, ownBatch, handedRefused, givenBy, givenIn, AsGiven}
 use Rattle.history.proofs.Invariant.{StateOk, run-of-standing}
 use Rattle.history.proofs.Refused.{refused-same}
-use Rattle.history.proofs.RefusedDraws.{touch-no-trace, draw-no-trace, batch-no-trace, touches-no-trace, refused-batch-no-trace}
 use Rattle.history.proofs.Arisen.{arisen}
+use Rattle.demands.specs.Given.{ofArrival, decidedCount, Handed, noDraw, drawHanded, batchHanded, sameSettings, ownDraw, ownBatch, handedRefused, givenBy, givenIn, AsGiven}
+use Rattle.demands.proofs.RefusedDraws.{touch-no-trace, draw-no-trace, batch-no-trace, touches-no-trace, refused-batch-no-trace}
 
 -- ---- The same settings
 

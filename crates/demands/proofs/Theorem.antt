@@ -1,5 +1,6 @@
 -- The three demands hold of every history of calls: each follows from the invariant, which every
--- reachable state has (Arisen.antt), and from the claims over runs. PROOF.md section 9.
+-- reachable state has (crate `history`, Arisen.antt), and from the claims over runs. PROOF.md
+-- section 9.
 --
 --   demands     the theorem
 use mathlib.Core.Path.{_≡_, sym, ap, _∙_, subst}
@@ -21,35 +22,36 @@ use Rattle.model.specs.Claims.{counted, FewMessages}
 use Rattle.forgotten.specs.Departures.{departures, Accounted}
 use Rattle.model.proofs.Runs.Theorem.{demands-over-runs}
 use Rattle.forgotten.proofs.DroppedTheorem.{dropped-claims}
 use Rattle.history.specs.State.{State, networkWritten}
 use Rattle.history.specs.Histories.{Reachable, heldAtStart, deliveredIn}
-use Rattle.history.specs.Reading.{FirmShare}
-use Rattle.history.specs.First.{First}
-use Rattle.history.specs.Second.{Second}
-use Rattle.history.specs.Whole.{Whole}
-use Rattle.history.specs.Third.{Third}
-use Rattle.history.specs.Dropped.{Dropped}
-use Rattle.history.specs.Closing.{Closing}
-use Rattle.history.specs.Demands.{Demands}
 use Rattle.history.proofs.Invariant.{BeginsRun, run-of-standing, firm-of-standing}
 use Rattle.history.proofs.Decoded.{site-is}
 use Rattle.history.proofs.Accounts.{accounted-held}
-use Rattle.history.proofs.Accepted.{held-sound, memory-accepted, refused-by-rules, resting-of, sound-rest-of}
-use Rattle.history.proofs.FirmShares.{listed-firm}
-use Rattle.history.proofs.Readings.{reads-right}
-use Rattle.history.proofs.FewFollow.{few-follow}
+use Rattle.history.proofs.Accepted.{held-sound, resting-of, sound-rest-of}
 use Rattle.history.proofs.Refused.{refused-same}
-use Rattle.history.proofs.GoesOn.{delivery-goes-on}
 use Rattle.history.proofs.Kept.{tails-kept, others-kept}
-use Rattle.history.proofs.OneTouch.{others-left, touch-or-draw}
 use Rattle.history.proofs.FromStart.{held-whole}
 pub use Rattle.history.proofs.Arisen.{Arisen, arisen}
 use Rattle.history.proofs.Arisen.{lasting}
-use Rattle.history.proofs.Closings as Closings
-use Rattle.history.proofs.GivenDraws.{as-given}
-use Rattle.history.proofs.KeptOut.{nothing-lost}
-use Rattle.history.proofs.CallWithout.{says-without}
-use Rattle.history.proofs.LeftOut.{left-out}
+use Rattle.demands.specs.Reading.{FirmShare}
+use Rattle.demands.specs.First.{First}
+use Rattle.demands.specs.Second.{Second}
+use Rattle.demands.specs.Whole.{Whole}
+use Rattle.demands.specs.Third.{Third}
+use Rattle.demands.specs.Dropped.{Dropped}
+use Rattle.demands.specs.Closing.{Closing}
+use Rattle.demands.specs.Demands.{Demands}
+use Rattle.demands.proofs.AcceptedClaims.{memory-accepted, refused-by-rules}
+use Rattle.demands.proofs.GoesOnClaims.{delivery-goes-on}
+use Rattle.demands.proofs.FirmShares.{listed-firm}
+use Rattle.demands.proofs.Readings.{reads-right}
+use Rattle.demands.proofs.FewFollow.{few-follow}
+use Rattle.demands.proofs.OneTouch.{others-left, touch-or-draw}
+use Rattle.demands.proofs.Closings as Closings
+use Rattle.demands.proofs.GivenDraws.{as-given}
+use Rattle.demands.proofs.KeptOut.{nothing-lost}
+use Rattle.demands.proofs.CallWithout.{says-without}
+use Rattle.demands.proofs.LeftOut.{left-out}
 
 -- ---- Each demand
 

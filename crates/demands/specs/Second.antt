@@ -17,10 +17,10 @@ use Rattle.model.specs.Runs.{Run, runOf}
 use Rattle.model.specs.Claims.{contains, Tracks, Estimates}
 use Rattle.site_steps.specs.declared.Observed.{Observed}
 use Rattle.site.specs.Calls.{ObserveSays}
 use Rattle.history.specs.State.{State, AtRest, networkOf, recordAt, sitePart}
-use Rattle.history.specs.Reading.{FirmShare, ReadsRight}
 use Rattle.history.specs.Frame.{TailsKept, OthersKept}
 use Rattle.history.specs.Histories.{afterSingle, Step}
+use Rattle.demands.specs.Reading.{FirmShare, ReadsRight}
 
 -- The run that document 01's rules give for the arrivals accepted so far.
 abbrev pub rulesRun : Settings → State → Run

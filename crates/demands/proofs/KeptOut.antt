@@ -14,12 +14,12 @@ use Rattle.model.specs.Choice.{if_then_else_, isZero}
 use Rattle.model.specs.Refusals.{noRefusal}
 use Rattle.model.specs.Held.{networkOf}
 use Rattle.tracker.specs.Batch.{BatchCall, BatchHeld, BatchSays, startRefusal, logRoom}
 use Rattle.history.specs.State.{State}
 use Rattle.history.specs.Histories.{batch, single, Refuses, arrival-left, site-message-refused, coordinator-message-refused, announcement-refused, batch-takes-none, Step, arrives, delivers, refuses}
-use Rattle.history.specs.Given.{ofArrival, decidedCount, keptOut, Handed, noDraw, drawHanded, batchHanded, ownDraw, ownBatch, handedRefused, handedBy, refusalOfRefused, keptOutBy, refusalBy, NothingLost}
 use Rattle.history.proofs.Answers.{accepted-choice, refused-choice}
 use Rattle.history.proofs.BatchRuns.{runAt}
-use Rattle.history.proofs.BatchStops.{batch-stops}
+use Rattle.demands.specs.Given.{ofArrival, decidedCount, keptOut, Handed, noDraw, drawHanded, batchHanded, ownDraw, ownBatch, handedRefused, handedBy, refusalOfRefused, keptOutBy, refusalBy, NothingLost}
+use Rattle.demands.proofs.BatchStops.{batch-stops}
 
 -- A batch that is not refused accepts all its arrivals, and so keeps none out.
 batch-none-kept-out : (call : BatchCall) (answer : BatchHeld)

@@ -29,12 +29,13 @@ use Rattle.model.specs.Claims.{counted, countOf, contains, Tracks, ListLaw, Lis
 use Rattle.model.proofs.Runs.Theorem.{demands-over-runs}
 use Rattle.coordinator_list.specs.declared.Listed.{Listed}
 use Rattle.coordinator_list.specs.Contracts.{ListSays, listRefusal}
 use Rattle.history.specs.State.{State, networkOf, coordinatorPart}
-use Rattle.history.specs.Reading.{rulesCoordinator, listedIn, FirmShare, ListRight}
 use Rattle.history.proofs.Invariant.{StateOk, Resting}
-use Rattle.history.proofs.Accepted.{coordinator-front, refused-by-rules}
+use Rattle.history.proofs.Accepted.{coordinator-front}
 use Rattle.history.proofs.Answers.{accepted-choice, refused-choice}
-use Rattle.history.proofs.FirmShares.{listed-firm}
+use Rattle.demands.specs.Reading.{rulesCoordinator, listedIn, FirmShare, ListRight}
+use Rattle.demands.proofs.AcceptedClaims.{refused-by-rules}
+use Rattle.demands.proofs.FirmShares.{listed-firm}
 
 module _ {settings : Settings} (passes : settingsRefusal settings ≡ noRefusal)
     {n : ℕ} {state : State}

@@ -21,16 +21,16 @@ use Rattle.model.specs.Refusals.{noRefusal}
 use Rattle.model.specs.Limits.{mostSteps}
 use Rattle.model.specs.Settings.{settingsRefusal}
 use Rattle.tracker.specs.Batch.{BatchCall, BatchHeld, BatchSays}
 use Rattle.history.specs.State.{State}
 use Rattle.history.specs.Histories.{Step, Reachable, heldAtStart, deliveredIn}
-pub use Rattle.history.specs.First.{DeliveryGoesOn, First}
-pub use Rattle.history.specs.Second.{Second}
-pub use Rattle.history.specs.Whole.{Whole}
-pub use Rattle.history.specs.Third.{Third}
-pub use Rattle.history.specs.Dropped.{Dropped}
-pub use Rattle.history.specs.Touches.{BatchWithout, LeftOut}
-pub use Rattle.history.specs.Closing.{Closing}
-pub use Rattle.history.specs.Given.{givenIn, AsGiven, NothingLost}
+pub use Rattle.demands.specs.First.{DeliveryGoesOn, First}
+pub use Rattle.demands.specs.Second.{Second}
+pub use Rattle.demands.specs.Whole.{Whole}
+pub use Rattle.demands.specs.Third.{Third}
+pub use Rattle.demands.specs.Dropped.{Dropped}
+pub use Rattle.demands.specs.Touches.{BatchWithout, LeftOut}
+pub use Rattle.demands.specs.Closing.{Closing}
+pub use Rattle.demands.specs.Given.{givenIn, AsGiven, NothingLost}
 
 -- For all settings that pass their test and all states that a history reaches, closed and opened
 -- again anywhere.

@@ -25,8 +25,8 @@ use Rattle.model.specs.Runs.{Run, lineRefusalIn, isTakenIn, runOne, runFrom, Ba
 use Rattle.model.proofs.Thresholds.RefusalLaws.{both-accepted}
 use Rattle.model.proofs.Touches.DrawLaws.{refused-left, LineTaken, line-taken}
 use Rattle.tracker.specs.Batch.{BatchCall, startRefusal}
-use Rattle.history.specs.Given.{ofArrival}
 use Rattle.history.proofs.BatchRuns.{nextBatch}
+use Rattle.demands.specs.Given.{ofArrival}
 
 -- 14 is not of an arrival, so a refusal of a batch that is of its arrival is the rules' own.
 not-of-log : (drawn short : Bool)

@@ -19,8 +19,8 @@ use Rattle.model.specs.Network.{Network, Delivered, afterLine}
 use Rattle.model.specs.Runs.{Batch, batchRefusal, batchFrom, freshBatch, batchOf}
 use Rattle.model.proofs.Touches.DrawLaws.{after-touch}
 use Rattle.model.proofs.Touches.DrawLists.{drawsOf-draw, drawsOf-touch}
-use Rattle.history.specs.Touches.{withoutTouches}
 use Rattle.history.proofs.BatchRuns.{nextBatch}
+use Rattle.demands.specs.Touches.{withoutTouches}
 
 -- Two batches that differ in the number accepted alone.
 pub record SameBut (batch other : Batch) : Type 0 where

@@ -32,18 +32,19 @@ use Rattle.model.proofs.Soundness.ConsistentNetwork.{passes-of}
 use Rattle.site_steps.specs.declared.Observed.{Observed}
 use Rattle.site.specs.Calls as SiteCalls
 use Rattle.tracker.specs.Batch.{BatchCall, BatchHeld, BatchSays, startRefusal, batchIn, logRoom}
 use Rattle.history.specs.State.{Held, State, AtRest, networkOf, recordAt, siteStart, sitePart, fronts, lending}
 use Rattle.history.specs.Histories.{batchCall}
-use Rattle.history.specs.Given.{ofArrival}
 use Rattle.history.proofs.Answers.{accepted-choice, refused-choice}
 use Rattle.history.proofs.BatchRuns.{runAt}
-use Rattle.history.proofs.BatchStops.{batch-stops, not-of-arrival}
 use Rattle.history.proofs.NetworkFronts.{network-front}
 use Rattle.history.proofs.Invariant.{StateOk}
-use Rattle.history.proofs.Accepted.{refused-by-rules, held-sound}
-use Rattle.history.proofs.SiteArrivals.{taken-same}
+use Rattle.history.proofs.Accepted.{held-sound}
 use Rattle.history.proofs.LentBatch.{LentBatch, nothing-changed, as-all-lent, lent-batch}
 use Rattle.history.proofs.BatchedState as Batched
+use Rattle.demands.specs.Given.{ofArrival}
+use Rattle.demands.proofs.AcceptedClaims.{refused-by-rules}
+use Rattle.demands.proofs.BatchStops.{batch-stops, not-of-arrival}
+use Rattle.demands.proofs.SiteArrivals.{taken-same}
 
 module _ {settings : Settings} (passes : settingsRefusal settings ≡ noRefusal)
     {n : ℕ} (before : State)

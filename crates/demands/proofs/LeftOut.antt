@@ -19,11 +19,11 @@ use Rattle.model.specs.Settings.{settingsRefusal}
 use Rattle.model.specs.Draws.{drawsOf}
 use Rattle.model.proofs.Touches.DrawLists.{drawsOf-draw, drawsOf-touch, drawsOf-append, drawsOf-twice}
 use Rattle.tracker.specs.Batch.{BatchHeld}
 use Rattle.history.specs.State.{Held, State, Slices, fronts, lending, putBack, carriedTo}
 use Rattle.history.specs.Histories.{batchCall, afterBatch, batch, single, to-coordinator, to-site, next-announcement, Refuses, arrival-left, site-message-refused, coordinator-message-refused, announcement-refused, batch-takes-none, Step, arrives, delivers, refuses, Reachable, started, stepped, reopened, heldAtStart}
-use Rattle.history.specs.Touches.{touchesBy, acceptedBy, acceptedIn, withoutTouches, answerWithout, LeftOut}
 use Rattle.history.proofs.Refused.{refused-same}
-use Rattle.history.proofs.CallWithout.{says-without}
+use Rattle.demands.specs.Touches.{touchesBy, acceptedBy, acceptedIn, withoutTouches, answerWithout, LeftOut}
+use Rattle.demands.proofs.CallWithout.{says-without}
 
 -- ---- The draws among the lines
 

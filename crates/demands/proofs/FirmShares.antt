@@ -19,7 +19,7 @@ use Rattle.model.specs.Runs.{Run, runOf}
 use Rattle.model.specs.Claims.{counted, contains}
 use Rattle.model.proofs.Runs.Theorem.{demands-over-runs}
 use Rattle.model.proofs.Thresholds.SettingsLaws.{settled}
-use Rattle.history.specs.Reading.{FirmShare}
+use Rattle.demands.specs.Reading.{FirmShare}
 
 module _ (settings : Settings) (passes : settingsRefusal settings ≡ noRefusal)
     (arrivals : List Arrival) where

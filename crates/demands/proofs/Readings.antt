@@ -19,12 +19,12 @@ use Rattle.model.proofs.Runs.Theorem.{demands-over-runs}
 use Rattle.coordinator_reading.specs.declared.Margin.{Margin}
 use Rattle.coordinator_reading.specs.declared.QuantileRead.{QuantileRead}
 use Rattle.coordinator_reading.specs.Contracts.{MarginSays, QuantileSays}
 use Rattle.history.specs.State.{State, coordinatorPart}
-use Rattle.history.specs.Reading.{rulesCoordinator, MarginRight, QuantileRight, ReadsRight}
 use Rattle.history.proofs.Invariant.{StateOk, Resting}
-use Rattle.history.proofs.Accepted.{memory-accepted, refused-by-rules}
 use Rattle.history.proofs.Answers.{accepted-choice}
-use Rattle.history.proofs.ListReading.{held-is, coordinator-is, tracks, over, back, before-draws, list-right}
+use Rattle.demands.specs.Reading.{rulesCoordinator, MarginRight, QuantileRight, ReadsRight}
+use Rattle.demands.proofs.AcceptedClaims.{memory-accepted, refused-by-rules}
+use Rattle.demands.proofs.ListReading.{held-is, coordinator-is, tracks, over, back, before-draws, list-right}
 
 module _ {settings : Settings} (passes : settingsRefusal settings ≡ noRefusal)
     {n : ℕ} {state : State}

@@ -18,10 +18,10 @@ use Rattle.model.specs.NetworkMemory.{siteRecords, sitesMemory}
 use Rattle.model.specs.Network.{Network}
 use Rattle.model.specs.Runs.{Batch}
 use Rattle.tracker.specs.Batch.{BatchCall, BatchHeld, BatchSays, startRefusal, batchIn, unlessRefused, logRoom, messageNumbers}
 use Rattle.history.specs.State.{networkOf}
-use Rattle.history.specs.Touches.{callWithout, BatchWithout}
 use Rattle.history.proofs.Answers.{accepted-choice, refused-choice}
-use Rattle.history.proofs.BatchWithout.{SameWithout, batch-without}
+use Rattle.demands.specs.Touches.{callWithout, BatchWithout}
+use Rattle.demands.proofs.BatchWithout.{SameWithout, batch-without}
 
 module _ (call : BatchCall) (answer : BatchHeld) (says : BatchSays call answer) where
   abbrev other : BatchCall

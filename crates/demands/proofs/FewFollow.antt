@@ -18,7 +18,7 @@ use Rattle.model.proofs.Deliveries.DeliveryTheorem.{delivery-claims}
 use Rattle.model.proofs.Runs.RunLaws.{runFrom-append}
 use Rattle.model.proofs.Soundness.NeverFalls.{either}
 use Rattle.model.proofs.Runs.Theorem.{demands-over-runs}
-use Rattle.history.specs.Third.{FewFollow}
+use Rattle.demands.specs.Third.{FewFollow}
 
 -- Past the end of a list: any arrival.
 noArrival : Arrival

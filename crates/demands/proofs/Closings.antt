@@ -3,12 +3,14 @@
 --
 --   few-counted     the count of messages is within its limit
 --   saves           saving is accepted
+--   again           what reading hands back
 --   closing         the claim
 use mathlib.Core.Path.{_≡_, sym, ap, subst}
 use mathlib.Core.Bool.{true}
+use mathlib.Core.List.{List}
 use Prim.Native.Nat.{ℕ, _≤_}
 use native.Mathlib.Omega.{arith}
-use lib.ListN.{length, length-append}
+use lib.ListN.{length, take, length-append}
 use borrow.Author.Tests.{le-ltb}
 use Rattle.model.specs.declared.Settings.{Settings}
 use Rattle.model.specs.Refusals.{noRefusal}
@@ -19,21 +21,24 @@ use Rattle.model.specs.Network.{Network}
 use Rattle.model.specs.NetworkMemory.{sitesWords}
 use Rattle.model.specs.Held.{heldConsistent}
 use Rattle.model.proofs.Soundness.ConsistentNetwork.{SitesRead, bench-consistent-of}
+use Rattle.snapshot_file.specs.declared.Saved.{Saved}
+use Rattle.snapshot_file.specs.declared.Loaded.{Loaded}
 use Rattle.snapshot_file.specs.Layout.{fileLength}
 use Rattle.snapshot_file.specs.File.{saveRefusal}
+use Rattle.snapshot_file.specs.Calls.{SaveSays, LoadSays}
 use Rattle.snapshot_file.proofs.Theorem.{file-claims}
 use Rattle.history.specs.State.{Held, State, networkOf, fronts, lending}
-use Rattle.history.specs.Closing.{Closing}
 use Rattle.history.proofs.SiteParts.{front-long}
 use Rattle.history.proofs.RunSound.{messages-within}
 use Rattle.history.proofs.Underway.{SoundParts}
 use Rattle.history.proofs.Accounts.{few-dropped}
 use Rattle.history.proofs.NetworkFronts.{network-front}
 use Rattle.history.proofs.Invariant.{run-of-standing}
 use Rattle.history.proofs.Accepted.{held-sound}
 use Rattle.history.proofs.Lasting.{Lasting, all-sites}
 use Rattle.history.proofs.MachineNumbers.{of-machine}
-use Rattle.history.proofs.Reopened.{again}
+use Rattle.history.proofs.Reopened.{back, held-again}
+use Rattle.demands.specs.Closing.{Again, Closing}
 
 module _ {settings : Settings} (passes : settingsRefusal settings ≡ noRefusal)
     {n : ℕ} (state : State) (start : Held) (now : Lasting settings start n state) where
@@ -106,6 +111,28 @@ module _ {settings : Settings} (passes : settingsRefusal settings ≡ noRefusal)
 
   -- ---- The claim
 
+  -- Saved from fronts of both memories, and read into others.
+  module _ (siteCount coordinatorCount : ℕ) (bytes written : List ℕ) (saved : Saved)
+      (siteMemory coordinatorMemory siteAfter coordinatorAfter : List ℕ) (loaded : Loaded)
+      (save-says : SaveSays settings
+      (lending (state .held) (fronts siteCount coordinatorCount)) bytes written saved)
+      (save-accepted : saved .refusal ≡ noRefusal)
+      (load-says : LoadSays (take (saved .length) written) siteMemory coordinatorMemory siteAfter
+      coordinatorAfter loaded)
+      (load-accepted : loaded .refusal ≡ noRefusal) where
+    again : Again settings (state .held) siteMemory coordinatorMemory siteAfter coordinatorAfter
+        loaded
+    again = record {
+      settings-are =
+          back passes state start now siteCount coordinatorCount bytes written saved siteMemory
+          coordinatorMemory siteAfter coordinatorAfter loaded save-says save-accepted load-says
+          load-accepted .settings-are;
+      held-is =
+          held-again passes state start now siteCount coordinatorCount bytes written saved
+          siteMemory coordinatorMemory siteAfter coordinatorAfter loaded save-says save-accepted
+          load-says load-accepted;
+    }
+
   pub closing : Closing settings state
   closing = record {
     saved = λ siteCount coordinatorCount room sites-enough enough.
@@ -119,5 +146,5 @@ module _ {settings : Settings} (passes : settingsRefusal settings ≡ noRefusal)
         (of-machine passes state start now siteCount coordinatorCount
         (sites-long siteCount coordinatorCount sites-enough enough))
         sites-room room;
-    goes-on = again passes state start now;
+    goes-on = again;
   }

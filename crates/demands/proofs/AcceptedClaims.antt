@@ -20,7 +20,7 @@ use Rattle.model.specs.Reading.{heavyHitters}
 use Rattle.model.specs.Runs.{batchOf}
 use Rattle.tracker.specs.Batch.{BatchHeld, BatchSays, logRoom}
 use Rattle.history.specs.State.{State, AtRest, networkOf, fronts, lending}
-use Rattle.history.specs.Histories.{batchCall}
+use Rattle.history.specs.Steps.{batchCall}
 use Rattle.history.proofs.Answers.{accepted-choice, or-accepted}
 use Rattle.history.proofs.SiteParts.{front-long}
 use Rattle.history.proofs.Accounts.{few-dropped}

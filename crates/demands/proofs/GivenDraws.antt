@@ -23,7 +23,8 @@ use Rattle.site_steps.specs.declared.Observed.{Observed}
 use Rattle.site.specs.Calls.{ObserveSays}
 use Rattle.tracker.specs.Batch.{BatchHeld, BatchSays}
 use Rattle.history.specs.State.{Held, State, recordAt, partOf, siteStart, Slices, fronts, lending}
-use Rattle.history.specs.Histories.{batchCall, batch, single, to-coordinator, to-site, next-announcement, Refuses, arrival-left, site-message-refused, coordinator-message-refused, announcement-refused, batch-takes-none, Step, arrives, delivers, refuses, Reachable, started, stepped, reopened}
+use Rattle.history.specs.Steps.{batchCall, batch, single, to-coordinator, to-site, next-announcement, Refuses, arrival-left, site-message-refused, coordinator-message-refused, announcement-refused, batch-takes-none, Step, arrives, delivers, refuses}
+use Rattle.history.specs.Histories.{Reachable, started, stepped, reopened}
 use Rattle.history.proofs.Invariant.{StateOk, run-of-standing}
 use Rattle.history.proofs.Refused.{refused-same}
 use Rattle.history.proofs.Arisen.{arisen}

@@ -15,7 +15,7 @@ use Rattle.model.specs.Refusals.{noRefusal}
 use Rattle.model.specs.Held.{networkOf}
 use Rattle.tracker.specs.Batch.{BatchCall, BatchHeld, BatchSays, startRefusal, logRoom}
 use Rattle.history.specs.State.{State}
-use Rattle.history.specs.Histories.{batch, single, Refuses, arrival-left, site-message-refused, coordinator-message-refused, announcement-refused, batch-takes-none, Step, arrives, delivers, refuses}
+use Rattle.history.specs.Steps.{batch, single, Refuses, arrival-left, site-message-refused, coordinator-message-refused, announcement-refused, batch-takes-none, Step, arrives, delivers, refuses}
 use Rattle.history.proofs.Answers.{accepted-choice, refused-choice}
 use Rattle.history.proofs.BatchRuns.{runAt}
 use Rattle.demands.specs.Given.{ofArrival, decidedCount, keptOut, Handed, noDraw, drawHanded, batchHanded, ownDraw, ownBatch, handedRefused, handedBy, refusalOfRefused, keptOutBy, refusalBy, NothingLost}

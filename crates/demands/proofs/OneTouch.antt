@@ -12,7 +12,7 @@ use Rattle.model.specs.Draws.{isDraw}
 use Rattle.site_steps.specs.declared.Observed.{Observed}
 use Rattle.site.specs.Calls.{ObserveSays}
 use Rattle.history.specs.State.{State, recordAt, siteStart, sitePart}
-use Rattle.history.specs.Histories.{afterSingle, arrival-left}
+use Rattle.history.specs.Steps.{afterSingle, arrival-left}
 use Rattle.history.specs.Frame.{OthersKept}
 use Rattle.history.proofs.Refused.{refused-same}
 

@@ -33,7 +33,7 @@ use Rattle.site_steps.specs.declared.Observed.{Observed}
 use Rattle.site.specs.Calls as SiteCalls
 use Rattle.tracker.specs.Batch.{BatchCall, BatchHeld, BatchSays, startRefusal, batchIn, logRoom}
 use Rattle.history.specs.State.{Held, State, AtRest, networkOf, recordAt, siteStart, sitePart, fronts, lending}
-use Rattle.history.specs.Histories.{batchCall}
+use Rattle.history.specs.Steps.{batchCall}
 use Rattle.history.proofs.Answers.{accepted-choice, refused-choice}
 use Rattle.history.proofs.BatchRuns.{runAt}
 use Rattle.history.proofs.NetworkFronts.{network-front}

@@ -22,7 +22,8 @@ use Rattle.model.specs.Limits.{mostSteps}
 use Rattle.model.specs.Settings.{settingsRefusal}
 use Rattle.tracker.specs.Batch.{BatchCall, BatchHeld, BatchSays}
 use Rattle.history.specs.State.{State}
-use Rattle.history.specs.Histories.{Step, Reachable, heldAtStart, deliveredIn}
+use Rattle.history.specs.Steps.{Step}
+use Rattle.history.specs.Histories.{Reachable, heldAtStart, deliveredIn}
 pub use Rattle.demands.specs.First.{DeliveryGoesOn, First}
 pub use Rattle.demands.specs.Second.{Second}
 pub use Rattle.demands.specs.Whole.{Whole}

@@ -34,7 +34,8 @@ use Rattle.coordinator_reading.specs.Contracts.{marginRefusal}
 use Rattle.coordinator_list.specs.Contracts.{listRefusal}
 use Rattle.tracker.specs.Batch.{BatchHeld, BatchSays, logRoom}
 use Rattle.history.specs.State.{State, AtRest, networkOf, heldRefusal, recordAt, sitePart, coordinatorPart, fronts, lending}
-use Rattle.history.specs.Histories.{batchCall, Refuses, Deliveries}
+use Rattle.history.specs.Steps.{batchCall, Refuses}
+use Rattle.history.specs.Histories.{Deliveries}
 
 -- Memory that arose is never refused: neither 4 nor 11, nor 1, 2 or 3.
 pub record MemoryAccepted (settings : Settings) (state : State) : Type 0 where

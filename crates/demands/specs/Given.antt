@@ -23,7 +23,8 @@ use Rattle.model.specs.Refusals.{noRefusal, unknownSite, siteFull}
 use Rattle.model.specs.Runs.{runOf}
 use Rattle.tracker_steps.specs.Steps.{BatchHeld}
 use Rattle.history.specs.State.{State, siteStart, Slices}
-use Rattle.history.specs.Histories.{batch, single, Refuses, arrival-left, site-message-refused, coordinator-message-refused, announcement-refused, batch-takes-none, Step, arrives, delivers, refuses, Reachable, started, stepped, reopened}
+use Rattle.history.specs.Steps.{batch, single, Refuses, arrival-left, site-message-refused, coordinator-message-refused, announcement-refused, batch-takes-none, Step, arrives, delivers, refuses}
+use Rattle.history.specs.Histories.{Reachable, started, stepped, reopened}
 
 -- ---- What a call decides on
 

@@ -19,7 +19,7 @@ use Rattle.site_steps.specs.declared.Observed.{Observed}
 use Rattle.site.specs.Calls.{ObserveSays}
 use Rattle.history.specs.State.{State, AtRest, networkOf, recordAt, sitePart}
 use Rattle.history.specs.Frame.{TailsKept, OthersKept}
-use Rattle.history.specs.Histories.{afterSingle, Step}
+use Rattle.history.specs.Steps.{afterSingle, Step}
 use Rattle.demands.specs.Reading.{FirmShare, ReadsRight}
 
 -- The run that document 01's rules give for the arrivals accepted so far.

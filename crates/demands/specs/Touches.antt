@@ -17,7 +17,8 @@ use Rattle.model.specs.Choice.{if_then_else_, isZero}
 use Rattle.model.specs.Draws.{drawsOf}
 use Rattle.tracker.specs.Batch.{BatchCall, BatchHeld, BatchSays}
 use Rattle.history.specs.State.{State}
-use Rattle.history.specs.Histories.{batch, single, Refuses, arrival-left, site-message-refused, coordinator-message-refused, announcement-refused, batch-takes-none, Step, arrives, delivers, refuses, Reachable, started, stepped, reopened, heldAtStart}
+use Rattle.history.specs.Steps.{batch, single, Refuses, arrival-left, site-message-refused, coordinator-message-refused, announcement-refused, batch-takes-none, Step, arrives, delivers, refuses}
+use Rattle.history.specs.Histories.{Reachable, started, stepped, reopened, heldAtStart}
 
 -- ---- The lines accepted
 

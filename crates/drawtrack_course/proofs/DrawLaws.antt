@@ -22,7 +22,7 @@ use Rattle.model.proofs.Touches.DrawLaws.{line-few}
 use Rattle.worklist_reader.specs.declared.Step.{Step}
 use Rattle.tracker.specs.Batch.{BatchCall, BatchHeld, BatchSays, batchIn, unlessRefused, logRoom, messagesIn}
 use Rattle.history.specs.State.{State, networkOf}
-use Rattle.history.specs.Histories.{afterBatch}
+use Rattle.history.specs.Steps.{afterBatch}
 use Rattle.history.proofs.Accepted.{batch-by-rules}
 use Rattle.history.proofs.Invariant.{StateOk, Resting}
 use Rattle.history.proofs.BatchedState.{batch-ok, batch-resting}

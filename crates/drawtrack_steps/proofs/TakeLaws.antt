@@ -26,7 +26,8 @@ use Rattle.worklist_reader.specs.declared.Step.{Step}
 use Rattle.tracker_queue.proofs.LogLaws.{length-messageNumbers}
 use Rattle.tracker.specs.Batch.{BatchCall, BatchSays, startRefusal, batchIn, unlessRefused, logRoom, messageNumbers, messagesIn, BatchHeld}
 use Rattle.history.specs.State.{State}
-use Rattle.history.specs.Histories.{startState, afterBatch}
+use Rattle.history.specs.Steps.{afterBatch}
+use Rattle.history.specs.Histories.{startState}
 use Rattle.history.proofs.EmptyBatch.{nothing-done, batch-same}
 use Rattle.history.proofs.HandedOut.{messagesIn-written}
 use Rattle.drawtrack_steps.specs.declared.Session.{Session}

@@ -27,7 +27,7 @@ use Rattle.model.proofs.Soundness.ConsistentCoordinator.{CoordinatorWithin}
 use Rattle.model.proofs.Soundness.ConsistentNetwork.{network-consistent-of}
 use Rattle.tracker.specs.Batch.{BatchHeld, BatchSays, logRoom}
 use Rattle.history.specs.State.{Held, heldBy, State, AtRest, networkOf, heldRefusal, partOf, coordinatorPart, fronts, lending}
-use Rattle.history.specs.Histories.{batchCall}
+use Rattle.history.specs.Steps.{batchCall}
 use Rattle.history.proofs.SiteParts.{front-long}
 use Rattle.history.proofs.RunSound.{sound-run, messages-within}
 use Rattle.history.proofs.Underway.{SoundRest}

@@ -10,7 +10,8 @@ use Rattle.model.specs.declared.Settings.{Settings}
 use Rattle.model.specs.Refusals.{noRefusal}
 use Rattle.model.specs.Settings.{settingsRefusal}
 use Rattle.history.specs.State.{State, AtRest, withPart}
-use Rattle.history.specs.Histories.{batch, single, Step, arrives, delivers, refuses, startState, Reachable, started, stepped, reopened, heldAtStart, deliveredBy, deliveredIn}
+use Rattle.history.specs.Steps.{batch, single, Step, arrives, delivers, refuses}
+use Rattle.history.specs.Histories.{startState, Reachable, started, stepped, reopened, heldAtStart, deliveredBy, deliveredIn}
 use Rattle.history.proofs.CallFronts.{start-says-whole, starts-whole}
 use Rattle.history.proofs.Invariant.{StateOk, resting}
 use Rattle.history.proofs.Accepted.{held-sound, resting-of}

@@ -28,7 +28,7 @@ use Rattle.site_memory.proofs.SitesReading.{sitesIn-sitesMemory}
 use Rattle.coordinator_kinds.proofs.MemoryLaws.{written-coordinator}
 use Rattle.tracker.specs.Batch.{BatchCall, BatchHeld, BatchSays, startRefusal, batchIn, unlessRefused, logRoom, messagesIn}
 use Rattle.history.specs.State.{Held, State, AtRest, networkOf, networkWritten}
-use Rattle.history.specs.Histories.{batchCall, afterBatch}
+use Rattle.history.specs.Steps.{batchCall, afterBatch}
 use Rattle.history.proofs.RunSound.{sound-run}
 use Rattle.history.proofs.BatchRuns.{BatchRun, batch-run}
 use Rattle.history.proofs.HandedOut.{messagesIn-written}

@@ -20,7 +20,7 @@ use Rattle.model.specs.Settings.{settingsRefusal}
 use Rattle.model.specs.Coordinator.{isAnnouncing}
 use Rattle.model.specs.Network.{Network}
 use Rattle.history.specs.State.{State, withPart}
-use Rattle.history.specs.Histories.{answeredOut, receivedOut, Delivers, to-coordinator, to-site, next-announcement}
+use Rattle.history.specs.Steps.{answeredOut, receivedOut, Delivers, to-coordinator, to-site, next-announcement}
 use Rattle.history.proofs.CallFronts.{receives-whole, announces-whole}
 use Rattle.history.proofs.RunSound.{sound-run}
 use Rattle.history.proofs.Underway.{Underway}

@@ -23,7 +23,7 @@ use Rattle.site_memory.proofs.SitesReading.{enough-records, used-within, siteRe
 use Rattle.coordinator_kinds.proofs.MemoryLaws.{memory-kept}
 use Rattle.tracker.specs.Batch.{BatchCall, BatchSays, startRefusal, batchIn, unlessRefused, BatchHeld}
 use Rattle.history.specs.State.{Held, State, networkOf, noRecord}
-use Rattle.history.specs.Histories.{batchCall, afterBatch}
+use Rattle.history.specs.Steps.{batchCall, afterBatch}
 use Rattle.history.proofs.BatchRuns.{runAt, batch-run}
 
 -- ---- A batch of the model that accepts no draw

@@ -33,7 +33,7 @@ use Rattle.site_steps.specs.declared.Observed.{Observed}
 use Rattle.site.specs.Calls.{ObserveSays}
 use Rattle.tracker.specs.Batch.{BatchHeld, BatchSays, batchIn}
 use Rattle.history.specs.State.{Held, State, AtRest, networkOf, networkWritten, recordAt, siteStart, sitePart, afterSiteCall, noRecord}
-use Rattle.history.specs.Histories.{batchCall, afterBatch, afterSingle, batch, single, Delivers, to-coordinator, to-site, next-announcement, Step, arrives, delivers, refuses}
+use Rattle.history.specs.Steps.{batchCall, afterBatch, afterSingle, batch, single, Delivers, to-coordinator, to-site, next-announcement, Step, arrives, delivers, refuses}
 use Rattle.history.specs.Frame.{TailsKept}
 use Rattle.history.proofs.WrittenAgain.{records-over, coordinator-over}
 use Rattle.history.proofs.Decoded.{Lengths, SitesSound, used-at, memory-then, network-site-told}

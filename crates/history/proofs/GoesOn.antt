@@ -29,7 +29,8 @@ use Rattle.model.proofs.Thresholds.SettingsLaws.{site-known}
 use Rattle.site.specs.Calls as SiteCalls
 use Rattle.coordinator.specs.Calls as CoordinatorCalls
 use Rattle.history.specs.State.{State, networkOf, recordAt, sitePart, coordinatorPart}
-use Rattle.history.specs.Histories.{Delivers, Deliveries, no-step, delivered, refused-between}
+use Rattle.history.specs.Steps.{Delivers}
+use Rattle.history.specs.Histories.{Deliveries, no-step, delivered, refused-between}
 use Rattle.history.proofs.RunSound.{sound-run}
 use Rattle.history.proofs.Decoded.{Lengths}
 use Rattle.history.proofs.Underway.{SoundParts, Underway}

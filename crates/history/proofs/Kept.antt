@@ -29,7 +29,7 @@ use Rattle.site_steps.specs.declared.Observed.{Observed}
 use Rattle.site.specs.Calls.{ObserveSays}
 use Rattle.tracker.specs.Batch.{BatchHeld, BatchSays, batchIn}
 use Rattle.history.specs.State.{Held, State, AtRest, networkOf, networkWritten, recordAt, siteStart, sitePart, withPart, noRecord}
-use Rattle.history.specs.Histories.{batchCall, afterBatch, afterSingle, batch, single, Delivers, to-coordinator, to-site, next-announcement, Step, arrives, delivers, refuses}
+use Rattle.history.specs.Steps.{batchCall, afterBatch, afterSingle, batch, single, Delivers, to-coordinator, to-site, next-announcement, Step, arrives, delivers, refuses}
 use Rattle.history.specs.Frame.{TailsKept, OthersKept}
 use Rattle.history.proofs.SitesMemory.{offset, offset-is, written}
 use Rattle.history.proofs.FrameLaws.{drop-later, take-written, drop-written, tail-siteRecords, tail-sitesMemory, tail-coordinatorMemory}

@@ -25,7 +25,7 @@ use Rattle.model.specs.SoundNetwork.{Sound}
 use Rattle.model.proofs.Soundness.ConsistentNetwork.{Passes, passes-of}
 use Rattle.tracker.specs.Batch.{BatchCall, BatchSays, startRefusal, batchIn, unlessRefused, logRoom, messageNumbers, BatchHeld}
 use Rattle.history.specs.State.{Held, State, AtRest, fronts, lending, withPart, putBack}
-use Rattle.history.specs.Histories.{batchCall, afterBatch, batch-takes-none}
+use Rattle.history.specs.Steps.{batchCall, afterBatch, batch-takes-none}
 use Rattle.history.proofs.Answers.{accepted-choice, refused-choice}
 use Rattle.history.proofs.CoordinatorFronts.{front-then, overwrite-front}
 use Rattle.site_memory.proofs.SitesFronts.{sitesMemory-front}

@@ -22,7 +22,7 @@ use Rattle.model.proofs.Thresholds.RefusalLaws.{both-accepted}
 use Rattle.coordinator.specs.declared.Received.{Received}
 use Rattle.coordinator.specs.Calls as CoordinatorCalls
 use Rattle.history.specs.State.{Held, State, networkOf, afterCoordinatorCall, sending}
-use Rattle.history.specs.Histories.{receivedOut}
+use Rattle.history.specs.Steps.{receivedOut}
 use Rattle.history.proofs.HandedOut.{one-out, announced-few}
 use Rattle.history.proofs.DecodedCoordinator.{network-announced}
 use Rattle.history.proofs.Underway.{Underway}

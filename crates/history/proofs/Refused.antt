@@ -17,7 +17,7 @@ use Rattle.site.specs.Calls as SiteCalls
 use Rattle.model.proofs.Touches.DrawLaws.{not-taken}
 use Rattle.coordinator.specs.Calls as CoordinatorCalls
 use Rattle.history.specs.State.{Held, State, recordAt, partOf, coordinatorPart, lending, withPart, afterSiteCall, afterCoordinatorCall, holding, noRecord}
-use Rattle.history.specs.Histories.{afterBatch, Refuses, arrival-left, site-message-refused, coordinator-message-refused, announcement-refused, batch-takes-none}
+use Rattle.history.specs.Steps.{afterBatch, Refuses, arrival-left, site-message-refused, coordinator-message-refused, announcement-refused, batch-takes-none}
 use Rattle.history.proofs.Answers.{refused-choice, left-choice}
 use Rattle.history.proofs.EmptyBatch.{batch-same}
 

@@ -32,7 +32,7 @@ use Rattle.site_memory.proofs.OneSite.{Storable, storable}
 use Rattle.site_steps.specs.declared.Observed.{Observed}
 use Rattle.site.specs.Calls as SiteCalls
 use Rattle.history.specs.State.{Held, State, AtRest, networkOf, recordAt, siteStart, sitePart, withPart, afterSiteCall}
-use Rattle.history.specs.Histories.{observedOut, afterSingle}
+use Rattle.history.specs.Steps.{observedOut, afterSingle}
 use Rattle.history.proofs.HandedOut.{two-out, observed-few}
 use Rattle.history.proofs.Decoded.{SitesSound, site-part, lengths-site-written, network-site-written}
 use Rattle.history.proofs.Underway.{SoundRest, Underway}

@@ -23,7 +23,7 @@ use Rattle.mid_delivery.specs.SoundClaims.{Reached}
 use Rattle.coordinator.specs.declared.Received.{Received}
 use Rattle.coordinator.specs.Calls as CoordinatorCalls
 use Rattle.history.specs.State.{Held, State, networkOf, afterCoordinatorCall, sending}
-use Rattle.history.specs.Histories.{receivedOut}
+use Rattle.history.specs.Steps.{receivedOut}
 use Rattle.history.proofs.HandedOut.{one-out, received-few}
 use Rattle.history.proofs.Decoded.{Lengths}
 use Rattle.history.proofs.DecodedCoordinator.{length-coordinatorMemory, network-coordinator-written}

@@ -25,7 +25,7 @@ use Rattle.model.proofs.Thresholds.SettingsLaws.{site-known}
 use Rattle.site_receiving.specs.declared.Replied.{Replied}
 use Rattle.site.specs.Calls as SiteCalls
 use Rattle.history.specs.State.{Held, State, networkOf, recordAt, siteStart, sitePart, afterSiteCall, sending}
-use Rattle.history.specs.Histories.{answeredOut}
+use Rattle.history.specs.Steps.{answeredOut}
 use Rattle.history.proofs.HandedOut.{one-out, answered-few}
 use Rattle.history.proofs.Decoded.{SitesSound, site-part, lengths-site-told, network-site-told}
 use Rattle.history.proofs.Underway.{Underway, in-mid}

@@ -22,7 +22,8 @@ use Rattle.model.specs.Instances.{settingsA, arrivalWith, draw}
 use Rattle.model.specs.TouchInstances.{touch}
 use Rattle.site_steps.specs.declared.Observed.{Observed}
 use Rattle.tracker.specs.Batch.{messageNumbers}
-use Rattle.history.specs.Histories.{Arrives, batch, single, Delivers, to-coordinator, to-site, next-announcement, Refuses, arrival-left, coordinator-message-refused, batch-takes-none, Reachable, started}
+use Rattle.history.specs.Steps.{Arrives, batch, single, Delivers, to-coordinator, to-site, next-announcement, Refuses, arrival-left, coordinator-message-refused, batch-takes-none}
+use Rattle.history.specs.Histories.{Reachable, started}
 use Rattle.history.specs.State.{fronts, lending}
 use Rattle.history_examples.specs.Example.{siteAfter, siteNumbers, coordinatorWith, coordinatorNumbers, allMessages, startedState, afterDraw, afterItemReport, afterCountReport, afterPoll, afterPollAnswer, afterAnnouncement, atRestAgain, afterBatchOfTwo}
 

@@ -15,7 +15,8 @@ use Rattle.model.specs.TouchInstances.{touch}
 use Rattle.coordinator_reading.specs.Contracts.{QuantileSays}
 use Rattle.coordinator_list.specs.Contracts.{ListSays}
 use Rattle.history.specs.State.{State, coordinatorPart}
-use Rattle.history.specs.Histories.{Step, arrives, delivers, refuses, Reachable, stepped}
+use Rattle.history.specs.Steps.{Step, arrives, delivers, refuses}
+use Rattle.history.specs.Histories.{Reachable, stepped}
 use Rattle.demands.specs.Given.{givenIn, keptOutIn}
 use Rattle.demands.specs.Touches.{acceptedIn}
 use Rattle.history_examples.specs.Example.{startedState, afterDraw, afterItemReport, afterCountReport, afterPoll, afterPollAnswer, afterAnnouncement, atRestAgain, afterBatchOfTwo}

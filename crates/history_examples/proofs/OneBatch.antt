@@ -8,7 +8,8 @@ use Rattle.model.specs.declared.Arrival.{Arrival}
 use Rattle.model.specs.Instances.{settingsA}
 use Rattle.tracker.specs.Batch.{BatchHeld, BatchSays}
 use Rattle.history.specs.State.{fronts, lending, putBack}
-use Rattle.history.specs.Histories.{batchCall, afterBatch, batch, arrives, Reachable, stepped}
+use Rattle.history.specs.Steps.{batchCall, afterBatch, batch, arrives}
+use Rattle.history.specs.Histories.{Reachable, stepped}
 use Rattle.history_examples.specs.Example.{startedState}
 use Rattle.history_examples.proofs.Example.{begins}
 

@@ -18,7 +18,8 @@ use Rattle.model.specs.Refusals.{noRefusal}
 use Rattle.record_numbers.specs.Numbers.{sitesWidth, settingsFrom, messageRead, messageFrom, sitesFrom}
 use Rattle.site.specs.Calls.{SiteReceiveSays}
 use Rattle.history.specs.State.{Held, State, recordAt, partOf, siteStart, afterSiteCall, holding, sending}
-use Rattle.history.specs.Histories.{answeredOut, to-site, site-message-refused, delivers, refuses, Reachable, stepped}
+use Rattle.history.specs.Steps.{answeredOut, to-site, site-message-refused, delivers, refuses}
+use Rattle.history.specs.Histories.{Reachable, stepped}
 use Rattle.history.proofs.Answers.{accepted-choice, refused-choice}
 use Rattle.library_decks.specs.AllDecks.{namedRefusal, partFrom, DecksReplied}
 use Rattle.library_history.specs.Bench.{Bench, heldIn, changed, unchanged}

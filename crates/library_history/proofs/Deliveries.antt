@@ -15,7 +15,8 @@ use Rattle.model.specs.Held.{networkOf}
 use Rattle.model.proofs.Touches.DrawLaws.{not-taken}
 use Rattle.record_numbers.specs.Numbers.{sitesWidth, settingsFrom, arrivalFrom, sitesFrom, sitesNumbers, coordinatorRead, coordinatorNumbers}
 use Rattle.history.specs.State.{Held, heldBy, State, AtRest, holding}
-use Rattle.history.specs.Histories.{to-coordinator, to-site, next-announcement, Delivers, Reachable, Deliveries, no-step, delivered, refused-between}
+use Rattle.history.specs.Steps.{to-coordinator, to-site, next-announcement, Delivers}
+use Rattle.history.specs.Histories.{Reachable, Deliveries, no-step, delivered, refused-between}
 use Rattle.history.proofs.Answers.{left-choice}
 use Rattle.history.proofs.Refused.{refused-same}
 use Rattle.single_outcome.specs.declared.DeliveryAnswer.{DeliveryAnswer}

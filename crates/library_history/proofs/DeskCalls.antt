@@ -20,7 +20,8 @@ use Rattle.model.proofs.Thresholds.TestedMemory.{coordinator-tested}
 use Rattle.model.proofs.Thresholds.SettingsLaws.{settled}
 use Rattle.record_numbers.specs.Numbers.{settingsFrom, messageRead, messageFrom, coordinatorRead, coordinatorNumbers}
 use Rattle.history.specs.State.{State, coordinatorPart, afterCoordinatorCall, holding, sending}
-use Rattle.history.specs.Histories.{receivedOut, to-coordinator, next-announcement, coordinator-message-refused, announcement-refused, delivers, refuses, Reachable, stepped}
+use Rattle.history.specs.Steps.{receivedOut, to-coordinator, next-announcement, coordinator-message-refused, announcement-refused, delivers, refuses}
+use Rattle.history.specs.Histories.{Reachable, stepped}
 use Rattle.history.proofs.Answers.{accepted-choice, refused-choice}
 use Rattle.coordinator.specs.declared.Received.{Received}
 use Rattle.library_rows.specs.Rows.{Number, handedOut}

@@ -18,7 +18,8 @@ use Rattle.model.proofs.Touches.DrawLaws.{not-taken}
 use Rattle.record_numbers.specs.Numbers.{sitesWidth, settingsFrom, arrivalFrom, sitesFrom}
 use Rattle.site.specs.Calls.{ObserveSays}
 use Rattle.history.specs.State.{Held, State, AtRest, recordAt, partOf, siteStart, withPart, afterSiteCall, holding}
-use Rattle.history.specs.Histories.{observedOut, afterSingle, single, arrival-left, arrives, refuses, Reachable, stepped}
+use Rattle.history.specs.Steps.{observedOut, afterSingle, single, arrival-left, arrives, refuses}
+use Rattle.history.specs.Histories.{Reachable, stepped}
 use Rattle.history.proofs.Answers.{accepted-choice, left-choice}
 use Rattle.history.proofs.Refused.{part-same}
 use Rattle.library_decks.specs.AllDecks.{namedRefusal, partFrom, DecksDrawn}

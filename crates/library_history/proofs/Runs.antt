@@ -15,7 +15,8 @@ use Rattle.record_numbers.specs.Numbers.{sitesWidth, settingsFrom, sitesFrom, s
 use Rattle.tracker_steps.specs.declared.BatchAnswer.{BatchAnswer}
 use Rattle.tracker.specs.Batch.{BatchHeld, batchHeld, BatchSays, messagesIn}
 use Rattle.history.specs.State.{Held, heldBy, State, AtRest, fronts, lending, putBack, holding}
-use Rattle.history.specs.Histories.{batchCall, afterBatch, batch, batch-takes-none, Refuses, arrives, refuses, Reachable, stepped}
+use Rattle.history.specs.Steps.{batchCall, afterBatch, batch, batch-takes-none, Refuses, arrives, refuses}
+use Rattle.history.specs.Histories.{Reachable, stepped}
 use Rattle.history.proofs.Refused.{refused-same}
 use Rattle.library_batch.specs.Batch.{rowAfter}
 use Rattle.library_history.specs.Bench.{Bench, heldIn, withFront}

@@ -23,7 +23,7 @@ use Rattle.tracker_queue.specs.declared.Queue.{Queue}
 use Rattle.site_steps.specs.declared.Observed.{Observed}
 use Rattle.site.specs.Calls.{ObserveSays}
 use Rattle.history.specs.State.{Held, State, recordAt, siteStart, sitePart, withPart, withRecord, afterSiteCall, recordIn, heldBy}
-use Rattle.history.specs.Histories.{observedOut}
+use Rattle.history.specs.Steps.{observedOut}
 use Rattle.model.proofs.Touches.DrawLaws.{not-taken}
 use Rattle.history.proofs.Answers.{left-choice}
 use Rattle.history.proofs.Refused.{part-same}

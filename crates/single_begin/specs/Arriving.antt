@@ -20,7 +20,7 @@ use Rattle.bench_memory.specs.Contracts.{SitesFit}
 use Rattle.site_steps.specs.declared.Observed.{Observed}
 use Rattle.site.specs.Calls.{ObserveSays, observeRefusal}
 use Rattle.history.specs.State.{State, recordAt, sitePart, recordIn, heldBy}
-use Rattle.history.specs.Histories.{afterSingle}
+use Rattle.history.specs.Steps.{afterSingle}
 use Rattle.single_steps.specs.declared.Progress.{Progress}
 use Rattle.single_steps.specs.Progress.{Stands}
 

@@ -18,7 +18,8 @@ use Rattle.model.specs.Draws.{isDraw}
 use Rattle.model.specs.Network.{Network}
 use Rattle.model.specs.Runs.{lineRefusalIn, runOf}
 use Rattle.history.specs.State.{heldRefusal, Held, State, AtRest, networkOf, networkWritten, heldBy}
-use Rattle.history.specs.Histories.{afterSingle, Reachable, stepped, arrives, single}
+use Rattle.history.specs.Steps.{afterSingle, arrives, single}
+use Rattle.history.specs.Histories.{Reachable, stepped}
 use Rattle.model.proofs.Touches.DrawLaws.{takes, not-taken}
 use Rattle.history.proofs.Answers.{taken-choice, left-choice}
 use Rattle.history.proofs.SingleState.{begins}

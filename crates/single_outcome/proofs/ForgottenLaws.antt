@@ -29,7 +29,7 @@ use Rattle.model.proofs.Thresholds.RefusalLaws.{both-accepted}
 use Rattle.model.proofs.Thresholds.TestedMemory.{site-tested}
 use Rattle.model.proofs.Soundness.ConsistentCoordinator.{CoordinatorWithin}
 use Rattle.history.specs.State.{State, networkOf, recordAt, sitePart}
-use Rattle.history.specs.Histories.{Delivers, to-coordinator, to-site, next-announcement}
+use Rattle.history.specs.Steps.{Delivers, to-coordinator, to-site, next-announcement}
 use Rattle.history.proofs.CallFronts.{announces-whole}
 use Rattle.history.proofs.Underway.{Underway, parts-underway}
 use Rattle.history.proofs.NextAnnouncement.{announces}

@@ -15,7 +15,8 @@ use Rattle.model.specs.Draws.{isDraw}
 use Rattle.site_steps.specs.declared.Observed.{Observed}
 use Rattle.site.specs.Calls.{ObserveSays}
 use Rattle.history.specs.State.{State, networkOf, networkWritten, recordAt, sitePart}
-use Rattle.history.specs.Histories.{afterSingle, Delivers, Deliveries}
+use Rattle.history.specs.Steps.{afterSingle, Delivers}
+use Rattle.history.specs.Histories.{Deliveries}
 use Rattle.history.proofs.Underway.{SoundRest, Underway}
 use Rattle.history.proofs.SingleState.{begins}
 use Rattle.history.proofs.DeliveredState.{delivered-on, step-keeps}

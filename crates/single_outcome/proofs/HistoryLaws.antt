@@ -16,7 +16,8 @@ use Rattle.model.specs.Settings.{settingsRefusal}
 use Rattle.model.specs.Network.{Network}
 use Rattle.model.proofs.Thresholds.RefusalLaws.{both-accepted}
 use Rattle.history.specs.State.{heldRefusal, State, AtRest}
-use Rattle.history.specs.Histories.{Reachable, started, stepped, reopened, delivers, refuses, Deliveries, no-step, delivered, refused-between}
+use Rattle.history.specs.Steps.{delivers, refuses}
+use Rattle.history.specs.Histories.{Reachable, started, stepped, reopened, Deliveries, no-step, delivered, refused-between}
 use Rattle.history.proofs.Accounts.{few-dropped}
 use Rattle.history.proofs.Accepted.{held-sound, network-accepted}
 use Rattle.history.proofs.Arisen.{arisen}

@@ -22,7 +22,7 @@ use Rattle.model.specs.Network.{Network, siteAt, withSite, withCoordinator}
 use Rattle.model.specs.DeliveryClaims.{Delivery, delivery, deliveryStep, deliveryOf}
 use Rattle.model.proofs.Soundness.ConsistentCoordinator.{CoordinatorWithin}
 use Rattle.history.specs.State.{State, networkOf}
-use Rattle.history.specs.Histories.{Delivers}
+use Rattle.history.specs.Steps.{Delivers}
 use Rattle.history.proofs.Underway.{SoundParts, Underway, in-mid}
 use Rattle.history.proofs.DeliveredState.{delivered-on}
 use Rattle.history.proofs.GoesOn.{further}

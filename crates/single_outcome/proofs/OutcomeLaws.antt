@@ -33,7 +33,7 @@ use Rattle.model.proofs.Thresholds.RefusalLaws.{both-accepted}
 use Rattle.model.proofs.Soundness.SoundSites.{taken-of-no-refusal}
 use Rattle.model.proofs.Soundness.ConsistentCoordinator.{CoordinatorWithin, coordinator-within-of}
 use Rattle.history.specs.State.{State, networkOf}
-use Rattle.history.specs.Histories.{Delivers, to-coordinator, to-site, next-announcement}
+use Rattle.history.specs.Steps.{Delivers, to-coordinator, to-site, next-announcement}
 use Rattle.history.proofs.CallFronts.{receives-whole, announces-whole}
 use Rattle.history.proofs.Underway.{Underway}
 use Rattle.history.proofs.DeliveredState.{none-when-quiet}

@@ -36,7 +36,8 @@ use Rattle.model.specs.DeliveryClaims.{deliveryOf, deliverySteps, outcome}
 use Rattle.site_steps.specs.declared.Observed.{Observed}
 use Rattle.site.specs.Calls.{ObserveSays}
 use Rattle.history.specs.State.{Held, State, AtRest, heldRefusal, networkOf, networkWritten, recordAt, sitePart}
-use Rattle.history.specs.Histories.{afterSingle, Reachable, Deliveries}
+use Rattle.history.specs.Steps.{afterSingle}
+use Rattle.history.specs.Histories.{Reachable, Deliveries}
 use Rattle.history.specs.Frame.{TailsKept}
 use Rattle.single_outcome.specs.declared.DeliveryAnswer.{DeliveryAnswer}
 

@@ -18,7 +18,7 @@ use Rattle.tracker_queue.specs.Sending.{withoutHead}
 use Rattle.coordinator.specs.declared.Received.{Received}
 use Rattle.coordinator.specs.Calls as CoordinatorCalls
 use Rattle.history.specs.State.{Held, withPart, afterCoordinatorCall}
-use Rattle.history.specs.Histories.{to-coordinator, next-announcement}
+use Rattle.history.specs.Steps.{to-coordinator, next-announcement}
 use Rattle.history.proofs.Answers.{refused-choice}
 use Rattle.history.proofs.CoordinatorFronts.{front-then}
 use Rattle.single_steps.specs.declared.Progress.{Progress}

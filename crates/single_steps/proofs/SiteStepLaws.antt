@@ -23,7 +23,7 @@ use Rattle.bench_memory.specs.Contracts.{SitesFit}
 use Rattle.site_receiving.specs.declared.Replied.{Replied}
 use Rattle.site.specs.Calls as SiteCalls
 use Rattle.history.specs.State.{Held, State, recordAt, sitePart, withRecord, afterSiteCall, recordIn, heldBy}
-use Rattle.history.specs.Histories.{to-site}
+use Rattle.history.specs.Steps.{to-site}
 use Rattle.single_steps.specs.declared.Progress.{Progress}
 use Rattle.single_steps.specs.Progress.{sent, refusedWith, queued, Stands}
 use Rattle.single_steps.specs.Steps.{site-refuses, HandByCallAsks, CallStepSays}

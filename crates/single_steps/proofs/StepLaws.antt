@@ -17,7 +17,7 @@ use Rattle.model.specs.declared.CoordinatorRecord.{CoordinatorRecord}
 use Rattle.model.specs.Refusals.{noRefusal}
 use Rattle.tracker_queue.specs.declared.Queue.{Queue}
 use Rattle.history.specs.State.{Held, State, sending, heldBy}
-use Rattle.history.specs.Histories.{Delivers}
+use Rattle.history.specs.Steps.{Delivers}
 use Rattle.single_steps.specs.declared.Progress.{Progress}
 use Rattle.single_steps.specs.Progress.{sent, refusedWith, queued, Stands}
 use Rattle.single_steps.specs.Steps.{Blocked, goes, stops, CallStepSays}

@@ -22,7 +22,8 @@ use Rattle.bench_memory.specs.Contracts.{SitesFit}
 use Rattle.site.specs.Calls as SiteCalls
 use Rattle.coordinator.specs.Calls as CoordinatorCalls
 use Rattle.history.specs.State.{State, recordAt, sitePart}
-use Rattle.history.specs.Histories.{Delivers, Deliveries}
+use Rattle.history.specs.Steps.{Delivers}
+use Rattle.history.specs.Histories.{Deliveries}
 use Rattle.single_steps.specs.declared.Progress.{Progress}
 use Rattle.single_steps.specs.Progress.{carriedLimit, isDue, Stands}
 

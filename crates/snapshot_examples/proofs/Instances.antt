@@ -9,7 +9,8 @@ use lib.ListN.{replicate}
 use Rattle.model.specs.Limits.{valueCount}
 use Rattle.model.specs.Draws.{isTaken}
 use Rattle.model.specs.Instances.{settingsA, draw}
-use Rattle.history.specs.Histories.{arrives, delivers, Reachable, stepped}
+use Rattle.history.specs.Steps.{arrives, delivers}
+use Rattle.history.specs.Histories.{Reachable, stepped}
 use Rattle.history_examples.specs.OneBatch.{answerFor}
 use Rattle.history_examples.specs.Example.{startedState, afterDraw, afterItemReport, afterCountReport, afterPoll, afterPollAnswer}
 use Rattle.history_examples.proofs.OneBatch.{reached-by-batch}

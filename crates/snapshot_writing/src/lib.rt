@@ -1,6 +1,6 @@
-// The parts of a file written to lent bytes (request N3): settings, desk part, decks and trailer, by
-// the layout of crate `snapshot_file`. The functions are internal: the tests before them decide what
-// they require (crate `snapshot_saving`).
+// The parts of a file written to lent bytes (request N3): settings, desk part, decks and trailer,
+// by the layout of crate `snapshot_file`. The functions are internal: the tests before them decide
+// what they require (crate `snapshot_saving`).
 
 ghost use mathlib.Core.Path.{_≡_};
 ghost use Prim.Native.Nat.{_≤_};

@@ -18,7 +18,8 @@ abbrev μ-loop : tie.MeasureT-loop
 
 loop-again : tie.Need-loop-again Inv-loop μ-loop
 loop-again c =
-    let start = c .before .before .before .before .before .before .before .before .before .before .args in
+    let start =
+    c .before .before .before .before .before .before .before .before .before .before .args in
     let now = c .before .before .before .before .before .before .before .loop in
     let written = c .before .before .write-four in
     written-next 4 (start .place) (start .numbers .now) (start .bytes .now) (now .i) _ _

@@ -1,7 +1,7 @@
 -- The steps of a history: a call is known here by its contract alone, whatever it answers and
--- leaves, if it keeps its promise. The next state is always made of the call's results. How much of
--- a memory is lent may differ from call to call ("longer is fine, the rest untouched"): the first so
--- many numbers, and of refused calls any slice.
+-- leaves, if it keeps its promise. The next state is always made of the call's results. How much
+-- of a memory is lent may differ from call to call ("longer is fine, the rest untouched"): the
+-- first so many numbers, and of refused calls any slice.
 --
 --   Arrives settings before after      a batch call, or an accepted single draw, at rest
 --   Delivers settings before after     one message handed over and accepted, or a kind 7 asked for

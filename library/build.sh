@@ -2,10 +2,11 @@
 # build.sh [join]: the product's archives, from any current folder.
 #
 # Proves and compiles the crates below, two at a time, and joins what they export into
-# target/library/libtracker.a; libcontroller.a, with its three calls, comes beside it. With `join`
-# the archives that stand in target/staticlib are joined as they are, without a proof: for whoever
-# has just proved them. The last line is 'N passed, M failed': one for each crate, and three for the
-# joined archives.
+# target/library/libtracker.a; libcontroller.a, with its three calls, comes beside it. The archive of
+# the sums that tests and benchmarks compare (request N4) is made too, and stays in
+# target/staticlib. With `join` the archives that stand there are joined as they are, without a
+# proof: for whoever has just proved them. The last line is 'N passed, M failed': one for each
+# crate, and three for the joined archives.
 set -u
 export LC_ALL=C
 cd "$(dirname "$0")/.." || exit 1
@@ -16,6 +17,8 @@ cd "$(dirname "$0")/.." || exit 1
 here="library_decks library_desk library_deck controller"
 beside="library_batch library_delivery library_reading library_snapshot library_lengths"
 crates="$here $beside"
+# For tests and benchmarks, joined to nothing.
+apart="checksum_singly"
 headers=library/include
 made=target/staticlib
 out=target/library
@@ -63,21 +66,21 @@ prove_all() {
   echo "proving what the library stands on"
   log=$(mktemp)
   # shellcheck disable=SC2086
-  if ! rt check $crates >"$log" 2>&1; then
+  if ! rt check $crates $apart >"$log" 2>&1; then
     fail "rt check: $(grep -E '^rt: FAILED' "$log")"
     grep -E 'error' "$log" | head -n 20
   fi
   rm -f "$log"
   [ "$failed" -eq 0 ] || return
   second_tree || { fail "no second tree could be made"; return; }
-  echo "proving once more and compiling $crates"
+  echo "proving once more and compiling $crates $apart"
   (
     passed=0
     failed=0
     for crate in $beside; do prove "$second" "$crate"; done
     echo "$passed $failed" >"$second/counts"
   ) >"$second/said" 2>&1 &
-  for crate in $here; do prove . "$crate"; done
+  for crate in $here $apart; do prove . "$crate"; done
   wait
   cat "$second/said"
   if read -r ok bad <"$second/counts"; then

@@ -1,11 +1,12 @@
 //! Times of the proved calls as a ratio to the separate implementation, on the same input in the
 //! same run. README.md says what is measured and how.
 //!
-//! `bench [calls] [steps] [snapshots] [streams] [batches] [long]`: these parts, or the first five;
-//! with `long` batches go on to ten million arrivals.
+//! `bench [calls] [steps] [snapshots] [sums] [streams] [batches] [long] [once]`: these parts, or the
+//! first six; with `long` batches go on to ten million arrivals, and `once` takes each sum once.
 
 mod batches;
 mod coordinators;
+mod file_sums;
 mod networks;
 mod sites;
 mod snapshots;
@@ -37,6 +38,12 @@ fn main() {
     }
     if asked("snapshots") {
         snapshots::measure();
+    }
+    if asked("sums") {
+        file_sums::measure();
+    }
+    if words.iter().any(|word| word == "once") {
+        file_sums::once();
     }
     if asked("streams") {
         batches::measure_whole(1_000_000);

@@ -1,2 +1,3 @@
--- Laws of the sum of bytes.
+-- Laws of the sum of bytes, and of sums in lanes.
 pub mod SumLaws
+pub mod LaneLaws

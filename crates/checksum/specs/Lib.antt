@@ -1,2 +1,3 @@
 -- The sum of bytes.
 pub mod Sums
+pub mod Rounds

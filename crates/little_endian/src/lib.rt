@@ -10,7 +10,7 @@ ghost use Rattle.model.specs.Lent.{before, after};
 ghost use Rattle.little_endian.specs.Numbers.{byteRange, littleEndian, numberAt};
 
 // A byte as a number of 64 bits.
-fn wide(byte: u8) -> u64
+pub fn wide(byte: u8) -> u64
     ensures { λ r. ⌜ (r ≡ byte) × (r < byteRange) ⌝ }
 {
     byte as u64

@@ -1,2 +1,3 @@
 -- The figures of specs/, proved.
 pub mod Instances
+pub mod Sums

@@ -1,2 +1,3 @@
--- Benches saved to a file, in figures (request N3).
+-- Benches saved to a file, in figures (requests N3 and N4).
 pub mod Instances
+pub mod Sums

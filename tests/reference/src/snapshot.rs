@@ -121,7 +121,7 @@ fn write_trailer(file: &mut [u8], layout: &Layout) {
 }
 
 /// The sum of all bytes modulo 65,536.
-fn byte_sum(bytes: &[u8]) -> u16 {
+pub fn byte_sum(bytes: &[u8]) -> u16 {
     bytes.iter().fold(0, |sum: u16, &byte| sum.wrapping_add(u16::from(byte)))
 }
 

@@ -2,13 +2,13 @@
 use mathlib.Core.Path.{_≡_, refl}
 use Prim.Native.Nat.{_-_, _≤_, _<_}
 use native.Mathlib.Omega.{arith}
-use lib.ListN.{length, take}
+use lib.ListN.{length, getD, take}
 use lib.Seq.{take-all}
 use borrow.Author.Needs.{needs}
 use Rattle.checksum.specs.Sums.{sumOf, byteSum}
 use Rattle.checksum.proofs.SumLaws.{sum-take-more, add-byte-sum}
-use Rattle.checksum.proofs.byte_sum.Statement.{statement}
-use Rattle.checksum.proofs.byte_sum.Tie as tie
+use Rattle.checksum_singly.proofs.byte_sum_singly.Statement.{statement}
+use Rattle.checksum_singly.proofs.byte_sum_singly.Tie as tie
 
 abbrev Inv-loop : tie.InvT-loop
 Inv-loop bytes sum₀ i₀ sum i = (i ≤ length bytes) × (sum ≡ byteSum (take i bytes))
@@ -19,30 +19,18 @@ abbrev μ-loop : tie.MeasureT-loop
 loop-holds : tie.Need-loop-holds Inv-loop μ-loop
 loop-holds c = (omega arith, refl)
 
-shared-slice-read-wide : tie.Need-shared-slice-read-wide Inv-loop μ-loop
-shared-slice-read-wide c = search needs
-
-wide-requires : tie.Need-wide-requires Inv-loop μ-loop
-wide-requires c κs = search needs
-
 add-sum : tie.Need-add-sum Inv-loop μ-loop
 add-sum c =
-    let byte-below = c .before .shared-slice-known2 .given (c .before .before .before .loop .i) in
-    record { fits = omega (arith, c .wide .ensures, byte-below) }
-
-add-i : tie.Need-add-i Inv-loop μ-loop
-add-i c = search needs
-
-loop-less : tie.Need-loop-less Inv-loop μ-loop
-loop-less c = search needs
+    record { fits = omega (arith, c .wide .ensures .1, c .before .before .before .loop .inv .1) }
 
 loop-again : tie.Need-loop-again Inv-loop μ-loop
 loop-again c =
     let now = c .before .before .before .loop in
     let bytes = c .before .before .before .before .before .args .bytes .now in
-    let inside : now .i < length bytes = omega arith in (
+    let inside : now .i < length bytes = omega arith in
+    let byte : c .wide .result ≡ getD bytes (now .i) 0 = c .wide .ensures .0 in (
       omega arith,
-      rw (sum-take-more (now .i) bytes inside, ← c .wide .ensures)
+      rw (sum-take-more (now .i) bytes inside, ← byte)
           (add-byte-sum (now .sum) (sumOf (take (now .i) bytes)) (c .wide .result) (now .inv .1)),
     )
 
@@ -52,17 +40,17 @@ returns c =
     let bytes = c .before .before .before .args .bytes .now in
     rw (take-all (now .i) bytes (omega arith)) at (now .inv .1)
 
-pub byte-sum-spec : {M : Type 1} → statement M
-byte-sum-spec =
+pub byte-sum-singly-spec : {M : Type 1} → statement M
+byte-sum-singly-spec =
     tie.close
     (tie.spec
     Inv-loop
     μ-loop
     loop-holds
-    shared-slice-read-wide
-    wide-requires
+    (λ c. search needs)
+    (λ c κs. search needs)
     add-sum
-    add-i
-    loop-less
+    (λ c. search needs)
+    (λ c. search needs)
     loop-again
     returns)

@@ -1,0 +1,2 @@
+-- Masks, and what they make of a word.
+pub mod Masks

@@ -1,0 +1,2 @@
+-- A word as fields of equally many bits.
+pub mod Fields

@@ -1,0 +1,2 @@
+-- What the calls of tests and benchmarks promise.
+pub mod Trials

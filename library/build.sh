@@ -2,8 +2,8 @@
 # build.sh [join]: the product's archives, from any current folder.
 #
 # Proves and compiles the crates below, two at a time, and joins what they export into
-# target/library/libtracker.a; libcontroller.a, with its three calls, comes beside it. The archive of
-# the sums that tests and benchmarks compare (request N4) is made too, and stays in
+# target/library/libtracker.a; libcontroller.a, with its three calls, comes beside it. The archive
+# of the sums that tests and benchmarks compare (request N4) is made too, and stays in
 # target/staticlib. With `join` the archives that stand there are joined as they are, without a
 # proof: for whoever has just proved them. The last line is 'N passed, M failed': one for each
 # crate, and three for the joined archives.

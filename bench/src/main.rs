@@ -1,8 +1,8 @@
 //! Times of the proved calls as a ratio to the separate implementation, on the same input in the
 //! same run. README.md says what is measured and how.
 //!
-//! `bench [calls] [steps] [snapshots] [sums] [streams] [batches] [long] [once]`: these parts, or the
-//! first six; with `long` batches go on to ten million arrivals, and `once` takes each sum once.
+//! `bench [calls] [steps] [snapshots] [sums] [streams] [batches] [long] [once]`: these parts, or
+//! the first six; with `long` batches go on to ten million arrivals, `once` takes each sum once.
 
 mod batches;
 mod coordinators;

@@ -1,5 +1,6 @@
 -- Sums in lanes: words of 64 bits whose fields of 16 bits are sums of bytes.
 --
+--   laneRange                  how many numbers a lane can be
 --   FieldsAdded, add-fields    two words of lanes added, no lane of which runs over
 --   fields-fit                 four lanes are a number of 64 bits
 --   Lanes                      two words of lanes: each lane within a bound, and the total of all
@@ -22,28 +23,31 @@ use Rattle.checksum.proofs.SumLaws.{sum-take-add}
 
 -- ---- One word of lanes
 
+abbrev pub laneRange : ℕ
+laneRange = 65536
+
 pub record FieldsAdded (count x y bound : ℕ) : Type 0 where
   pub within : FieldsWithin 16 bound count (x + y)
   pub sum-is : fieldSum 16 count (x + y) ≡ fieldSum 16 count x + fieldSum 16 count y
 
 -- Lane by lane from the lowest: none is above 65,535, so nothing is carried.
 pub add-fields : (count x y m n : ℕ)
-    → m + n < 65536
+    → m + n < laneRange
     → FieldsWithin 16 m count x
     → FieldsWithin 16 n count y
     → FieldsAdded count x y (m + n)
 add-fields zero x y m n room p q = record { within = omega (arith, p, q); sum-is = refl }
 add-fields (suc count) x y m n room p q =
-    let lowest : x % 65536 + y % 65536 < 65536 = omega (arith, p .0, q .0) in
-    let low : (x + y) % 65536 ≡ x % 65536 + y % 65536 = omega arith in
-    let high : (x + y) / 65536 ≡ x / 65536 + y / 65536 = omega arith in
-    let rest = add-fields count (x / 65536) (y / 65536) m n room (p .1) (q .1) in
+    let lowest : x % laneRange + y % laneRange < laneRange = omega (arith, p .0, q .0) in
+    let low : (x + y) % laneRange ≡ x % laneRange + y % laneRange = omega arith in
+    let high : (x + y) / laneRange ≡ x / laneRange + y / laneRange = omega arith in
+    let rest = add-fields count (x / laneRange) (y / laneRange) m n room (p .1) (q .1) in
     record {
       within = (rw low (omega (arith, p .0, q .0)), rw high (rest .within));
       sum-is = rw (low, high) (omega (arith, rest .sum-is));
     }
 
-pub fields-fit : (word bound : ℕ) → bound < 65536 → FieldsWithin 16 bound 4 word → word < 2 ^ 64
+pub fields-fit : (word bound : ℕ) → bound < laneRange → FieldsWithin 16 bound 4 word → word < 2 ^ 64
 fields-fit word bound room p = omega (arith, p .0, p .1 .0, p .1 .1 .0, p .1 .1 .1)
 
 -- ---- Two words of lanes
@@ -64,7 +68,7 @@ no-lanes (suc count) =
     }
 
 pub add-lanes : {x y u v m n s t : ℕ} (count : ℕ)
-    → m + n < 65536
+    → m + n < laneRange
     → Lanes count x u m s
     → Lanes count y v n t
     → Lanes count (x + y) (u + v) (m + n) (s + t)
@@ -80,7 +84,7 @@ add-lanes {x} {y} {u} {v} {m} {n} count room p q =
 
 -- ---- The lanes of bytes
 
-lowest-byte : (byte rest : ℕ) → byte < 256 → (byte + 256 * rest) % 256 ≡ byte
+lowest-byte : (byte rest : ℕ) → byte < byteRange → (byte + byteRange * rest) % byteRange ≡ byte
 lowest-byte byte rest small = omega arith
 
 -- Two bytes in the lowest lanes, and so on above.
@@ -88,7 +92,7 @@ pub byte-lanes : (count : ℕ) (bytes : List ℕ)
     → length bytes ≡ count + count
     → AllBelow byteRange bytes
     → Lanes count (lowerHalves 8 count (numberOf bytes))
-    (lowerHalves 8 count (numberOf bytes / 256)) mostAdded (sumOf bytes)
+    (lowerHalves 8 count (numberOf bytes / byteRange)) mostAdded (sumOf bytes)
 byte-lanes zero [] long below =
     record { lower-within = refl; upper-within = refl; total-is = refl }
 byte-lanes zero (x ∷ bytes) long below = absurd (omega arith)
@@ -98,21 +102,21 @@ byte-lanes (suc count) (x ∷ (y ∷ bytes)) long below =
     let x-small : x < byteRange = below 0 (omega arith) in
     let y-small : y < byteRange = below 1 (omega arith) in
     let n = numberOf bytes in
-    let word : ℕ = x + 256 * (y + 256 * n) in
-    let first : word % 256 ≡ x = lowest-byte x (y + 256 * n) x-small in
-    let above : word / 65536 ≡ n = omega arith in
-    let behind : word / 256 ≡ y + 256 * n = omega arith in
-    let second : word / 256 % 256 ≡ y = rw behind (lowest-byte y n y-small) in
-    let above-behind : word / 256 / 65536 ≡ n / 256 = rw behind (omega arith) in
+    let word : ℕ = x + byteRange * (y + byteRange * n) in
+    let first : word % byteRange ≡ x = lowest-byte x (y + byteRange * n) x-small in
+    let above : word / laneRange ≡ n = omega arith in
+    let behind : word / byteRange ≡ y + byteRange * n = omega arith in
+    let second : word / byteRange % byteRange ≡ y = rw behind (lowest-byte y n y-small) in
+    let above-behind : word / byteRange / laneRange ≡ n / byteRange = rw behind (omega arith) in
     let rest =
     byte-lanes count bytes (omega arith)
     (all-below-tail y bytes (all-below-tail x (y ∷ bytes) below)) in
     let lowers = lowerHalves 8 count n in
-    let uppers = lowerHalves 8 count (n / 256) in
-    let low : (lowers * 65536 + x) % 65536 ≡ x = omega arith in
-    let low-rest : (lowers * 65536 + x) / 65536 ≡ lowers = omega arith in
-    let up : (uppers * 65536 + y) % 65536 ≡ y = omega arith in
-    let up-rest : (uppers * 65536 + y) / 65536 ≡ uppers = omega arith in
+    let uppers = lowerHalves 8 count (n / byteRange) in
+    let low : (lowers * laneRange + x) % laneRange ≡ x = omega arith in
+    let low-rest : (lowers * laneRange + x) / laneRange ≡ lowers = omega arith in
+    let up : (uppers * laneRange + y) % laneRange ≡ y = omega arith in
+    let up-rest : (uppers * laneRange + y) / laneRange ≡ uppers = omega arith in
     record {
       lower-within = rw (first, above, low, low-rest) (omega arith, rest .lower-within);
       upper-within = rw (second, above-behind, up, up-rest) (omega arith, rest .upper-within);
@@ -125,7 +129,7 @@ pub lanes-at : (bytes : List ℕ) (place : ℕ)
     → place + wordBytes ≤ length bytes
     → AllBelow byteRange bytes
     → Lanes 4 (lowerHalves 8 4 (numberAt wordBytes place bytes))
-    (lowerHalves 8 4 (numberAt wordBytes place bytes / 256)) mostAdded
+    (lowerHalves 8 4 (numberAt wordBytes place bytes / byteRange)) mostAdded
     (sumOf (take wordBytes (drop place bytes)))
 lanes-at bytes place fits below =
     let rest = drop place bytes in
@@ -134,7 +138,7 @@ lanes-at bytes place fits below =
     (all-below-take wordBytes rest long (all-below-drop place bytes below))
 
 pub one-word-more : {lower upper x y : ℕ} (bytes : List ℕ) (first i : ℕ)
-    → mostAdded * (i + 1) < 65536
+    → mostAdded * (i + 1) < laneRange
     → Lanes 4 lower upper (mostAdded * i) (sumOf (take (wordBytes * i) (drop first bytes)))
     → Lanes 4 x y mostAdded (sumOf (take wordBytes (drop (first + wordBytes * i) bytes)))
     → Lanes 4 (lower + x) (upper + y) (mostAdded * (i + 1))

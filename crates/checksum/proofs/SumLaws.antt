@@ -3,19 +3,18 @@
 --   sum-append            the sum of two runs of bytes
 --   sum-take-more         one byte more
 --   sum-take-add          some bytes more
---   sum-drop              the first byte, and those behind it
 --   sum-split             the bytes before a place, and those from it on
 --   sum-within            each byte adds 255 at most
 --   part-within           the same of a part
 --   add-byte-sum          a sum added modulo 65,536, at a turn of a loop
 use mathlib.Core.Path.{_≡_, sym, ap, _∙_}
 use mathlib.Core.List.{List, [], _∷_, _++_}
-use Prim.Native.Nat.{ℕ, suc, _+_, _*_, _%_, _≤_, _<_}
+use Prim.Native.Nat.{ℕ, _+_, _*_, _%_, _≤_, _<_}
 use native.Mathlib.Nat.{mod-add-mod}
 use native.Mathlib.Numerals.{add-one}
 use native.Mathlib.Omega.{arith}
 use lib.ListN.{length, getD, take, drop, length-drop, take-append-drop}
-use lib.Seq.{take-suc, take-add, drop-cons, length-take-le}
+use lib.Seq.{take-suc, take-add, length-take-le}
 use Rattle.little_endian.specs.Numbers.{byteRange, AllBelow}
 use Rattle.little_endian.proofs.NumberLaws.{all-below-tail, all-below-take, all-below-drop}
 use Rattle.checksum.specs.Sums.{sumRange, sumOf}
@@ -33,11 +32,6 @@ sum-take-more i xs inside =
 pub sum-take-add : (n m : ℕ) (xs : List ℕ)
     → sumOf (take (n + m) xs) ≡ sumOf (take n xs) + sumOf (take m (drop n xs))
 sum-take-add n m xs = rw (take-add, sum-append)
-
-pub sum-drop : (i : ℕ) (xs : List ℕ)
-    → i < length xs
-    → sumOf (drop i xs) ≡ getD xs i 0 + sumOf (drop (i + 1) xs)
-sum-drop i xs inside = rw (drop-cons xs i 0 inside, add-one)
 
 pub sum-split : (n : ℕ) (xs : List ℕ) → sumOf xs ≡ sumOf (take n xs) + sumOf (drop n xs)
 sum-split n xs = ap sumOf (sym (take-append-drop n xs)) ∙ sum-append (take n xs) (drop n xs)

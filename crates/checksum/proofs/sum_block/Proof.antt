@@ -4,10 +4,11 @@ use Prim.Native.Nat.{_+_, _-_, _*_, _/_, _≤_, _<_}
 use native.Mathlib.Omega.{arith}
 use lib.ListN.{take, drop}
 use borrow.Author.Needs.{needs}
+use Rattle.little_endian.specs.Numbers.{byteRange}
 use Rattle.checksum_lanes.specs.Fields.{lowerHalves}
 use Rattle.checksum.specs.Sums.{sumOf}
 use Rattle.checksum.specs.Rounds.{wordBytes, mostAdded}
-use Rattle.checksum.proofs.LaneLaws.{Lanes, no-lanes, fields-fit, lanes-at, one-word-more}
+use Rattle.checksum.proofs.LaneLaws.{laneRange, Lanes, no-lanes, fields-fit, lanes-at, one-word-more}
 use Rattle.checksum.proofs.sum_block.Statement.{statement}
 use Rattle.checksum.proofs.sum_block.Tie as tie
 
@@ -24,7 +25,7 @@ loop-holds c = (no-lanes 4, omega arith)
 
 -- A word more is within what a lane holds: at most 256 are taken.
 room : (c : tie.After-lower-bytes Inv-loop μ-loop)
-    → mostAdded * (c .before .before .before .loop .round + 1) < 65536
+    → mostAdded * (c .before .before .before .loop .round + 1) < laneRange
 room c =
     let asked = c .before .before .before .before .before .pre in
     omega (arith, asked .lanes-hold)
@@ -32,7 +33,8 @@ room c =
 -- The lanes with those of the word that was read.
 lanes-after : (c : tie.After-lower-bytes Inv-loop μ-loop)
     → Lanes 4 (c .before .before .before .loop .lower + c .lower-bytes .result)
-    (c .before .before .before .loop .upper + lowerHalves 8 4 (c .before .read-eight .result / 256))
+    (c .before .before .before .loop .upper
+    + lowerHalves 8 4 (c .before .read-eight .result / byteRange))
     (mostAdded * (c .before .before .before .loop .round + 1))
     (sumOf
     (take (wordBytes * (c .before .before .before .loop .round + 1))

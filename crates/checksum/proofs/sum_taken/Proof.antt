@@ -1,5 +1,4 @@
 -- The words' bytes and the rest are all bytes.
-use mathlib.Core.Path.{_≡_}
 use Prim.Native.Nat.{_*_, _/_}
 use native.Mathlib.Omega.{arith}
 use lib.ListN.{length, take, drop, length-drop}

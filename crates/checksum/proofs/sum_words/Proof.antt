@@ -2,10 +2,10 @@
 use mathlib.Core.Path.{_≡_, refl}
 use Prim.Native.Nat.{_+_, _-_, _*_, _≤_, _<_}
 use native.Mathlib.Omega.{arith}
-use lib.ListN.{length, take, drop}
+use lib.ListN.{take, drop}
 use borrow.Author.Needs.{needs}
 use Rattle.checksum.specs.Sums.{sumOf, byteSum}
-use Rattle.checksum.specs.Rounds.{wordBytes, mostRounds}
+use Rattle.checksum.specs.Rounds.{wordBytes}
 use Rattle.checksum.proofs.SumLaws.{sum-take-add, part-within, add-byte-sum}
 use Rattle.checksum.proofs.sum_words.Statement.{statement}
 use Rattle.checksum.proofs.sum_words.Tie as tie

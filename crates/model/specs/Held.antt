@@ -10,7 +10,7 @@
 --   recordAt held which          a site's record: the one in `Sites`
 --   afterSiteCall, afterCoordinatorCall   what is held after a call on one of them
 --   networkOf settings held      the network that records and memory hold
---   networkWritten settings held network messages    a network written over them
+--   networkWritten settings held network counts      a network written over them
 --   heldConsistent settings held what records and memory must meet, in mid-delivery too
 --   heldRefusal settings held    1, 2, 3, 4, 11 of the batch call, or accepted
 use mathlib.Core.Bool.{Bool}
@@ -43,7 +43,7 @@ withRecord sites which numbers = record {
 
 -- "Each call gets the records and memory as the calls before left them".
 pub record Held : Type 0 where
-  -- the records of up to 32 sites, with the network's own count of messages
+  -- the records of up to 32 sites, with the network's own counts of messages
   pub sites : Sites
   pub coordinator : CoordinatorRecord
   -- the sites' lent memory, one after another, site 0 first; it may be longer
@@ -81,12 +81,12 @@ networkOf settings held =
     networkIn settings (held .sites) (held .coordinator) (held .siteMemory)
     (held .coordinatorMemory)
 
--- Records, counters in use and histograms, estimates, with a count of messages; all else stays.
-abbrev pub networkWritten : Settings → Held → Network → ℕ → Held
-networkWritten settings held network messages =
+-- Records, counters in use and histograms, estimates, with counts of messages; all else stays.
+abbrev pub networkWritten : Settings → Held → Network → List ℕ → Held
+networkWritten settings held network counts =
     heldBy (record {
       records = siteRecords (network .sites) (held .sites .records);
-      messages = messages;
+      messages = counts;
     })
     (coordinatorRecord (network .coordinator))
     (sitesMemory settings (network .sites) (held .siteMemory))

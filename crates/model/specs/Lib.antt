@@ -16,6 +16,7 @@ pub mod Coordinator
 pub mod CoordinatorMemory
 pub mod Reading
 pub mod Network
+pub mod MessageCounts
 pub mod NetworkMemory
 pub mod Held
 pub mod Runs
@@ -30,3 +31,4 @@ pub mod DeliveryClaims
 pub mod NumberClaims
 pub mod Edges
 pub mod TouchInstances
+pub mod CountInstances

@@ -44,7 +44,7 @@ mostArrivals = mostSites * siteLimit
 abbrev pub coordinatorLimit : ℕ
 coordinatorLimit = 100000000000
 
--- "the bench's message count above 100,000,000,000,000"
+-- "the bench's message count above 100,000,000,000,000"; request N5: each deck's
 abbrev pub messageLimit : ℕ
 messageLimit = 100000000000000
 

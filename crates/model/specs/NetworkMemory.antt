@@ -9,20 +9,21 @@
 use mathlib.Core.Bool.{Bool, true, false, _&&_, _||_, not}
 use mathlib.Core.List.{List, [], _∷_, _++_}
 use Prim.Native.Nat.{ℕ, zero, suc, _+_, _*_}
-use lib.Dec.{eqb, ltb, leb}
+use lib.Dec.{eqb, ltb}
 use lib.ListN.{length, take, drop, replicate}
 use Rattle.model.specs.declared.Settings.{Settings}
 use Rattle.model.specs.declared.SiteRecord.{SiteRecord}
 use Rattle.model.specs.declared.Sites.{Sites}
 use Rattle.model.specs.declared.CoordinatorRecord.{CoordinatorRecord}
 use Rattle.model.specs.Refusals.{when, _orElse_, noRefusal, memoryTooShort, memoryInconsistent}
-use Rattle.model.specs.Limits.{mostSites, messageLimit}
+use Rattle.model.specs.Limits.{mostSites}
 use Rattle.model.specs.Settings.{settingsRefusal}
 use Rattle.model.specs.Site.{Site, freshSite}
 use Rattle.model.specs.SiteMemory.{siteWords, siteIn, siteRecord, siteMemory, siteConsistent}
 use Rattle.model.specs.Coordinator.{isIdle}
 use Rattle.model.specs.CoordinatorMemory.{coordinatorWords, coordinatorIn, coordinatorConsistent}
 use Rattle.model.specs.Network.{Network}
+use Rattle.model.specs.MessageCounts.{noneCounted, countsWithin}
 
 -- ---- The sites' memory
 
@@ -49,9 +50,12 @@ siteRecords [] numbers = numbers
 siteRecords (site ∷ sites) [] = []
 siteRecords (site ∷ sites) (first ∷ others) = siteRecord site ∷ siteRecords sites others
 
--- "Started fresh": all 32 records, and no message counted.
+-- "Started fresh": all 32 records, and no message counted for any site.
 abbrev pub freshSites : Sites
-freshSites = record { records = replicate mostSites (siteRecord freshSite); messages = 0 }
+freshSites = record {
+  records = replicate mostSites (siteRecord freshSite);
+  messages = noneCounted;
+}
 
 abbrev pub networkIn : Settings → Sites → CoordinatorRecord → List ℕ → List ℕ → Network
 networkIn settings sites coordinator siteNumbers coordinatorNumbers = record {
@@ -91,13 +95,13 @@ atRestTogether network =
     && sameThreshold (coordinator .threshold) (network .sites)
     && eqb (coordinator .total + allPending (network .sites)) (allArrivals (network .sites))
 
--- Each site and the coordinator by themselves, and "the bench's message count"; in mid-delivery
--- too.
+-- Each site and the coordinator by themselves, and the count of messages of each site (request N5:
+-- "each with the old limit"); in mid-delivery too.
 abbrev pub benchConsistent : Settings → Sites → CoordinatorRecord → List ℕ → List ℕ → Bool
 benchConsistent settings sites coordinator siteNumbers coordinatorNumbers =
     sitesConsistent (settings .sites) settings (sites .records) siteNumbers
     && coordinatorConsistent settings (coordinatorIn settings coordinator coordinatorNumbers)
-    && leb (sites .messages) messageLimit
+    && countsWithin (settings .sites) (sites .messages)
 
 abbrev pub networkConsistent : Settings → Sites → CoordinatorRecord → List ℕ → List ℕ → Bool
 networkConsistent settings sites coordinator siteNumbers coordinatorNumbers =

@@ -61,11 +61,11 @@ pub const MOST_UNIVERSE: u32 = 65536;
 // "c × e < 6000" is refused, with 3.
 pub const LEAST_PRODUCT: u64 = 6000;
 
-// The records in a `Sites` value, as many as there are sites at most.
+// The records in a `Sites` value, and its counts of messages, as many as there are sites at most.
 pub const SITE_RECORDS: usize = MOST_SITES as usize;
 
 // Document 01's limits: the greatest value and how many values there are, the draws a site takes,
-// the numbers the coordinator holds, and the messages a network counts.
+// the numbers the coordinator holds, and the messages a network counts for each site.
 pub const TOP_VALUE: u32 = 1023;
 
 pub const VALUE_COUNT: usize = 1024;
@@ -178,10 +178,11 @@ pub struct SiteRecord {
     pub dropped: u64,
 }
 
-// The records of up to 32 sites in one value, and the count of messages since the start.
+// The records of up to 32 sites in one value, and for each site the messages counted since the
+// start that name it (request N5).
 pub struct Sites {
     pub records: [SiteRecord; SITE_RECORDS],
-    pub messages: u64,
+    pub messages: [u64; SITE_RECORDS],
 }
 
 // What the coordinator is doing: document 01's phase. Collecting from a site; probing, with the

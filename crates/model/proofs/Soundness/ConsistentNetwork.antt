@@ -12,10 +12,10 @@ use mathlib.Core.Bool.{Bool, true, _&&_, false≢true}
 use mathlib.Core.List.{List, [], _∷_}
 use Prim.Native.Nat.{ℕ, zero, suc, _+_, _*_, _≤_, _<_}
 use native.Mathlib.Omega.{arith}
-use lib.Dec.{eqb, leb, ltb}
+use lib.Dec.{eqb, ltb}
 use lib.ListN.{length, getD, drop, length-drop}
 use lib.Seq.{length-take-le}
-use borrow.Author.Tests.{eqb-true, leb-true, ltb-false, le-leb, eq-eqb}
+use borrow.Author.Tests.{eqb-true, ltb-false, eq-eqb}
 use Rattle.laws.proofs.Tests.{both-true, neither-of-or}
 use Rattle.laws.proofs.Lists.{all-cons}
 use Rattle.model.specs.declared.Settings.{Settings}
@@ -25,17 +25,19 @@ use Rattle.model.specs.declared.Phase.{Phase}
 use Rattle.model.specs.declared.Phase.the-variants.{Idle, Collecting, Probing, Announcing}
 use Rattle.model.specs.declared.CoordinatorRecord.{CoordinatorRecord}
 use Rattle.model.specs.Refusals.{noRefusal, memoryTooShort}
-use Rattle.model.specs.Limits.{valueCount, messageLimit}
+use Rattle.model.specs.Limits.{valueCount}
 use Rattle.model.specs.Settings.{settingsRefusal}
 use Rattle.model.specs.Site.{Site, freshSite}
 use Rattle.model.specs.SiteMemory.{siteWords, siteIn, siteConsistent}
 use Rattle.model.specs.Coordinator.{isIdle}
 use Rattle.model.specs.CoordinatorMemory.{coordinatorWords, coordinatorConsistent}
 use Rattle.model.specs.Network.{Network, siteAt}
+use Rattle.model.specs.MessageCounts.{countsWithin}
 use Rattle.model.specs.NetworkMemory.{sitesWords, sitesIn, networkIn, sitesConsistent, allPending, allArrivals, sameThreshold, atRestTogether, benchConsistent, networkConsistent, networkTooShort, networkRefusal}
 use Rattle.model.specs.SoundNetwork.{SoundSite, DroppedWithin, SoundCoordinator, Sound}
 use Rattle.model.proofs.Thresholds.RefusalLaws.{both-accepted, passed}
 use Rattle.model.proofs.Thresholds.TestedMemory.{consistent-of}
+use Rattle.model.proofs.MessageCount.Counts.{FewCounted, few-counted-of, counts-within-of}
 use Rattle.model.proofs.Soundness.ConsistentSites.{sound-of-consistent, dropped-of-consistent, consistent-of-sound}
 use Rattle.model.proofs.Soundness.ConsistentCoordinator.{CoordinatorWithin, coordinator-sound-of, coordinator-within-of, coordinator-consistent-of}
 
@@ -149,13 +151,13 @@ module _ (settings : Settings) (sites : Sites) (coordinator : CoordinatorRecord)
     sites-row : sitesConsistent (settings .sites) settings (sites .records) siteNumbers ≡ true
     coordinator-row : coordinatorConsistent settings (network .coordinator) ≡ true
     rest-row : atRestTogether network ≡ true
-    count-row : leb (sites .messages) messageLimit ≡ true
+    counts-row : countsWithin (settings .sites) (sites .messages) ≡ true
 
   -- Those that every network must pass, in mid-delivery too.
   pub record BenchRows : Type 0 where
     pub sites-row : sitesConsistent (settings .sites) settings (sites .records) siteNumbers ≡ true
     pub coordinator-row : coordinatorConsistent settings (network .coordinator) ≡ true
-    pub count-row : leb (sites .messages) messageLimit ≡ true
+    pub counts-row : countsWithin (settings .sites) (sites .messages) ≡ true
 
   pub bench-rows : benchConsistent settings sites coordinator siteNumbers coordinatorNumbers ≡ true
       → BenchRows
@@ -163,12 +165,13 @@ module _ (settings : Settings) (sites : Sites) (coordinator : CoordinatorRecord)
       let first : Bool =
       sitesConsistent (settings .sites) settings (sites .records) siteNumbers in
       let second : Bool = coordinatorConsistent settings (network .coordinator) in
-      let row-3 = both-true (first && second) (leb (sites .messages) messageLimit) passes in
+      let row-3 = both-true (first && second) (countsWithin (settings .sites) (sites .messages))
+      passes in
       let row-2 = both-true first second (row-3 .first-true) in
       record {
         sites-row = row-2 .first-true;
         coordinator-row = row-2 .second-true;
-        count-row = row-3 .second-true;
+        counts-row = row-3 .second-true;
       }
 
   rows-of : networkConsistent settings sites coordinator siteNumbers coordinatorNumbers ≡ true
@@ -182,7 +185,7 @@ module _ (settings : Settings) (sites : Sites) (coordinator : CoordinatorRecord)
         sites-row = bench .sites-row;
         coordinator-row = bench .coordinator-row;
         rest-row = both .second-true;
-        count-row = bench .count-row;
+        counts-row = bench .counts-row;
       }
 
   -- Memory that is long enough and passes holds a sound network.
@@ -217,7 +220,7 @@ module _ (settings : Settings) (sites : Sites) (coordinator : CoordinatorRecord)
     pub sound : Sound settings network
     pub dropped-within : (j : ℕ) → j < settings .sites → DroppedWithin (siteAt network j)
     pub within : CoordinatorWithin (network .coordinator)
-    pub count-within : sites .messages ≤ messageLimit
+    pub few-counted : FewCounted (settings .sites) (sites .messages)
 
   pub passes-of :
       networkRefusal settings sites coordinator siteNumbers coordinatorNumbers ≡ noRefusal
@@ -243,27 +246,27 @@ module _ (settings : Settings) (sites : Sites) (coordinator : CoordinatorRecord)
             sites-sound-of (settings .sites) settings (sites .records) siteNumbers sites-long
             (rows .sites-row) .each-within;
         within = coordinator-within-of settings (network .coordinator) (rows .coordinator-row);
-        count-within = leb-true (sites .messages) messageLimit (rows .count-row);
+        few-counted = few-counted-of (settings .sites) (sites .messages) (rows .counts-row);
       }
 
   -- Sound parts within the limits pass what every network must meet, in mid-delivery too.
   pub bench-consistent-of : SitesRead settings (settings .sites) (network .sites)
       → SoundCoordinator settings (network .coordinator)
       → CoordinatorWithin (network .coordinator)
-      → sites .messages ≤ messageLimit
+      → FewCounted (settings .sites) (sites .messages)
       → benchConsistent settings sites coordinator siteNumbers coordinatorNumbers ≡ true
   bench-consistent-of read sound within few =
       rw (
         sites-consistent-of (settings .sites) settings (sites .records) siteNumbers read,
         coordinator-consistent-of settings (network .coordinator) sound within,
-        le-leb (sites .messages) messageLimit few,
+        counts-within-of (settings .sites) (sites .messages) few,
       )
 
   -- A sound network within the limits passes.
   pub network-consistent-of : Sound settings network
       → ((j : ℕ) → j < settings .sites → DroppedWithin (siteAt network j))
       → CoordinatorWithin (network .coordinator)
-      → sites .messages ≤ messageLimit
+      → FewCounted (settings .sites) (sites .messages)
       → networkConsistent settings sites coordinator siteNumbers coordinatorNumbers ≡ true
   network-consistent-of sound few-dropped within few =
       rw (

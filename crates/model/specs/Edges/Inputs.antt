@@ -115,13 +115,14 @@ coordinatorRefusalOf numbers estimates counts =
     coordinatorMemoryRefusal settingsP6 numbers (padded 10 estimates ++ counts)
 
 -- A network under P6's settings, of two sites that hold no code: their records and class counts,
--- the messages counted, the coordinator; 2528 and 1034 numbers. Records 2 to 31 hold anything.
+-- the messages counted of the last of them, the coordinator; 2528 and 1034 numbers. Records and
+-- counts 2 to 31 hold anything.
 abbrev pub networkRefusalOf : SiteRecord → List ℕ → SiteRecord → List ℕ → ℕ → CoordinatorRecord → ℕ
-networkRefusalOf first firstCounts second secondCounts messages coordinator =
+networkRefusalOf first firstCounts second secondCounts counted coordinator =
     networkRefusal settingsP6
     (record {
       records = first ∷ (second ∷ replicate 30 (siteNumbers 9 9 9 9 9));
-      messages = messages;
+      messages = 0 ∷ (counted ∷ replicate 30 100000000000001);
     })
     coordinator
     (replicate 240 0 ++ firstCounts ++ (replicate 240 0 ++ secondCounts))

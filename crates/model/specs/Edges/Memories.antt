@@ -78,7 +78,7 @@ pub record MemoryEdges : Type 0 where
       ∷ replicate 30 (siteNumbers 9 9 9 9 9)
   -- "Started fresh, every number is 0 .., every threshold 1": 32 records, no message
   pub fresh-records : freshSites .records ≡ replicate 32 (siteNumbers 0 0 1 0 0)
-  pub fresh-messages : freshSites .messages ≡ 0
+  pub fresh-messages : freshSites .messages ≡ replicate 32 0
   pub fresh-coordinator : coordinatorRecord (freshCoordinator settingsP6)
       ≡ coordinatorNumbers 0 0 1 0 0 Idle
   pub fresh-memory : coordinatorMemory (freshCoordinator settingsP6) (replicate 1035 7)

@@ -24,7 +24,7 @@ pub record NetworkEdges : Type 0 where
       (siteNumbers 0 0 1 0 0) (endCounts 0 1) 0 freshNumbers ≡ 11
   pub coordinator : networkRefusalOf (siteNumbers 0 0 1 0 0) (endCounts 0 0)
       (siteNumbers 0 0 1 0 0) (endCounts 0 0) 0 (coordinatorNumbers 0 0 1 2 0 Idle) ≡ 11
-  -- "the bench's message count above 100,000,000,000,000"
+  -- "the bench's message count above 100,000,000,000,000", of each deck (request N5): the last
   pub messages-limit : networkRefusalOf (siteNumbers 0 0 1 0 0) (endCounts 0 0)
       (siteNumbers 0 0 1 0 0) (endCounts 0 0) 100000000000000 freshNumbers ≡ 0
   pub messages-above : networkRefusalOf (siteNumbers 0 0 1 0 0) (endCounts 0 0)

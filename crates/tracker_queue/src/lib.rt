@@ -99,11 +99,12 @@ fn send(
         (after counts) (after log) ⌝ }
 {
     write_record(log, traffic.written, message);
+    let written = traffic.written + 1;
     let which = message.site as usize;
     counts[which] = counts[which] + 1;
     let waiting = join(traffic.waiting, message);
     Traffic {
-        written: traffic.written + 1,
+        written: written,
         waiting: waiting,
     }
 }

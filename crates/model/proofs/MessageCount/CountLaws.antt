@@ -6,7 +6,8 @@
 --   count-naming                    a count grows by the messages that name its site
 --   naming-append, naming-le        of two parts; no more than all messages
 --   NamesBelow k messages           each message names a site below k
---   names-append, names-front       of two parts, and of the first of them
+--   names-append, names-last        of two parts, and of the second of them
+--   names-at                        the message at a place
 --   naming-none                     no message names a site from k on
 --   total-counted                   the sum of the first k counts grows by one for each message
 --   none-counted, none-in-all       where nothing was counted
@@ -136,6 +137,15 @@ pub names-last : {k : ℕ} (first : List Message) {second : List Message}
     → NamesBelow k second
 names-last [] all = all
 names-last (m ∷ first) (names-more m′ messages below others) = names-last first others
+
+pub names-at : {k : ℕ} {messages : List Message} (i : ℕ) (other : Message)
+    → NamesBelow k messages
+    → i < length messages
+    → getD messages i other .site < k
+names-at i other names-none inside = absurd (omega arith)
+names-at zero other (names-more m messages below others) inside = below
+names-at (suc i) other (names-more m messages below others) inside =
+    names-at i other others (omega arith)
 
 pub naming-none : {k : ℕ} {messages : List Message} (j : ℕ)
     → NamesBelow k messages

@@ -1,22 +1,22 @@
 -- What the tests of a whole network's memory are worth, test by test.
 --
---   count-refused .. sites-refused    the rows of the test
+--   counts-refused .. sites-refused   the rows of the test
 --   fits-of-long                      memory that is not too short
 use mathlib.Core.Path.{_≡_, sym}
 use mathlib.Core.Bool.{Bool, true, false, _&&_}
 use mathlib.Core.List.{List}
-use Prim.Native.Nat.{ℕ, _≤_, _<_}
+use Prim.Native.Nat.{ℕ}
 use lib.Dec.{ltb}
 use lib.ListN.{length}
-use borrow.Author.Tests.{ltb-false, le-leb, lt-leb}
+use borrow.Author.Tests.{ltb-false}
 use Rattle.laws.proofs.Tests.{and-true, and-false, neither-of-or}
 use Rattle.model.specs.declared.Settings.{Settings}
 use Rattle.model.specs.declared.Sites.{Sites}
 use Rattle.model.specs.declared.CoordinatorRecord.{CoordinatorRecord}
 use Rattle.model.specs.Refusals.{noRefusal}
-use Rattle.model.specs.Limits.{messageLimit}
 use Rattle.model.specs.Settings.{settingsRefusal}
 use Rattle.model.specs.CoordinatorMemory.{coordinatorIn, coordinatorConsistent}
+use Rattle.model.specs.MessageCounts.{countsWithin}
 use Rattle.model.specs.NetworkMemory.{sitesWords, sitesConsistent, benchConsistent, networkTooShort}
 use Rattle.bench_memory.specs.Contracts.{NetworkFits}
 
@@ -33,17 +33,15 @@ module _ (settings : Settings) (sites : Sites) (coordinator : CoordinatorRecord)
   abbrev whole-test : Bool
   whole-test = benchConsistent settings sites coordinator siteMemory coordinatorMemory
 
-  pub count-refused : messageLimit < sites .messages → false ≡ whole-test
-  count-refused above =
-      rw (lt-leb (sites .messages) messageLimit above)
-      (sym (and-false (sites-test && coordinator-test)))
+  abbrev counts-test : Bool
+  counts-test = countsWithin (settings .sites) (sites .messages)
 
-  pub coordinator-decides : sites-test ≡ true
-      → sites .messages ≤ messageLimit
-      → coordinator-test ≡ whole-test
-  coordinator-decides sites-hold within =
-      rw (sites-hold, le-leb (sites .messages) messageLimit within)
-      (sym (and-true coordinator-test))
+  pub counts-refused : counts-test ≡ false → false ≡ whole-test
+  counts-refused fails = rw fails (sym (and-false (sites-test && coordinator-test)))
+
+  pub coordinator-decides : sites-test ≡ true → counts-test ≡ true → coordinator-test ≡ whole-test
+  coordinator-decides sites-hold counts-hold =
+      rw (sites-hold, counts-hold) (sym (and-true coordinator-test))
 
   pub sites-refused : sites-test ≡ false → false ≡ whole-test
   sites-refused fails = rw fails

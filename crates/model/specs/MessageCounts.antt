@@ -6,9 +6,9 @@
 --   countedUp counts messages    each message counted at the site that it names; one that names none
 --                                changes nothing
 --   naming j messages            how many of the messages name site j
---   countsWithin k counts        none of the first k is above the limit, and none is missing
+--   countsWithin k counts        none of the first k is above the limit; a missing one is 0
 --   totalCount settings sites    the sum of the first k
-use mathlib.Core.Bool.{Bool, true, false, _&&_}
+use mathlib.Core.Bool.{Bool, true, _&&_}
 use mathlib.Core.List.{List, [], _∷_}
 use Prim.Native.Nat.{ℕ, zero, suc, _+_}
 use lib.Dec.{eqb, leb}
@@ -40,7 +40,7 @@ naming j (m ∷ messages) = (if eqb (m .site) j then 1 else 0) + naming j messag
 -- "each with the old limit": those of the sites from k on are not looked at.
 abbrev pub countsWithin : ℕ → List ℕ → Bool
 countsWithin zero counts = true
-countsWithin (suc more) [] = false
+countsWithin (suc more) [] = true
 countsWithin (suc more) (count ∷ counts) = leb count messageLimit && countsWithin more counts
 
 -- "The bench total is their sum".

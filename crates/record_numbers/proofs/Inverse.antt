@@ -8,18 +8,19 @@
 --   phase-back, phase-same               a phase
 --   coordinator-back, coordinator-same   the coordinator's record
 --   coordinator-whole                    the same of numbers of any size
---   sites-back, sites-same               all sites' records and the count of messages
+--   counts-taken, counts-back            the counts of messages, a part of the numbers
+--   sites-back, sites-same               all sites' records and their counts
 --   getD-recordsFrom, site-behind        one record, by its place
 use Prim.Native.Nat.{ℕ, zero, suc, _+_, _*_, _<_, _≤_}
 use mathlib.Core.Path.{_≡_, refl, ap, sym, _∙_}
 use mathlib.Core.Bool.{true, _&&_}
 use mathlib.Core.List.{List, [], _∷_, _++_, append-assoc}
-use native.Mathlib.Nat.{add-zero}
+use native.Mathlib.Nat.{add-zero, zero-add}
 use native.Mathlib.Omega.{arith}
 use native.Mathlib.Decide.{ℕ-discrete}
 use lib.Dec.{leb}
-use lib.ListN.{length, getD, take, drop}
-use lib.Seq.{getD-append-add, take-add, take-suc, ext-getD, getD-at}
+use lib.ListN.{length, getD, take, drop, length-append, length-drop}
+use lib.Seq.{getD-append-add, getD-drop, take-add, take-suc, take-all, take-at, ext-getD}
 use borrow.Author.Tests.{ne-eqb, eqb-true, leb-true}
 use Rattle.laws.proofs.Tests.{both-true}
 use Rattle.laws.proofs.Lists.{read-take, getD-snoc-old, getD-snoc-new}
@@ -32,8 +33,8 @@ use Rattle.model.specs.declared.Phase.the-variants.{Idle, Collecting, Probing, 
 use Rattle.model.specs.declared.CoordinatorRecord.{CoordinatorRecord}
 use Rattle.model.specs.Choice.{isZero}
 use Rattle.model.specs.Held.{noRecord}
-use Rattle.record_numbers.specs.Numbers.{siteWidth, countPlace, sitesWidth, settingsNumbers, settingsFrom, messageNumbers, messageFrom, siteAt, siteNumbers, siteFrom, recordsNumbers, recordsFrom, sitesNumbers, sitesFrom, phaseOf, phaseNumbers, phaseFrom, phaseWell, phaseWellIn, tenNumbers, coordinatorWidth, coordinatorNumbers, coordinatorFrom, greatestNarrow, greatestHeld, coordinatorWell}
-use Rattle.record_numbers.proofs.Records.{length-recordsFrom, length-recordsNumbers}
+use Rattle.record_numbers.specs.Numbers.{siteWidth, countPlace, sitesWidth, settingsNumbers, settingsFrom, messageNumbers, messageFrom, siteAt, siteNumbers, siteFrom, recordsNumbers, recordsFrom, countsFrom, sitesNumbers, sitesFrom, phaseOf, phaseNumbers, phaseFrom, phaseWell, phaseWellIn, tenNumbers, coordinatorWidth, coordinatorNumbers, coordinatorFrom, greatestNarrow, greatestHeld, coordinatorWell}
+use Rattle.record_numbers.proofs.Records.{length-recordsFrom, length-recordsNumbers, length-countsFrom}
 
 -- ---- Settings, messages, a site's record
 
@@ -187,13 +188,29 @@ records-same (suc n) k numbers within long =
     ∙ sym (take-add (siteWidth * n) siteWidth numbers)
     ∙ ap (λ (j : ℕ). take j numbers) next
 
+-- The counts are a part of the numbers.
+pub counts-taken : (n at : ℕ) (numbers : List ℕ)
+    → at + n ≤ length numbers
+    → countsFrom n at numbers ≡ take n (drop at numbers)
+counts-taken zero at numbers long = refl
+counts-taken (suc n) at numbers long =
+    (λ i. counts-taken n at numbers (omega arith) i ++ (sym (getD-drop at numbers n 0) i ∷ []))
+    ∙ sym (take-suc (drop at numbers) n 0 (omega (arith, length-drop at numbers)))
+
+-- From place 0 on, all of them.
+pub counts-back : (n : ℕ) (counts : List ℕ) → length counts ≡ n → countsFrom n 0 counts ≡ counts
+counts-back n counts whole =
+    counts-taken n 0 counts (omega arith) ∙ take-all n counts (omega arith)
+
 pub sites-same : (numbers : List ℕ)
     → sitesWidth ≤ length numbers
     → sitesNumbers (sitesFrom numbers) ≡ take sitesWidth numbers
 sites-same numbers long =
-    ap (λ (l : List ℕ). l ++ (getD numbers countPlace 0 ∷ []))
-    (records-same 32 32 numbers (omega arith) (omega arith))
-    ∙ sym (take-suc numbers countPlace 0 (omega arith))
+    let counts = counts-back 32 (countsFrom 32 countPlace numbers)
+    (length-countsFrom 32 countPlace numbers)
+    ∙ counts-taken 32 countPlace numbers (omega arith) in
+    (λ i. records-same 32 32 numbers (omega arith) (omega arith) i ++ counts i)
+    ∙ sym (take-add countPlace 32 numbers)
 
 -- A record that stands right behind so many numbers.
 pub site-behind : (front back : List ℕ) (n : ℕ)
@@ -255,16 +272,43 @@ records-back n records rest whole =
     let below : i < n = omega (arith, width) in
     getD-recordsFrom n numbers i below ∙ site-written n records rest i below)
 
+-- The numbers behind others, read from there on.
+counts-behind : (front back : List ℕ) (n at : ℕ)
+    → length front ≡ at
+    → countsFrom n at (front ++ back) ≡ countsFrom n 0 back
+counts-behind front back zero at width = refl
+counts-behind front back (suc n) at width =
+    let last : getD (front ++ back) (at + n) 0 ≡ getD back (0 + n) 0 =
+    ap (λ (m : ℕ). getD (front ++ back) (m + n) 0) (sym width)
+    ∙ getD-append-add front back n 0
+    ∙ ap (λ (m : ℕ). getD back m 0) (sym (zero-add n)) in
+    λ i. counts-behind front back n at width i ++ (last i ∷ [])
+
+-- So many counts between others, read again.
+counts-between : (n at : ℕ) (front counts rest : List ℕ)
+    → length front ≡ at
+    → length counts ≡ n
+    → countsFrom n at (front ++ (countsFrom n 0 counts ++ rest)) ≡ counts
+counts-between n at front counts rest width whole =
+    let written = countsFrom n 0 counts in
+    let wide = length-countsFrom n 0 counts in
+    counts-behind front (written ++ rest) n at width
+    ∙ counts-taken n 0 (written ++ rest) (omega (arith, wide, length-append written rest))
+    ∙ take-at written rest n wide
+    ∙ counts-back n counts whole
+
 pub sites-back : (sites : Sites) (rest : List ℕ)
     → length (sites .records) ≡ 32
+    → length (sites .messages) ≡ 32
     → sitesFrom (sitesNumbers sites ++ rest) ≡ sites
-sites-back sites rest whole =
+sites-back sites rest all-records all-counts =
     let front = recordsNumbers 32 (sites .records) in
-    let numbers-are : sitesNumbers sites ++ rest ≡ front ++ (sites .messages ∷ rest) =
-    append-assoc front (sites .messages ∷ []) rest in
+    let counts = countsFrom 32 0 (sites .messages) in
+    let numbers-are : sitesNumbers sites ++ rest ≡ front ++ (counts ++ rest) =
+    append-assoc front counts rest in
     let records = ap (recordsFrom 32) numbers-are
-    ∙ records-back 32 (sites .records) (sites .messages ∷ rest) whole in
-    let messages = ap (λ (l : List ℕ). getD l countPlace 0) numbers-are
-    ∙ getD-at front (sites .messages) rest 0 countPlace
-    (length-recordsNumbers 32 (sites .records)) in
+    ∙ records-back 32 (sites .records) (counts ++ rest) all-records in
+    let messages = ap (countsFrom 32 countPlace) numbers-are
+    ∙ counts-between 32 countPlace front (sites .messages) rest
+    (length-recordsNumbers 32 (sites .records)) all-counts in
     λ i. record { records = records i; messages = messages i }

@@ -7,7 +7,8 @@
 --   messageNumbers, messageFrom          kind, deck, a, b
 --   messageRead                          the same from numbers of eight bytes
 --   siteNumbers, siteFrom                draws, pending, threshold, slots in use, forgotten draws
---   sitesNumbers, sitesFrom              the records of 32 decks, then the count of messages
+--   countsFrom                           so many numbers from a place on; 0 past the last
+--   sitesNumbers, sitesFrom              the records of 32 decks, then their counts of messages
 --   phaseNumbers, phaseFrom              0 idle, 1 collecting, 2 probing or 3 announcing; then
 --                                        deck, low, high and sum, those not in use 0
 --   coordinatorNumbers, coordinatorFrom  total, base, threshold, signals, class, and the phase
@@ -88,7 +89,7 @@ messageRead numbers =
 
 -- ---- Sites
 
--- A record's numbers, the place of the count of messages behind all records, and all of them.
+-- A record's numbers, the place of the first count of messages behind all records, and all of them.
 abbrev pub siteWidth : ℕ
 siteWidth = 5
 
@@ -96,7 +97,7 @@ abbrev pub countPlace : ℕ
 countPlace = siteWidth * mostSites
 
 abbrev pub sitesWidth : ℕ
-sitesWidth = countPlace + 1
+sitesWidth = countPlace + mostSites
 
 -- Arrivals, pending, threshold, used, dropped: the record whose numbers begin at a place.
 abbrev pub siteAt : List ℕ → ℕ → SiteRecord
@@ -121,11 +122,16 @@ abbrev pub recordsFrom : ℕ → List ℕ → List SiteRecord
 recordsFrom zero numbers = []
 recordsFrom (suc n) numbers = recordsFrom n numbers ++ (siteAt numbers (siteWidth * n) ∷ [])
 
--- All 32 records, then the count of messages.
+-- So many numbers from a place on.
+abbrev pub countsFrom : ℕ → ℕ → List ℕ → List ℕ
+countsFrom zero at numbers = []
+countsFrom (suc n) at numbers = countsFrom n at numbers ++ (getD numbers (at + n) 0 ∷ [])
+
+-- All 32 records, then the count of messages of each site.
 abbrev pub sitesFrom : List ℕ → Sites
 sitesFrom numbers = record {
   records = recordsFrom mostSites numbers;
-  messages = getD numbers countPlace 0;
+  messages = countsFrom mostSites countPlace numbers;
 }
 
 -- The numbers of the first n records.
@@ -133,9 +139,10 @@ abbrev pub recordsNumbers : ℕ → List SiteRecord → List ℕ
 recordsNumbers zero records = []
 recordsNumbers (suc n) records = recordsNumbers n records ++ siteNumbers (getD records n noRecord)
 
--- Those of all 32, then the count of messages.
+-- Those of all 32, then the 32 counts.
 abbrev pub sitesNumbers : Sites → List ℕ
-sitesNumbers sites = recordsNumbers mostSites (sites .records) ++ (sites .messages ∷ [])
+sitesNumbers sites =
+    recordsNumbers mostSites (sites .records) ++ countsFrom mostSites 0 (sites .messages)
 
 -- ---- The coordinator
 

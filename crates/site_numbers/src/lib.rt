@@ -1,21 +1,21 @@
-// A site's record, and the records of all sites with their count of messages, as rows of numbers in
+// A site's record, and the records of all sites with their counts of messages, as rows of numbers in
 // document 01's order (crate `record_numbers` has the definitions), and back.
 ghost use mathlib.Core.Path.{_≡_};
 ghost use Prim.Native.Nat.{_*_, _<_};
 ghost use lib.Seq.{sets};
 ghost use Rattle.model.specs.Lent.{before, after};
 ghost use Rattle.model.specs.Limits.{mostSites};
-ghost use Rattle.record_numbers.specs.Numbers.{siteWidth, siteFrom, siteAt, siteNumbers, sitesFrom, sitesNumbers};
+ghost use Rattle.record_numbers.specs.Numbers.{siteWidth, countPlace, siteFrom, siteAt, siteNumbers, countsFrom, sitesFrom, sitesNumbers};
 use model::SITE_RECORDS;
 use model::SiteRecord;
 use model::Sites;
 
-// How many numbers a site's record takes, and those of all sites with the count behind them.
+// How many numbers a site's record takes, and those of all sites with their counts behind them.
 pub const SITE_NUMBERS: usize = 5;
 
-pub const SITES_NUMBERS: usize = COUNT_PLACE + 1;
+pub const SITES_NUMBERS: usize = COUNT_PLACE + SITE_RECORDS;
 
-// Where the count of messages stands: after all records.
+// Where the first site's count of messages stands: after all records.
 const COUNT_PLACE: usize = SITE_NUMBERS * SITE_RECORDS;
 
 // The record of a row.
@@ -72,7 +72,31 @@ pub fn store_site(row: &mut [u64; SITES_NUMBERS], which: usize, site: SiteRecord
     row[at + 4] = site.dropped;
 }
 
-// All records and the count of messages.
+// The counts of messages in the row of all. Internal: a part of `sites_from`.
+pub fn counts_in(row: &[u64; SITES_NUMBERS]) -> [u64; SITE_RECORDS]
+    ensures { λ r. ⌜ r ≡ countsFrom mostSites countPlace (before row) ⌝ }
+{
+    let mut counts = [0u64; SITE_RECORDS];
+    let mut i = 0;
+    while i < SITE_RECORDS {
+        counts[i] = row[COUNT_PLACE + i];
+        i += 1;
+    }
+    counts
+}
+
+// The counts of messages stored in the row of all. Internal: a part of `sites_row`.
+pub fn store_counts(row: &mut [u64; SITES_NUMBERS], counts: [u64; SITE_RECORDS])
+    ensures { λ r. ⌜ after row ≡ sets (before row) countPlace (countsFrom mostSites 0 counts) ⌝ }
+{
+    let mut i = 0;
+    while i < SITE_RECORDS {
+        row[COUNT_PLACE + i] = counts[i];
+        i += 1;
+    }
+}
+
+// All records and the counts of messages.
 pub fn sites_from(row: &[u64; SITES_NUMBERS]) -> Sites
     ensures { λ r. ⌜ r ≡ sitesFrom (before row) ⌝ }
 {
@@ -91,7 +115,7 @@ pub fn sites_from(row: &[u64; SITES_NUMBERS]) -> Sites
     }
     Sites {
         records: records,
-        messages: row[COUNT_PLACE],
+        messages: counts_in(row),
     }
 }
 
@@ -106,6 +130,6 @@ pub fn sites_row(sites: Sites) -> [u64; SITES_NUMBERS]
         store_site(&mut row, i, site);
         i += 1;
     }
-    row[COUNT_PLACE] = sites.messages;
+    store_counts(&mut row, sites.messages);
     row
 }

@@ -43,10 +43,10 @@ module _ (settings : Settings) (file : List ℕ) where
   -- The memory is the first of the desk part's numbers.
   memory-is : deskMemory settings file ≡ numbersIn deskBytes (coordinatorWords settings) desk
   memory-is =
-      let count : deskCount settings ≡ coordinatorWords settings + (coordinatorWidth + 1) =
-      omega arith in
+      let beside = coordinatorWidth + settings .sites in
+      let count : deskCount settings ≡ coordinatorWords settings + beside = omega arith in
       ap (λ (n : ℕ). take (coordinatorWords settings) (numbersIn deskBytes n desk)) count
-      ∙ numbers-take deskBytes (coordinatorWords settings) (coordinatorWidth + 1) desk
+      ∙ numbers-take deskBytes (coordinatorWords settings) beside desk
 
   pub estimates-there : take (settings .universe) (deskMemory settings file)
       ≡ numbersFrom file deskPlace (settings .universe)
@@ -84,7 +84,7 @@ module _ (settings : Settings) (file : List ℕ) where
 
   -- ---- The record
 
-  record-long : length (deskRecord settings file) ≡ coordinatorWidth + 1
+  record-long : length (deskRecord settings file) ≡ coordinatorWidth + settings .sites
   record-long =
       omega (
         arith,

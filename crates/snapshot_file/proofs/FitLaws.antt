@@ -10,15 +10,15 @@ use native.Mathlib.Nat.{mul-le-mul, div-le-self}
 use native.Mathlib.Omega.{arith}
 use lib.Dec.{ltb}
 use lib.ListN.{length, take, drop, length-append, length-drop}
-use lib.Seq.{take-add, take-at, drop-at, length-take-le}
-use borrow.Author.Tests.{ltb-false, leb-true}
+use lib.Seq.{take-add, take-at, drop-at, length-take-le, getD-take}
+use borrow.Author.Tests.{ltb-false}
 use Rattle.laws.proofs.Tests.{both-true, neither-of-or}
 use Rattle.model.specs.declared.Settings.{Settings}
 use Rattle.model.specs.declared.SiteRecord.{SiteRecord}
 use Rattle.model.specs.declared.Phase.{Phase}
 use Rattle.model.specs.declared.Phase.the-variants.{Idle, Collecting, Probing, Announcing}
 use Rattle.model.specs.Refusals.{noRefusal, memoryTooShort}
-use Rattle.model.specs.Limits.{valueCount, coordinatorLimit, messageLimit}
+use Rattle.model.specs.Limits.{valueCount, coordinatorLimit}
 use Rattle.model.specs.Settings.{settingsRefusal}
 use Rattle.model.specs.SiteMemory.{siteWords, siteConsistent}
 use Rattle.model.specs.Coordinator.{Coordinator}
@@ -33,12 +33,13 @@ use Rattle.model.proofs.BetweenArrivals.ReportLaws.{valueCount-is}
 use Rattle.model.proofs.Soundness.ConsistentSites.{length-countersIn, sound-of-consistent, dropped-of-consistent}
 use Rattle.model.proofs.Soundness.ConsistentCoordinator.{CoordinatorWithin, coordinator-sound-of, coordinator-within-of}
 use Rattle.model.proofs.Soundness.ConsistentNetwork.{BenchRows, bench-rows}
+use Rattle.model.proofs.MessageCount.Counts.{few-counted-of}
 use Rattle.record_numbers.specs.Numbers.{settingsNumbers, siteNumbers, coordinatorNumbers, phaseNumbers}
 use Rattle.little_endian.specs.Numbers.{byteRange, AllBelow}
 use Rattle.little_endian.specs.Sections.{Section, AllFit}
 use Rattle.little_endian.proofs.NumberLaws.{all-below-take, all-below-drop, Each, each-below, all-below-append}
 use Rattle.snapshot_file.specs.Layout.{deskBytes, deckBytes, pointerBytes, deskPlace, decksPlace, fileLength}
-use Rattle.snapshot_file.specs.File.{deskNumbers, deckNumbers, deckSections, benchSections, trailerSections, fileSections, saveRefusal}
+use Rattle.snapshot_file.specs.File.{ownCounts, deskNumbers, deckNumbers, deckSections, benchSections, trailerSections, fileSections, saveRefusal}
 use Rattle.snapshot_file.specs.Claims.{OfMachine}
 use Rattle.snapshot_file.proofs.LayoutLaws.{Long}
 
@@ -220,14 +221,29 @@ module _ (settings : Settings) (held : Held) (room : ℕ) (p : Passed settings h
       (λ i inside. omega (arith, within .estimates-within i))
       (λ i inside. omega (arith, within .values-within i)))
 
+  -- The counts of the k sites, none of them missing.
+  counts-long : length (ownCounts settings held) ≡ settings .sites
+  counts-long =
+      length-take-le (settings .sites) (held .sites .messages)
+      (omega (
+        arith,
+        settled settings (p .settings-accepted) .sites .at-most,
+        machine .all-counts,
+      ))
+
+  counts-fit : AllBelow wide (ownCounts settings held)
+  counts-fit i inside =
+      let own : i < settings .sites = omega (arith, counts-long, inside) in
+      let few = few-counted-of (settings .sites) (held .sites .messages) (rows .counts-row) in
+      rw (getD-take (settings .sites) (held .sites .messages) i 0 own)
+      (omega (arith, few .each-within i own))
+
   desk-fit : AllBelow wide (deskNumbers settings held)
   desk-fit =
-      let count : held .sites .messages < wide =
-      omega (arith, leb-true (held .sites .messages) messageLimit (rows .count-row)) in
       all-below-append (take (coordinatorWords settings) (held .coordinatorMemory))
-      (coordinatorNumbers (held .coordinator) ++ (held .sites .messages ∷ [])) memory-fit
-      (all-below-append (coordinatorNumbers (held .coordinator)) (held .sites .messages ∷ [])
-      record-fit (each-below (held .sites .messages ∷ []) (count, tt)))
+      (coordinatorNumbers (held .coordinator) ++ ownCounts settings held) memory-fit
+      (all-below-append (coordinatorNumbers (held .coordinator)) (ownCounts settings held)
+      record-fit counts-fit)
 
   deck-fit : (numbers : SiteRecord) (memory : List ℕ)
       → siteWords settings ≤ length memory
@@ -279,9 +295,9 @@ module _ (settings : Settings) (held : Held) (room : ℕ) (p : Passed settings h
 
   trailer-fit : AllFit (trailerSections settings)
   trailer-fit =
-      let universe = settled settings (p .settings-accepted) .universe .at-most in
+      let s = settled settings (p .settings-accepted) in
       let place : decksPlace settings < byteRange ^ pointerBytes =
-      omega (arith, universe, valueCount-is) in (
+      omega (arith, s .universe .at-most, s .sites .at-most, valueCount-is) in (
         each-below (deskPlace ∷ (decksPlace settings ∷ [])) (omega arith, (place, tt)),
         (
           each-below (deckBytes ∷ []) (omega arith, tt),
@@ -296,6 +312,12 @@ module _ (settings : Settings) (held : Held) (room : ℕ) (p : Passed settings h
           arith,
           settled settings (p .settings-accepted) .sites .at-most,
           machine .all-records,
+        );
+    counts-enough =
+        omega (
+          arith,
+          settled settings (p .settings-accepted) .sites .at-most,
+          machine .all-counts,
         );
     sites-long = p .sites-long;
     coordinator-long = p .coordinator-long;

@@ -1,8 +1,8 @@
 -- A bench that is closed is as consistent as before: only the parts that the settings need are
--- looked at, and the records of its own sites.
+-- looked at, and the records and counts of its own sites.
 --
 --   site-front                                      a site, whatever follows its part
---   sites-closed, coordinator-closed, held-closed
+--   sites-closed, coordinator-closed, counts-closed, held-closed
 use mathlib.Core.Path.{_≡_, refl, sym, ap, _∙_}
 use mathlib.Core.Bool.{Bool, true, _&&_, false≢true}
 use mathlib.Core.List.{List, [], _∷_, _++_}
@@ -18,11 +18,12 @@ use Rattle.model.specs.declared.Settings.{Settings}
 use Rattle.model.specs.declared.SiteRecord.{SiteRecord}
 use Rattle.model.specs.declared.CoordinatorRecord.{CoordinatorRecord}
 use Rattle.model.specs.Choice.{between}
-use Rattle.model.specs.Limits.{mostSites, valueCount, siteLimit}
+use Rattle.model.specs.Limits.{mostSites, valueCount, siteLimit, messageLimit}
 use Rattle.model.specs.Site.{Site, freshSite}
 use Rattle.model.specs.SiteMemory.{siteWords, siteRecord, sum, countersConsistent, siteConsistent}
 use Rattle.model.specs.CoordinatorMemory.{coordinatorWords, coordinatorIn, coordinatorConsistent}
 use Rattle.model.specs.NetworkMemory.{sitesWords, sitesConsistent}
+use Rattle.model.specs.MessageCounts.{countsWithin}
 use Rattle.model.specs.Held.{Held, heldConsistent}
 use Rattle.model.proofs.Soundness.ConsistentNetwork.{bench-rows}
 use Rattle.site_memory.proofs.OneSite.{siteIn-front}
@@ -109,6 +110,22 @@ coordinator-closed settings numbers memory long =
       phase = numbers .phase;
     }
 
+-- ---- The counts
+
+none-counted : (k n : ℕ) → countsWithin k (replicate n 0) ≡ true
+none-counted zero n = refl
+none-counted (suc k) zero = refl
+none-counted (suc k) (suc n) = none-counted k n
+
+pub counts-closed : (k n : ℕ) (counts : List ℕ)
+    → countsWithin k counts ≡ true
+    → countsWithin k (take k counts ++ replicate n 0) ≡ true
+counts-closed zero n counts holds = refl
+counts-closed (suc k) n [] holds = none-counted (suc k) n
+counts-closed (suc k) n (count ∷ counts) holds =
+    let both = both-true (leb count messageLimit) _ holds in
+    and-both _ _ (both .first-true) (counts-closed k n counts (both .second-true))
+
 -- ---- The bench
 
 pub held-closed : (settings : Settings) (held : Held)
@@ -125,4 +142,6 @@ held-closed settings held sites-long coordinator-long holds =
     let coordinator = ap (coordinatorConsistent settings)
     (coordinator-closed settings (held .coordinator) (held .coordinatorMemory) coordinator-long)
     ∙ rows .coordinator-row in
-    and-both _ _ (and-both _ _ sites coordinator) (rows .count-row)
+    let counts = counts-closed (settings .sites) (mostSites - settings .sites)
+    (held .sites .messages) (rows .counts-row) in
+    and-both _ _ (and-both _ _ sites coordinator) counts

@@ -31,11 +31,12 @@ use Rattle.little_endian.proofs.SectionLaws.{length-sectionsBytes, shapes-appen
 use Rattle.checksum.specs.Sums.{byteSum}
 use Rattle.snapshot_file.specs.Layout.{sumBytes, deskCount, deckCount, deckShape, benchShapes, trailerShapes, fileShapes, decksPlace, fileLength, trailerLength}
 use Rattle.snapshot_file.specs.Reading.{deckSize}
-use Rattle.snapshot_file.specs.File.{deskNumbers, deckNumbers, deckSections, benchSections, trailerSections, fileSections, fileOf}
+use Rattle.snapshot_file.specs.File.{ownCounts, deskNumbers, deckNumbers, deckSections, benchSections, trailerSections, fileSections, fileOf}
 
--- Memory for all, and a record for each site.
+-- Memory for all, and a record and a count for each site.
 pub record Long (settings : Settings) (held : Held) : Type 0 where
   pub records-enough : settings .sites ≤ length (held .sites .records)
+  pub counts-enough : settings .sites ≤ length (held .sites .messages)
   pub sites-long : sitesWords settings ≤ length (held .siteMemory)
   pub coordinator-long : coordinatorWords settings ≤ length (held .coordinatorMemory)
 
@@ -66,8 +67,9 @@ module _ (settings : Settings) (held : Held) (long : Long settings held) where
       omega (
         arith,
         length-append front
-            (coordinatorNumbers (held .coordinator) ++ (held .sites .messages ∷ [])),
-        length-append (coordinatorNumbers (held .coordinator)) (held .sites .messages ∷ []),
+            (coordinatorNumbers (held .coordinator) ++ ownCounts settings held),
+        length-append (coordinatorNumbers (held .coordinator)) (ownCounts settings held),
+        length-take-le (settings .sites) (held .sites .messages) (long .counts-enough),
         length-take-le (coordinatorWords settings) (held .coordinatorMemory)
             (long .coordinator-long),
       )
@@ -136,5 +138,6 @@ file-small settings passes =
       length-of-decks settings,
       decks-few settings (deckSize settings) passes refl,
       settled settings passes .universe .at-most,
+      settled settings passes .sites .at-most,
       valueCount-is,
     )

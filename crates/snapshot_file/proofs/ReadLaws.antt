@@ -11,13 +11,14 @@ use mathlib.Core.List.{List, [], _∷_, _++_}
 use Prim.Native.Nat.{ℕ, zero, suc, _+_, _-_, _*_, _≤_}
 use native.Mathlib.Omega.{arith}
 use lib.Dec.{ltb, eqb}
-use lib.ListN.{length, getD, take, drop, replicate, length-drop, take-append-drop}
-use lib.Seq.{take-at, drop-at, length-take-le, take-suc, take-all, drop-drop, take-take}
+use lib.ListN.{length, take, drop, replicate, length-drop, take-append-drop}
+use lib.Seq.{take-at, drop-at, length-take-le, take-all, drop-drop, take-take}
 use borrow.Author.Tests.{ltb-false, eqb-true, not-false}
 use Rattle.laws.proofs.Tests.{neither-of-or}
 use Rattle.model.specs.declared.Settings.{Settings}
 use Rattle.model.specs.declared.SiteRecord.{SiteRecord}
 use Rattle.model.specs.Refusals.{noRefusal, memoryTooShort, fileUnreadable, checksumWrong}
+use Rattle.model.specs.Limits.{mostSites}
 use Rattle.model.specs.Settings.{settingsRefusal}
 use Rattle.model.specs.SiteMemory.{siteWords}
 use Rattle.model.specs.CoordinatorMemory.{coordinatorWords}
@@ -33,8 +34,8 @@ use Rattle.little_endian.proofs.NumberLaws.{length-numbersIn, written-of-read, 
 use Rattle.little_endian.proofs.SectionLaws.{sections-written-of-read}
 use Rattle.checksum.specs.Sums.{byteSum}
 use Rattle.snapshot_file.specs.Layout.{deskBytes, deckBytes, sumBytes, deskCount, deckCount, deckShape, benchShapes, trailerShapes, fileShapes, deskPlace, decksPlace, fileLength, leastLength, trailerLength}
-use Rattle.snapshot_file.specs.File.{deskNumbers, deckSections, benchSections, trailerSections, fileSections, fileOf}
-use Rattle.snapshot_file.specs.Reading.{settingsIn, deskIn, deskRecord, deckIn, deckSize, recordsIn, wordsIn, heldIn, shapeWrong, layoutWrong, loadRefusal, deskPointer, decksPointer, widthIn, sumIn, unsummed}
+use Rattle.snapshot_file.specs.File.{ownCounts, deskNumbers, deckSections, benchSections, trailerSections, fileSections, fileOf}
+use Rattle.snapshot_file.specs.Reading.{settingsIn, deskIn, deskRecord, countsIn, deckIn, deckSize, recordsIn, wordsIn, heldIn, shapeWrong, layoutWrong, loadRefusal, deskPointer, decksPointer, widthIn, sumIn, unsummed}
 use Rattle.snapshot_file.proofs.LayoutLaws.{size-bench}
 
 -- ---- What an accepted reading is worth
@@ -154,22 +155,22 @@ module _ (file : List ℕ) (sites coordinator : ℕ) (below : AllBelow byteRange
       let long = length-numbersIn deskBytes settingsWidth file in
       settings-same numbers (omega (arith, long)) ∙ take-all 6 numbers (omega (arith, long))
 
-  -- The record's ten numbers, and the count behind them.
+  -- The record's ten numbers, and the counts behind them.
   record-again : coordinatorNumbers (coordinatorFrom (deskRecord settings file))
-      ++ (getD (deskRecord settings file) coordinatorWidth 0 ∷ [])
+      ++ ownCounts settings held
       ≡ deskRecord settings file
   record-again =
       let numbers = deskRecord settings file in
-      let long : length numbers ≡ coordinatorWidth + 1 =
+      let long : length numbers ≡ coordinatorWidth + settings .sites =
       omega (
         arith,
         length-drop (coordinatorWords settings) (deskIn settings file),
         length-numbersIn deskBytes (deskCount settings) (drop deskPlace file),
       ) in
-      ap (λ (l : List ℕ). l ++ (getD numbers coordinatorWidth 0 ∷ []))
-      (coordinator-whole numbers (omega (arith, long)) (a .phase-well))
-      ∙ sym (take-suc numbers coordinatorWidth 0 (omega (arith, long)))
-      ∙ take-all (suc coordinatorWidth) numbers (omega (arith, long))
+      let counts = take-at (countsIn settings file) (replicate (mostSites - settings .sites) 0)
+      (settings .sites) (omega (arith, long, length-drop coordinatorWidth numbers)) in
+      (λ i. coordinator-whole numbers (omega (arith, long)) (a .phase-well) i ++ counts i)
+      ∙ take-append-drop coordinatorWidth numbers
 
   desk-again : deskNumbers settings held ≡ deskIn settings file
   desk-again =

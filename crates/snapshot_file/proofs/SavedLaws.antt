@@ -23,8 +23,8 @@ use Rattle.little_endian.specs.Sections.{Section, section, Shape, sectionsBytes
 use Rattle.little_endian.proofs.SectionLaws.{sections-read-of-written}
 use Rattle.checksum.specs.Sums.{byteSum}
 use Rattle.snapshot_file.specs.Layout.{sumBytes, deskPlace, decksPlace, deskCount, deckShape, trailerShapes, fileShapes}
-use Rattle.snapshot_file.specs.File.{deskNumbers, deckNumbers, deckSections, trailerSections, fileSections, fileOf}
-use Rattle.snapshot_file.specs.Reading.{settingsIn, deskIn, deskRecord, deckIn, deckSize, recordsIn, wordsIn, heldIn}
+use Rattle.snapshot_file.specs.File.{ownCounts, deskNumbers, deckNumbers, deckSections, trailerSections, fileSections, fileOf}
+use Rattle.snapshot_file.specs.Reading.{settingsIn, deskIn, deskRecord, countsIn, deckIn, deckSize, recordsIn, wordsIn, heldIn}
 use Rattle.snapshot_file.specs.Claims.{OfMachine, closed}
 use Rattle.snapshot_file.proofs.LayoutLaws.{file-shapes}
 use Rattle.snapshot_file.proofs.FitLaws.{Passed, long-of, all-fit}
@@ -131,14 +131,14 @@ module _ (settings : Settings) (held : Held) (room : ℕ) (p : Passed settings h
       (held .sites .records) (held .siteMemory))
       behind (ap (drop 2) sections-back)
 
-  -- Memory, record and count of the desk part.
+  -- Memory, record and counts of the desk part.
   memory-front : length (take (coordinatorWords settings) (held .coordinatorMemory))
       ≡ coordinatorWords settings
   memory-front =
       length-take-le (coordinatorWords settings) (held .coordinatorMemory) (p .coordinator-long)
 
   pub record-back : deskRecord settings file
-      ≡ coordinatorNumbers (held .coordinator) ++ (held .sites .messages ∷ [])
+      ≡ coordinatorNumbers (held .coordinator) ++ ownCounts settings held
   record-back =
       ap (drop (coordinatorWords settings)) desk-back
       ∙ drop-at (take (coordinatorWords settings) (held .coordinatorMemory)) _
@@ -154,11 +154,11 @@ module _ (settings : Settings) (held : Held) (room : ℕ) (p : Passed settings h
       let words = words-back settings trailerShapes (trailerSections settings) k
       (drop (decksPlace settings) file) (held .sites .records) (held .siteMemory)
       (long .records-enough) (long .sites-long) decks-say in
-      let count : getD (deskRecord settings file) coordinatorWidth 0 ≡ held .sites .messages =
-      ap (λ (l : List ℕ). getD l coordinatorWidth 0) record-back in
+      let counts : countsIn settings file ≡ ownCounts settings held =
+      ap (drop coordinatorWidth) record-back in
       let coordinator : coordinatorFrom (deskRecord settings file) ≡ held .coordinator =
       ap coordinatorFrom record-back
-      ∙ coordinator-back (held .coordinator) (held .sites .messages ∷ []) in
+      ∙ coordinator-back (held .coordinator) (ownCounts settings held) in
       let memory : take (coordinatorWords settings) (deskIn settings file)
       ≡ take (coordinatorWords settings) (held .coordinatorMemory) =
       ap (take (coordinatorWords settings)) desk-back
@@ -166,6 +166,6 @@ module _ (settings : Settings) (held : Held) (room : ℕ) (p : Passed settings h
       (coordinatorWords settings) memory-front in
       λ i. heldBy (record {
         records = records i ++ replicate (mostSites - k) (siteRecord freshSite);
-        messages = count i;
+        messages = counts i ++ replicate (mostSites - k) 0;
       })
       (coordinator i) (words i) (memory i)

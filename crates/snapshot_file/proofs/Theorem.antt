@@ -81,12 +81,13 @@ module _ (settings : Settings) (held : Held) (room : ℕ) (p : Passed settings h
   trailer : Trailer file deskPlace (decksPlace settings) deckBytes (byteSum (bench ++ pointers))
       (bench ++ pointers)
   trailer =
-      let universe = settled settings (p .settings-accepted) .universe .at-most in
+      let s = settled settings (p .settings-accepted) in
       subst (λ (bytes : List ℕ). Trailer (bytes ++ littleEndian sumBytes (byteSum bytes)) deskPlace
       (decksPlace settings) deckBytes (byteSum (bench ++ pointers)) (bench ++ pointers))
       (sym before-sum)
       (trailer-of bench deskPlace (decksPlace settings) deckBytes (byteSum (bench ++ pointers))
-      (omega arith) (omega (arith, universe, valueCount-is)) (omega arith)
+      (omega arith) (omega (arith, s .universe .at-most, s .sites .at-most, valueCount-is))
+      (omega arith)
       (mod-lt (sumOf (bench ++ pointers)) (omega arith)))
 
   well : phaseWellIn (deskRecord settings file) ≡ true

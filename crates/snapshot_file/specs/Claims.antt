@@ -1,10 +1,10 @@
 -- What is claimed of saving a bench and reading it back (request N3), of every bench that saving
 -- accepts and every file that reading accepts, arisen or not.
 --
---   closed settings held     what of a bench is saved: the records of its k sites, those of sites
---                            k to 31 fresh, and as much memory as the settings need
---   OfMachine settings held  facts of the values that code holds: all 32 records, and numbers of
---                            the sites' memory that are machine numbers
+--   closed settings held     what of a bench is saved: the records and counts of its k sites, those
+--                            of sites k to 31 fresh, and as much memory as the settings need
+--   OfMachine settings held  facts of the values that code holds: all 32 records and counts, and
+--                            numbers of the sites' memory that are machine numbers
 --   FileClaims               both ways round
 use mathlib.Core.Path.{_≡_}
 use mathlib.Core.List.{List, _++_}
@@ -20,7 +20,7 @@ use Rattle.model.specs.NetworkMemory.{sitesWords}
 use Rattle.model.specs.Held.{Held, heldBy}
 use Rattle.little_endian.specs.Numbers.{byteRange, AllBelow}
 use Rattle.snapshot_file.specs.Layout.{deckBytes, fileLength}
-use Rattle.snapshot_file.specs.File.{fileOf, saveRefusal}
+use Rattle.snapshot_file.specs.File.{ownCounts, fileOf, saveRefusal}
 use Rattle.snapshot_file.specs.Reading.{settingsIn, heldIn, loadRefusal}
 
 abbrev pub closed : Settings → Held → Held
@@ -28,7 +28,7 @@ closed settings held =
     heldBy (record {
       records = take (settings .sites) (held .sites .records)
           ++ replicate (mostSites - settings .sites) (siteRecord freshSite);
-      messages = held .sites .messages;
+      messages = ownCounts settings held ++ replicate (mostSites - settings .sites) 0;
     })
     (held .coordinator)
     (take (sitesWords settings) (held .siteMemory))
@@ -36,6 +36,7 @@ closed settings held =
 
 pub record OfMachine (settings : Settings) (held : Held) : Type 0 where
   pub all-records : length (held .sites .records) ≡ mostSites
+  pub all-counts : length (held .sites .messages) ≡ mostSites
   pub words-fit : AllBelow (byteRange ^ deckBytes) (take (sitesWords settings) (held .siteMemory))
 
 pub record FileClaims : Type 0 where

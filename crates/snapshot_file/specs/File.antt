@@ -1,5 +1,6 @@
 -- The bytes of a bench (request N3), and why saving one is refused.
 --
+--   ownCounts                     the counts of messages of the k decks
 --   deskNumbers, deckSections     the numbers of the desk part, and of the decks
 --   benchSections, fileSections   all sections of a bench; the same with the trailer's
 --   fileOf settings held          the file: these sections' bytes, and their sum
@@ -26,12 +27,15 @@ use Rattle.snapshot_file.specs.Layout.{deskBytes, deckBytes, pointerByte
 
 -- ---- Sections
 
--- "The numbers stand in document 01's order": the memory, the record, "the bench's message count
--- last".
+-- The counts of messages that a file has: those of the k sites, in their order.
+abbrev pub ownCounts : Settings → Held → List ℕ
+ownCounts settings held = take (settings .sites) (held .sites .messages)
+
+-- "The numbers stand in document 01's order": the memory, the record, and the counts last.
 abbrev pub deskNumbers : Settings → Held → List ℕ
 deskNumbers settings held =
     take (coordinatorWords settings) (held .coordinatorMemory)
-    ++ (coordinatorNumbers (held .coordinator) ++ (held .sites .messages ∷ []))
+    ++ (coordinatorNumbers (held .coordinator) ++ ownCounts settings held)
 
 -- A site's memory, unused counters as they stand, and its record right after it.
 abbrev pub deckNumbers : Settings → SiteRecord → List ℕ → List ℕ

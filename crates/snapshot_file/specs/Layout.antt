@@ -39,9 +39,10 @@ sumBytes = 2
 abbrev pub settingsShape : Shape
 settingsShape = shape deskBytes settingsWidth
 
--- The coordinator's memory, its record, and "the bench's message count last in the desk part".
+-- The coordinator's memory, its record, and last in the desk part the count of messages of each of
+-- the k sites (request N5).
 abbrev pub deskCount : Settings → ℕ
-deskCount settings = coordinatorWords settings + coordinatorWidth + 1
+deskCount settings = coordinatorWords settings + coordinatorWidth + settings .sites
 
 abbrev pub deskShape : Settings → Shape
 deskShape settings = shape deskBytes (deskCount settings)

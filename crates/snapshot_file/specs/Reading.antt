@@ -4,6 +4,7 @@
 --   widthIn, sumIn, deskPointer, decksPointer    the numbers of the trailer
 --   settingsIn file                              the settings, taken whole
 --   deskIn, deckIn                               the numbers of the desk part, and of a deck
+--   deskRecord, countsIn                         of the desk part: the record's and the counts
 --   recordsIn, wordsIn                           the decks' records and memory, one after another
 --   heldIn settings file                         the bench that the file holds
 --   shapeWrong, layoutWrong                      15, before the sum and after the settings
@@ -12,7 +13,7 @@ use mathlib.Core.Bool.{Bool, _||_, not}
 use mathlib.Core.List.{List, [], _∷_, _++_}
 use Prim.Native.Nat.{ℕ, zero, suc, _+_, _-_, _*_}
 use lib.Dec.{ltb, eqb}
-use lib.ListN.{length, getD, take, drop, replicate}
+use lib.ListN.{length, take, drop, replicate}
 use Rattle.model.specs.declared.Settings.{Settings}
 use Rattle.model.specs.declared.SiteRecord.{SiteRecord}
 use Rattle.model.specs.Refusals.{when, _orElse_, noRefusal, memoryTooShort, memoryInconsistent, fileUnreadable, checksumWrong}
@@ -58,9 +59,12 @@ settingsIn file = settingsFrom (numbersIn deskBytes settingsWidth file)
 abbrev pub deskIn : Settings → List ℕ → List ℕ
 deskIn settings file = numbersIn deskBytes (deskCount settings) (drop deskPlace file)
 
--- The record's numbers follow the memory's.
+-- The record's numbers follow the memory's, and the counts those.
 abbrev pub deskRecord : Settings → List ℕ → List ℕ
 deskRecord settings file = drop (coordinatorWords settings) (deskIn settings file)
+
+abbrev pub countsIn : Settings → List ℕ → List ℕ
+countsIn settings file = drop coordinatorWidth (deskRecord settings file)
 
 -- A deck at the front of bytes.
 abbrev pub deckIn : Settings → List ℕ → List ℕ
@@ -81,13 +85,14 @@ wordsIn (suc more) settings bytes =
     take (siteWords settings) (deckIn settings bytes)
     ++ wordsIn more settings (drop (deckSize settings) bytes)
 
--- Records k to 31 are fresh; the memories have just as many numbers as the settings need.
+-- Records k to 31 are fresh and counts k to 31 are 0; the memories have just as many numbers as the
+-- settings need.
 abbrev pub heldIn : Settings → List ℕ → Held
 heldIn settings file =
     heldBy (record {
       records = recordsIn (settings .sites) settings (drop (decksPlace settings) file)
           ++ replicate (mostSites - settings .sites) (siteRecord freshSite);
-      messages = getD (deskRecord settings file) coordinatorWidth 0;
+      messages = countsIn settings file ++ replicate (mostSites - settings .sites) 0;
     })
     (coordinatorFrom (deskRecord settings file))
     (wordsIn (settings .sites) settings (drop (decksPlace settings) file))

@@ -33,8 +33,8 @@ pub const TRAILER_LENGTH: usize = 2 * POINTER_BYTES + WIDTH_BYTES + SUM_BYTES;
 // The least file: settings and trailer.
 pub const LEAST_LENGTH: usize = DESK_PLACE + TRAILER_LENGTH;
 
-// The numbers of the desk part beside its memory: a record of ten, and the count of messages.
-const DESK_BESIDE: usize = 11;
+// The numbers of the desk part beside its memory and the counts of messages: a record of ten.
+const DESK_BESIDE: usize = 10;
 
 // The numbers of a deck beside its memory: a record of five.
 const DECK_BESIDE: usize = 5;
@@ -54,12 +54,14 @@ pub struct Loaded {
     pub coordinator: CoordinatorRecord,
 }
 
-// Where the first deck begins.
+// Where the first deck begins: after the desk part, whose last numbers are the counts of messages,
+// one for each deck.
 pub fn decks_place(settings: Settings) -> usize
     requires { ⌜ settingsRefusal settings ≡ noRefusal ⌝ }
     ensures { λ r. ⌜ r ≡ decksPlace settings ⌝ }
 {
-    DESK_PLACE + DESK_BYTES * ((settings.universe as usize) + VALUE_COUNT + DESK_BESIDE)
+    let numbers = (settings.universe as usize) + VALUE_COUNT + DESK_BESIDE;
+    DESK_PLACE + DESK_BYTES * (numbers + (settings.sites as usize))
 }
 
 // The bytes of a deck: its memory, and its record.

@@ -1,7 +1,8 @@
 -- What the tests of a file before its bench find.
 --
 --   setting-in             a setting, by its place
---   desk-record            the coordinator's record, where the code reads it
+--   desk-record            the coordinator's record and the counts, where the code reads them
+--   desk-ten, desk-counts  each of both
 --   any-first .. any-last  one of four tests that holds
 --   length-wrong .. phase-decides   the tests of the layout
 use mathlib.Core.Path.{_≡_, refl, sym, ap, _∙_}
@@ -19,7 +20,7 @@ use Rattle.record_numbers.specs.Numbers.{narrowed, settingsWidth, coordinatorWi
 use Rattle.little_endian.specs.Numbers.{numbersIn, numberAt}
 use Rattle.little_endian.proofs.NumberLaws.{number-in, numbers-drop, numbers-take}
 use Rattle.snapshot_file.specs.Layout.{deskBytes, deskCount, deskPlace, decksPlace, fileLength}
-use Rattle.snapshot_file.specs.Reading.{deskRecord, deskPointer, decksPointer, layoutWrong}
+use Rattle.snapshot_file.specs.Reading.{deskRecord, countsIn, deskPointer, decksPointer, layoutWrong}
 
 -- As the code reads it, and narrows it.
 pub setting-in : (i : ℕ) (file : List ℕ) (read result : ℕ)
@@ -30,18 +31,18 @@ pub setting-in : (i : ℕ) (file : List ℕ) (read result : ℕ)
 setting-in i file read result inside found is =
     found ∙ ap narrowed (is ∙ sym (number-in deskBytes settingsWidth i file inside))
 
--- Behind the memory stand the record and the count.
+-- Behind the memory stand the record and the counts.
 pub desk-record : (settings : Settings) (file : List ℕ)
     → deskRecord settings file
-    ≡ numbersIn deskBytes (coordinatorWidth + 1)
+    ≡ numbersIn deskBytes (coordinatorWidth + settings .sites)
     (drop (deskPlace + deskBytes * coordinatorWords settings) file)
 desk-record settings file =
     let words = coordinatorWords settings in
-    let count : deskCount settings ≡ words + (coordinatorWidth + 1) = omega arith in
+    let beside = coordinatorWidth + settings .sites in
+    let count : deskCount settings ≡ words + beside = omega arith in
     ap (λ (n : ℕ). drop words (numbersIn deskBytes n (drop deskPlace file))) count
-    ∙ numbers-drop deskBytes words (coordinatorWidth + 1) (drop deskPlace file)
-    ∙ ap (numbersIn deskBytes (coordinatorWidth + 1))
-    (drop-drop (deskBytes * words) deskPlace file)
+    ∙ numbers-drop deskBytes words beside (drop deskPlace file)
+    ∙ ap (numbersIn deskBytes beside) (drop-drop (deskBytes * words) deskPlace file)
 
 pub desk-ten : (settings : Settings) (file : List ℕ)
     → take coordinatorWidth (deskRecord settings file)
@@ -49,8 +50,23 @@ pub desk-ten : (settings : Settings) (file : List ℕ)
     (drop (deskPlace + deskBytes * coordinatorWords settings) file)
 desk-ten settings file =
     ap (take coordinatorWidth) (desk-record settings file)
-    ∙ numbers-take deskBytes coordinatorWidth 1
+    ∙ numbers-take deskBytes coordinatorWidth (settings .sites)
     (drop (deskPlace + deskBytes * coordinatorWords settings) file)
+
+-- The counts behind both.
+pub desk-counts : (settings : Settings) (file : List ℕ)
+    → countsIn settings file
+    ≡ numbersIn deskBytes (settings .sites)
+    (drop (deskPlace + deskBytes * (coordinatorWords settings + coordinatorWidth)) file)
+desk-counts settings file =
+    let start = deskPlace + deskBytes * coordinatorWords settings in
+    let place : start + deskBytes * coordinatorWidth
+    ≡ deskPlace + deskBytes * (coordinatorWords settings + coordinatorWidth) = omega arith in
+    ap (drop coordinatorWidth) (desk-record settings file)
+    ∙ numbers-drop deskBytes coordinatorWidth (settings .sites) (drop start file)
+    ∙ ap (numbersIn deskBytes (settings .sites))
+    (drop-drop (deskBytes * coordinatorWidth) start file
+    ∙ ap (λ (n : ℕ). drop n file) place)
 
 -- ---- Four tests, one of which holds
 

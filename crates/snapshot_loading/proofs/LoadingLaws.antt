@@ -5,12 +5,13 @@
 --   words-stored         one deck's memory more, right after those stored
 --   words-end            all of them, in front of what was there
 --   Recording ..         the decks' records, over 32 fresh ones
+--   Counting ..          their counts of messages, over 32 zeros
 use mathlib.Core.Path.{_≡_, refl, sym, ap, _∙_, subst}
 use mathlib.Core.List.{List, [], _∷_, _++_, append-assoc, append-nil}
 use Prim.Native.Nat.{ℕ, zero, suc, _+_, _-_, _*_, _≤_, _<_}
 use native.Mathlib.Omega.{arith}
 use lib.ListN.{length, take, drop, set, replicate, length-append, length-replicate}
-use lib.Seq.{take-at, drop-at, drop-drop}
+use lib.Seq.{take-at, drop-at, drop-drop, take-suc, take-all, length-take-le}
 use Rattle.laws.proofs.Fronts.{Growing, growing-begins, growing-on, growing-ends}
 use Rattle.model.specs.declared.Settings.{Settings}
 use Rattle.model.specs.declared.SiteRecord.{SiteRecord}
@@ -18,11 +19,13 @@ use Rattle.model.specs.Limits.{mostSites}
 use Rattle.model.specs.Site.{freshSite}
 use Rattle.model.specs.SiteMemory.{siteWords, siteRecord, overwrite}
 use Rattle.model.specs.CoordinatorMemory.{coordinatorWords}
+use Rattle.model.specs.MessageCounts.{countAt}
 use Rattle.record_numbers.specs.Numbers.{siteWidth, coordinatorWidth}
 use Rattle.little_endian.specs.Numbers.{numbersIn}
 use Rattle.little_endian.proofs.NumberLaws.{numbers-take, length-numbersIn}
 use Rattle.snapshot_file.specs.Layout.{deskBytes, deckBytes, deskCount, deskPlace, decksPlace}
-use Rattle.snapshot_file.specs.Reading.{deskIn, deckSize, recordsIn, wordsIn}
+use Rattle.snapshot_file.specs.Reading.{deskIn, countsIn, deckSize, recordsIn, wordsIn}
+use Rattle.snapshot_header.proofs.HeaderLaws.{desk-counts}
 use Rattle.snapshot_decks.specs.Decks.{deckRecord}
 
 -- ---- The coordinator's memory
@@ -32,13 +35,12 @@ pub desk-memory : (settings : Settings) (file : List ℕ) (words : ℕ)
     → numbersIn deskBytes words (drop deskPlace file)
     ≡ take (coordinatorWords settings) (deskIn settings file)
 desk-memory settings file words are =
-    let count : deskCount settings ≡ coordinatorWords settings + (coordinatorWidth + 1) =
-    omega arith in
+    let beside = coordinatorWidth + settings .sites in
+    let count : deskCount settings ≡ coordinatorWords settings + beside = omega arith in
     ap (λ (n : ℕ). numbersIn deskBytes n (drop deskPlace file)) are
     ∙ sym (ap (λ (n : ℕ). take (coordinatorWords settings) (numbersIn deskBytes n
     (drop deskPlace file))) count
-    ∙ numbers-take deskBytes (coordinatorWords settings) (coordinatorWidth + 1)
-    (drop deskPlace file))
+    ∙ numbers-take deskBytes (coordinatorWords settings) beside (drop deskPlace file))
 
 -- ---- The decks' memory
 
@@ -155,7 +157,7 @@ length-records settings (suc j) bytes =
     ap suc (length-records settings j (drop (deckSize settings) bytes))
 
 -- What is left of equal elements.
-rest-of : (n k : ℕ) (r : SiteRecord) → k ≤ n → drop k (replicate n r) ≡ replicate (n - k) r
+rest-of : {A : Type 0} (n k : ℕ) (r : A) → k ≤ n → drop k (replicate n r) ≡ replicate (n - k) r
 rest-of n zero r few =
     let all : n - 0 ≡ n = omega arith in rw all
 rest-of zero (suc k) r few = absurd (omega arith)
@@ -216,3 +218,53 @@ module _ (settings : Settings) (file : List ℕ) where
       ∙ ap (λ (l : List SiteRecord). front ++ l)
       (ap (λ (n : ℕ). drop n (replicate mostSites fresh)) (length-records settings k decks)
       ∙ rest-of mostSites k fresh few)
+
+-- ---- The decks' counts of messages
+
+module _ (settings : Settings) (file : List ℕ) where
+  abbrev k : ℕ
+  k = settings .sites
+
+  abbrev counts : List ℕ
+  counts = countsIn settings file
+
+  length-counts : length counts ≡ k
+  length-counts =
+      let first = deskPlace + deskBytes * (coordinatorWords settings + coordinatorWidth) in
+      ap length (desk-counts settings file) ∙ length-numbersIn deskBytes k (drop first file)
+
+  -- 32 zeros, over which those of the file are written.
+  abbrev pub Counting : List ℕ → ℕ → Type 0
+  Counting = Growing (λ (n : ℕ). take n counts) (replicate mostSites 0) k
+
+  pub counting-begins : Counting (replicate mostSites 0) 0
+  counting-begins = growing-begins _ _ _ refl
+
+  pub counting-on : (now : List ℕ) (j read : ℕ)
+      → Counting now j
+      → j < k
+      → k ≤ mostSites
+      → read ≡ countAt counts j
+      → Counting (set now j read) (j + 1)
+  counting-on now j read counting inside few is =
+      let zeros = length-replicate {A = ℕ} mostSites 0 in
+      let more : suc j ≡ j + 1 = omega arith in
+      growing-on (λ (n : ℕ). take n counts) (replicate mostSites 0) k now j counting j
+      (countAt counts j ∷ []) inside
+      (length-take-le j counts (omega (arith, length-counts)))
+      (omega (arith, zeros, few))
+      (sym (take-suc counts j 0 (omega (arith, length-counts)))
+      ∙ ap (λ (n : ℕ). take n counts) more)
+      (ap (λ (n : ℕ). set now j n) is)
+
+  pub counting-ends : (now : List ℕ) (j : ℕ)
+      → Counting now j
+      → k ≤ j
+      → k ≤ mostSites
+      → now ≡ counts ++ replicate (mostSites - k) 0
+  counting-ends now j counting past few =
+      let all : take k counts ≡ counts = take-all k counts (omega (arith, length-counts)) in
+      growing-ends (λ (n : ℕ). take n counts) (replicate mostSites 0) k now j counting past
+      ∙ (λ i. all i ++ drop (length (all i)) (replicate mostSites 0))
+      ∙ ap (λ (l : List ℕ). counts ++ l)
+      (ap (λ (n : ℕ). drop n (replicate mostSites 0)) length-counts ∙ rest-of mostSites k 0 few)

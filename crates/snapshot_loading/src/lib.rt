@@ -30,7 +30,7 @@ use snapshot_header::settings_in;
 use snapshot_refusal::load_refusal;
 use snapshot_refusal::messages_in;
 
-// The records of the decks, and the count of messages; records k to 31 are fresh.
+// The records of the decks and their counts of messages; records k to 31 are fresh, their counts 0.
 fn sites_in(settings: Settings, file: &[u8]) -> Sites
     requires { ⌜ WholeFile settings (now file) ⌝ }
     ensures { λ r. ⌜ r ≡ heldIn settings (before file) .sites ⌝ }
@@ -38,7 +38,6 @@ fn sites_in(settings: Settings, file: &[u8]) -> Sites
     let count = settings.sites as usize;
     let size = deck_size(settings);
     let first = decks_place(settings);
-    let messages = messages_in(settings, file);
     let fresh = SiteRecord {
         arrivals: 0,
         pending: 0,
@@ -47,14 +46,16 @@ fn sites_in(settings: Settings, file: &[u8]) -> Sites
         dropped: 0,
     };
     let mut records = [fresh; SITE_RECORDS];
+    let mut counts = [0u64; SITE_RECORDS];
     let mut j = 0;
     while j < count {
         records[j] = deck_record(settings, file, first + j * size);
+        counts[j] = messages_in(settings, file, j);
         j += 1;
     }
     Sites {
         records: records,
-        messages: messages,
+        messages: counts,
     }
 }
 
@@ -108,7 +109,7 @@ fn refused(refusal: u32) -> Loaded
     };
     let sites = Sites {
         records: [fresh; SITE_RECORDS],
-        messages: 0,
+        messages: [0u64; SITE_RECORDS],
     };
     let coordinator = CoordinatorRecord {
         total: 0,

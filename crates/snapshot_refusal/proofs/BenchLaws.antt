@@ -1,16 +1,17 @@
 -- The bench that a file holds, as the tests look at it.
 --
---   messages-there       the count of messages, where the code reads it
+--   count-there          a deck's count of messages, where the code reads it
+--   count-held           the same among the counts of the bench
 --   phase-narrow         a consistent phase has numbers that fit four bytes
 --   read-same            numbers that are no record are inconsistent either way
 --   long-of, lies-of     what earlier rows leave
 use mathlib.Core.Path.{_≡_, refl, sym, ap, _∙_}
 use mathlib.Core.Bool.{Bool, true, false, _&&_, _||_, not, false≢true}
 use mathlib.Core.List.{List}
-use Prim.Native.Nat.{ℕ, zero, suc, _+_, _*_, _≤_}
+use Prim.Native.Nat.{ℕ, zero, suc, _+_, _-_, _*_, _≤_, _<_}
 use native.Mathlib.Omega.{arith}
 use lib.Dec.{leb, ltb, eqb}
-use lib.ListN.{length, getD, drop}
+use lib.ListN.{length, getD, drop, replicate, List·getD-append}
 use lib.Seq.{drop-drop}
 use borrow.Author.Tests.{le-leb, leb-true, ltb-true, ltb-false, eqb-true, ne-eqb, not-false}
 use Rattle.laws.proofs.Tests.{both-true, and-both, neither-of-or}
@@ -19,32 +20,47 @@ use Rattle.model.specs.Choice.{isZero}
 use Rattle.model.specs.Refusals.{noRefusal}
 use Rattle.model.specs.Settings.{settingsRefusal}
 use Rattle.model.specs.Limits.{mostSites, topValue, coordinatorLimit}
+use Rattle.model.specs.MessageCounts.{countAt}
 use Rattle.model.specs.CoordinatorMemory.{coordinatorWords, phaseConsistent, coordinatorIn, coordinatorConsistent}
 use Rattle.record_numbers.specs.Numbers.{greatestNarrow, greatestHeld, coordinatorWidth, phaseFrom, phaseWell, coordinatorFrom, coordinatorRead, coordinatorWell, phaseWellIn}
 use Rattle.coordinator_memory.specs.Consistency.{recordConsistent}
 use Rattle.coordinator_memory.proofs.ConsistencyLaws.{consistent-parts, record-facts}
 use Rattle.coordinator_numbers.proofs.Rows.{row-claims}
 use Rattle.little_endian.specs.Numbers.{numberAt}
-use Rattle.little_endian.proofs.NumberLaws.{number-in}
+use Rattle.little_endian.proofs.NumberLaws.{number-in, length-numbersIn}
 use Rattle.snapshot_file.specs.Layout.{deskBytes, deckBytes, deskPlace, decksPlace, fileLength, leastLength}
-use Rattle.snapshot_file.specs.Reading.{deskRecord, deskPointer, decksPointer, widthIn, shapeWrong, layoutWrong}
-use Rattle.snapshot_header.proofs.HeaderLaws.{desk-record}
+use Rattle.snapshot_file.specs.Reading.{deskRecord, countsIn, heldIn, deskPointer, decksPointer, widthIn, shapeWrong, layoutWrong}
+use Rattle.snapshot_header.proofs.HeaderLaws.{desk-counts}
 use Rattle.snapshot_refusal.specs.Refusal.{BenchLies}
 
-pub messages-there : (settings : Settings) (file : List ℕ) (words read : ℕ)
+-- ---- The counts of messages
+
+pub count-there : (settings : Settings) (file : List ℕ) (words j read : ℕ)
     → words ≡ coordinatorWords settings
-    → read ≡ numberAt deskBytes (deskPlace + deskBytes * (words + coordinatorWidth)) file
-    → read ≡ getD (deskRecord settings file) coordinatorWidth 0
-messages-there settings file words read words-are is =
-    let behind = deskPlace + deskBytes * coordinatorWords settings in
-    let place : deskPlace + deskBytes * (words + coordinatorWidth)
-    ≡ behind + deskBytes * coordinatorWidth = omega (arith, words-are) in
+    → j < settings .sites
+    → read
+    ≡ numberAt deskBytes (deskPlace + deskBytes * (words + coordinatorWidth) + deskBytes * j) file
+    → read ≡ countAt (countsIn settings file) j
+count-there settings file words j read words-are inside is =
+    let k = settings .sites in
+    let first = deskPlace + deskBytes * (coordinatorWords settings + coordinatorWidth) in
     is
-    ∙ ap (λ (n : ℕ). numberAt deskBytes n file) place
-    ∙ ap (numberAt deskBytes 0) (sym (drop-drop (deskBytes * coordinatorWidth) behind file))
-    ∙ sym (number-in deskBytes (coordinatorWidth + 1) coordinatorWidth (drop behind file)
-    (omega arith))
-    ∙ ap (λ (l : List ℕ). getD l coordinatorWidth 0) (sym (desk-record settings file))
+    ∙ ap (λ (n : ℕ). numberAt deskBytes
+    (deskPlace + deskBytes * (n + coordinatorWidth) + deskBytes * j) file) words-are
+    ∙ ap (numberAt deskBytes 0) (sym (drop-drop (deskBytes * j) first file))
+    ∙ sym (number-in deskBytes k j (drop first file) inside)
+    ∙ ap (λ (l : List ℕ). countAt l j) (sym (desk-counts settings file))
+
+-- Those that are read are followed by zeros, one for each site from k on.
+pub count-held : (settings : Settings) (file : List ℕ) (j : ℕ)
+    → j < settings .sites
+    → countAt (countsIn settings file) j ≡ countAt (heldIn settings file .sites .messages) j
+count-held settings file j inside =
+    let first = deskPlace + deskBytes * (coordinatorWords settings + coordinatorWidth) in
+    let long = ap length (desk-counts settings file)
+    ∙ length-numbersIn deskBytes (settings .sites) (drop first file) in
+    sym (List·getD-append (countsIn settings file) (replicate (mostSites - settings .sites) 0) 0 j
+    (omega (arith, long, inside)))
 
 -- ---- Numbers that fit
 

@@ -2,13 +2,12 @@
 // is made on the bytes. Functions with a `requires` are internal.
 
 ghost use mathlib.Core.Path.{_≡_};
-ghost use lib.ListN.{getD};
 ghost use Rattle.model.specs.Lent.{before};
+ghost use Rattle.model.specs.MessageCounts.{countAt, countsWithin};
 ghost use Rattle.model.specs.Held.{heldConsistent};
-ghost use Rattle.record_numbers.specs.Numbers.{coordinatorWidth};
-ghost use Rattle.snapshot_file.specs.Reading.{deskRecord, heldIn, loadRefusal};
+ghost use Rattle.snapshot_file.specs.Reading.{countsIn, heldIn, loadRefusal};
 ghost use Rattle.snapshot_header.specs.Header.{WholeFile};
-ghost use Rattle.snapshot_refusal.specs.Refusal.{BenchLies};
+ghost use Rattle.snapshot_refusal.specs.Refusal.{CountLies, BenchLies};
 use coordinator_numbers::COORDINATOR_NUMBERS;
 use little_endian::read_eight;
 use model::CHECKSUM_WRONG;
@@ -22,16 +21,31 @@ use model::VALUE_COUNT;
 use snapshot_file::DESK_BYTES;
 use snapshot_file::DESK_PLACE;
 
-// The count of messages, last in the desk part.
-pub fn messages_in(settings: Settings, file: &[u8]) -> u64
-    requires { ⌜ WholeFile settings (now file) ⌝ }
-    ensures { λ r. ⌜ r ≡ getD (deskRecord settings (before file)) coordinatorWidth 0 ⌝ }
+// The count of messages of one deck; those of all are the last numbers of the desk part.
+pub fn messages_in(settings: Settings, file: &[u8], which: usize) -> u64
+    requires { ⌜ CountLies settings (now file) which ⌝ }
+    ensures { λ r. ⌜ r ≡ countAt (countsIn settings (before file)) which ⌝ }
 {
     let words = (settings.universe as usize) + VALUE_COUNT;
-    read_eight(
-        file,
-        DESK_PLACE + DESK_BYTES * (words + COORDINATOR_NUMBERS),
-    )
+    let first = DESK_PLACE + DESK_BYTES * (words + COORDINATOR_NUMBERS);
+    read_eight(file, first + DESK_BYTES * which)
+}
+
+// Whether the messages counted of each deck are within their limit; the sum has none.
+fn counts_within(settings: Settings, file: &[u8]) -> bool
+    requires { ⌜ WholeFile settings (now file) ⌝ }
+    ensures { λ r. ⌜ r
+        ≡ countsWithin (settings .sites) (heldIn settings (before file) .sites .messages) ⌝ }
+{
+    let decks = settings.sites as usize;
+    let mut j = 0;
+    while j < decks {
+        if MESSAGE_LIMIT < messages_in(settings, file, j) {
+            return false;
+        }
+        j += 1;
+    }
+    true
 }
 
 // Whether the bench that the file holds is consistent.
@@ -39,11 +53,10 @@ fn bench_consistent(settings: Settings, file: &[u8]) -> bool
     requires { ⌜ BenchLies settings (now file) ⌝ }
     ensures { λ r. ⌜ r ≡ heldConsistent settings (heldIn settings (before file)) ⌝ }
 {
-    if MESSAGE_LIMIT < messages_in(settings, file) {
-        return false;
-    }
-    if snapshot_decks::decks_consistent(settings, file) {
-        return snapshot_desk::desk_consistent(settings, file);
+    if counts_within(settings, file) {
+        if snapshot_decks::decks_consistent(settings, file) {
+            return snapshot_desk::desk_consistent(settings, file);
+        }
     }
     false
 }

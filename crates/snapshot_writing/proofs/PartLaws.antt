@@ -22,11 +22,11 @@ use Rattle.model.specs.SiteMemory.{siteWords}
 use Rattle.model.specs.CoordinatorMemory.{coordinatorWords}
 use Rattle.model.specs.Held.{noRecord}
 use Rattle.record_numbers.specs.Numbers.{coordinatorNumbers}
-use Rattle.little_endian.specs.Numbers.{littleEndian, numbersBytes}
+use Rattle.little_endian.specs.Numbers.{numbersBytes}
 use Rattle.little_endian.specs.Sections.{Section, section, sectionsBytes}
 use Rattle.little_endian.proofs.NumberLaws.{length-numbersBytes}
 use Rattle.little_endian.proofs.SectionLaws.{bytes-append}
-use Rattle.snapshot_file.specs.Layout.{deckBytes, deskPlace, decksPlace}
+use Rattle.snapshot_file.specs.Layout.{deckBytes, deskCount, deskPlace, decksPlace}
 use Rattle.snapshot_file.specs.File.{deckNumbers, deckSections}
 use Rattle.snapshot_file.specs.Reading.{deckSize}
 use Rattle.snapshot_file.proofs.LayoutLaws.{length-deck, length-of-decks}
@@ -62,34 +62,36 @@ numbers-written width place count first second bytes counted fits =
 
 pub desk-fits : (settings : Settings) (bytes : List ℕ)
     → TrailerAsks settings bytes
-    → deskPlace + 8 * (coordinatorWords settings + 11) ≤ length bytes
+    → deskPlace + 8 * deskCount settings ≤ length bytes
 desk-fits settings bytes asks = omega (arith, asks .bytes-enough, length-of-decks settings)
 
--- The memory, the record and the count of messages, with the words that the code counted.
-pub desk-written : (settings : Settings) (coordinator : CoordinatorRecord) (messages words : ℕ)
-    (memory bytes : List ℕ)
+-- The memory, the record and the counts of messages, with the words that the code counted.
+pub desk-written : (settings : Settings) (coordinator : CoordinatorRecord) (words : ℕ)
+    (counts memory bytes : List ℕ)
     → words ≡ coordinatorWords settings
+    → settings .sites ≤ length counts
     → coordinatorWords settings ≤ length memory
     → TrailerAsks settings bytes
-    → writtenAt (deskPlace + 8 * words + 80) (littleEndian 8 messages)
+    → writtenAt (deskPlace + 8 * words + 80) (numbersBytes 8 (take (settings .sites) counts))
     (writtenAt (deskPlace + 8 * words) (numbersBytes 8 (coordinatorNumbers coordinator))
     (writtenAt deskPlace (numbersBytes 8 (take words memory)) bytes))
-    ≡ writtenAt deskPlace (numbersBytes 8 (deskRow settings coordinator messages memory)) bytes
-desk-written settings coordinator messages words memory bytes words-are long asks =
+    ≡ writtenAt deskPlace (numbersBytes 8 (deskRow settings coordinator counts memory)) bytes
+desk-written settings coordinator words counts memory bytes words-are enough long asks =
     let first = take words memory in
     let second = coordinatorNumbers coordinator in
-    let third = messages ∷ [] in
+    let third = take (settings .sites) counts in
     let fits = desk-fits settings bytes asks in
     let first-long : length first ≡ words =
     length-take-le words memory (omega (arith, words-are, long)) in
     let both-long : length (first ++ second) ≡ words + 10 =
     omega (arith, length-append first second, first-long) in
+    let third-long = length-take-le (settings .sites) counts enough in
     let place : deskPlace + 8 * words + 80 ≡ deskPlace + 8 * (words + 10) = omega arith in
     (λ i. writtenAt (place i) (numbersBytes 8 third)
     (numbers-written 8 deskPlace words first second bytes first-long
     (omega (arith, words-are, fits)) i))
     ∙ numbers-written 8 deskPlace (words + 10) (first ++ second) third bytes both-long
-    (omega (arith, words-are, fits))
+    (omega (arith, words-are, third-long, fits))
     ∙ ap (λ (l : List ℕ). writtenAt deskPlace (numbersBytes 8 l) bytes)
     (append-assoc first second third)
     ∙ ap (λ (n : ℕ). writtenAt deskPlace (numbersBytes 8 (take n memory ++ (second ++ third)))

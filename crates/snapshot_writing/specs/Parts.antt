@@ -3,7 +3,7 @@
 --   deskRow, trailerOver                        the desk part's numbers; the trailer's bytes
 --   TrailerAsks, DeskAsks, DecksAsk, DeckAsks   what the writing parts require
 use mathlib.Core.Path.{_≡_}
-use mathlib.Core.List.{List, [], _∷_, _++_}
+use mathlib.Core.List.{List, _++_}
 use Prim.Native.Nat.{ℕ, _+_, _-_, _≤_}
 use lib.ListN.{length, take}
 use Rattle.model.specs.declared.Settings.{Settings}
@@ -23,11 +23,12 @@ use Rattle.snapshot_file.specs.Reading.{deckSize}
 
 -- ---- The parts
 
--- The numbers of the desk part, from the coordinator's record and memory and the count of messages.
-abbrev pub deskRow : Settings → CoordinatorRecord → ℕ → List ℕ → List ℕ
-deskRow settings coordinator messages memory =
+-- The numbers of the desk part, from the coordinator's record and memory and the counts of messages,
+-- of which the first k are taken.
+abbrev pub deskRow : Settings → CoordinatorRecord → List ℕ → List ℕ → List ℕ
+deskRow settings coordinator counts memory =
     take (coordinatorWords settings) memory
-    ++ (coordinatorNumbers coordinator ++ (messages ∷ []))
+    ++ (coordinatorNumbers coordinator ++ take (settings .sites) counts)
 
 -- Settings that pass, and bytes for the file.
 pub record TrailerAsks (settings : Settings) (bytes : List ℕ) : Type 0 where

@@ -18,6 +18,7 @@ use coordinator_numbers::COORDINATOR_NUMBERS;
 use coordinator_numbers::coordinator_row;
 use little_endian::write_number;
 use model::CoordinatorRecord;
+use model::SITE_RECORDS;
 use model::Settings;
 use model::SiteRecord;
 use model::Sites;
@@ -54,18 +55,18 @@ pub fn write_settings(settings: Settings, bytes: &mut [u8])
     write_numbers(&row, bytes, 0);
 }
 
-// The desk part: the coordinator's memory, its record, and the count of messages last.
+// The desk part: the coordinator's memory, its record, and last the counts of messages of k decks.
 pub fn write_desk(
     settings: Settings,
     coordinator: CoordinatorRecord,
-    messages: u64,
+    counts: [u64; SITE_RECORDS],
     memory: &[u64],
     bytes: &mut [u8],
 )
     requires { ⌜ DeskAsks settings (now memory) (now bytes) ⌝ }
     ensures { λ r. ⌜ after bytes
         ≡ writtenAt deskPlace
-        (numbersBytes deskBytes (deskRow settings coordinator messages (before memory)))
+        (numbersBytes deskBytes (deskRow settings coordinator counts (before memory)))
         (before bytes) ⌝ }
 {
     let words = (settings.universe as usize) + VALUE_COUNT;
@@ -73,11 +74,11 @@ pub fn write_desk(
     let row = coordinator_row(coordinator);
     let place = DESK_PLACE + DESK_BYTES * words;
     write_numbers(&row, bytes, place);
-    write_number(
+    let decks = settings.sites as usize;
+    write_numbers(
+        &counts[..decks],
         bytes,
         place + DESK_BYTES * COORDINATOR_NUMBERS,
-        DESK_BYTES,
-        messages,
     );
 }
 

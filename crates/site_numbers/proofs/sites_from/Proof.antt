@@ -1,11 +1,9 @@
--- The records one by one. The loop's invariant: the first i records are those of the row. The
--- measure is the count of the records left.
+-- The records one by one, then the counts of messages. The loop's invariant: the first i records
+-- are those of the row. The measure is the count of the records left.
 use Prim.Native.Nat.{_-_}
 use mathlib.Core.Path.{refl}
-use lib.ListN.{getD}
 use borrow.Author.Needs.{needs}
 use Rattle.laws.proofs.Fronts.{growing-begins}
-use Rattle.record_numbers.specs.Numbers.{countPlace}
 use Rattle.site_numbers.proofs.Records.{Reading, reading-on, reading-end}
 use Rattle.site_numbers.proofs.sites_from.Statement.{statement}
 use Rattle.site_numbers.proofs.sites_from.Tie as tie
@@ -33,7 +31,7 @@ returns c =
     let loop = at-loop .loop in
     let all = reading-end (start .args .row .now) (loop .records) (loop .i) (loop .inv)
     (search needs) in
-    λ j. record { records = all j; messages = getD (start .args .row .now) countPlace 0 }
+    λ j. record { records = all j; messages = c .counts-in .ensures j }
 
 pub sites-from-spec : {M : Type 1} → statement M
 sites-from-spec =

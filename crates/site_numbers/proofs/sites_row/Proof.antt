@@ -1,4 +1,4 @@
--- The records one by one, then the count of messages. The loop's invariant: the numbers of the
+-- The records one by one, then the counts of messages. The loop's invariant: the numbers of the
 -- first i records stand at the front. The measure is the count of the records left.
 use Prim.Native.Nat.{_-_}
 use mathlib.Core.Path.{refl}
@@ -26,10 +26,11 @@ loop-again c =
 
 returns : tie.Need-returns Inv-loop μ-loop
 returns c =
-    let at-loop = c .before in
+    let at-loop = c .before .before .before .before in
     let start = at-loop .before in
     let loop = at-loop .loop in
     recording-end (start .args .t1) (loop .row) (loop .i) (loop .inv) (search needs)
+    (c .store-counts .ensures)
 
 pub sites-row-spec : {M : Type 1} → statement M
 sites-row-spec =

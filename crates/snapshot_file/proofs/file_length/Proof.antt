@@ -31,6 +31,7 @@ both-few c =
           (c .before .deck-size .ensures),
       c .decks-place .ensures,
       settled (start .args .settings) (start .pre) .universe .at-most,
+      settled (start .args .settings) (start .pre) .sites .at-most,
       valueCount-is,
     )
 

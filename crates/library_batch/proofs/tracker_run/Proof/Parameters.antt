@@ -37,6 +37,7 @@ use Rattle.library_batch.proofs.open_rows as opener
 use Rattle.library_batch.proofs.open_rows.Symbol.{name as #open-rows}
 use Rattle.tracker.proofs.run_batch as batch
 use Rattle.tracker.proofs.run_batch.Symbol.{name as #run-batch}
+use Rattle.record_numbers.specs.Numbers.{sitesWidth}
 use Rattle.library_batch.proofs.close_rows as closer
 use Rattle.library_batch.proofs.close_rows.Symbol.{name as #close-rows}
 use Rattle.library_batch.proofs.tracker_run as fun
@@ -53,7 +54,7 @@ abbrev pub settings-row : RattleType
 settings-row = Array u32 6
 
 abbrev pub decks-row : RattleType
-decks-row = Array u64 161
+decks-row = Array u64 sitesWidth
 
 abbrev pub desk-row : RattleType
 desk-row = Array u64 10

@@ -5,6 +5,7 @@
 --   After                     a state that was reached from another by steps of the same delivery
 --   after-start, after-step   kept from the first state on
 --   after-end                 where nothing is left to do
+--   nothing-left              nothing waits then
 --   left-less                 two for each free number of the log and one for each message that
 --                             waits
 use mathlib.Core.Path.{_≡_, refl, sym, ap, subst, subst⁻¹}
@@ -17,14 +18,17 @@ use lib.ListN.{length, length-append}
 use borrow.Author.Tests.{ne-eqb}
 use Rattle.model.specs.declared.Settings.{Settings}
 use Rattle.model.specs.declared.Message.{Message}
+use Rattle.model.specs.declared.SiteRecord.{SiteRecord}
+use Rattle.model.specs.declared.CoordinatorRecord.{CoordinatorRecord}
 use Rattle.model.specs.declared.Phase.{Phase}
 use Rattle.model.specs.declared.Phase.the-variants.{Idle, Collecting, Probing, Announcing}
 use Rattle.model.specs.Coordinator.{Coordinator, isAnnouncing, announcedIn}
-use Rattle.model.specs.Network.{handOver, askAnnouncement, afterArrival}
+use Rattle.model.specs.Network.{Delivered, handOver, askAnnouncement, afterArrival}
 use Rattle.model.specs.DeliveryClaims.{Delivery, deliveryStep}
 use Rattle.tracker_queue.specs.declared.Queue.{Queue}
-use Rattle.tracker_delivery.specs.declared.Underway.{Underway}
-use Rattle.tracker_delivery.specs.Holding.{Carrying, underwayIn, Holds, Going, Delivering, goesOn, StepSays, rested}
+use Rattle.tracker_queue.specs.declared.Traffic.{Traffic}
+use Rattle.tracker_delivery.specs.UnderwayParts.{Underway, underwayOf, resting}
+use Rattle.tracker_delivery.specs.Holding.{WithLog, Carrying, carrying, underwayIn, Holds, Going, Delivering, goesOn, StepSays, rested}
 use Rattle.tracker_delivery.proofs.HoldingLaws.{log-length}
 use Rattle.tracker_delivery.proofs.GoingLaws.{going-room, going-handed, going-asked, going-ends}
 use Rattle.tracker_delivery.proofs.StepLaws.{none-waits, handing, asking}
@@ -197,3 +201,24 @@ module _ {settings : Settings} {first : Carrying} (u : Delivering settings first
 
       silent : isAnnouncing (after .now .network .coordinator .phase) ≡ false
       silent = rw (none, after .holds .coordinator) at ends
+
+-- Nothing waits at the end of a delivery, so that no queue is handed back.
+pub nothing-left : {settings : Settings} {given : WithLog} {earlier : List Message}
+    {after : Delivered} {records : List SiteRecord} {counts : List ℕ}
+    {coordinator : CoordinatorRecord} {traffic : Traffic}
+    {siteMemory coordinatorMemory log : List ℕ}
+    → Holds settings given earlier (rested after)
+    (carrying (underwayOf records counts coordinator traffic) siteMemory coordinatorMemory log)
+    → Holds settings given earlier (rested after)
+    (carrying (resting records counts coordinator (traffic .written)) siteMemory coordinatorMemory
+    log)
+nothing-left holds = record {
+  records = holds .records;
+  counted = holds .counted;
+  coordinator = holds .coordinator;
+  written = holds .written;
+  waiting = refl;
+  site-memory = holds .site-memory;
+  coordinator-memory = holds .coordinator-memory;
+  log = holds .log;
+}

@@ -26,10 +26,9 @@ use Rattle.site_memory.proofs.SitePart.{part}
 use Rattle.model.specs.Held.{noRecord}
 use Rattle.tracker_queue.specs.declared.Queue.{Queue}
 use Rattle.tracker_queue.specs.declared.Traffic.{Traffic}
-use Rattle.tracker_delivery.specs.declared.Underway.{Underway}
 use Rattle.tracker_delivery.specs.declared.Change.{Change}
 use Rattle.tracker_queue.specs.Sending.{withoutHead, SendAsks, AnswerSays}
-use Rattle.tracker_delivery.specs.UnderwayParts.{trafficOf, underwayOf}
+use Rattle.tracker_delivery.specs.UnderwayParts.{Underway, trafficOf, underwayOf}
 use Rattle.tracker_delivery.specs.Holding.{Carrying, carrying, answered, Holds, Delivering, goesOn, StepSays}
 use Rattle.tracker_delivery.specs.Handing.{siteOfHead, coordinatorChange, withQueue, changed, HandedStep, HandSays}
 use Rattle.tracker_delivery.proofs.StepLaws.{handing, asking, asked-sends, asked-holds}

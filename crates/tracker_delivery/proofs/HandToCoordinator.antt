@@ -20,9 +20,8 @@ use Rattle.coordinator_kinds.specs.declared.Answered as CoordinatorAnswer
 use Rattle.coordinator_kinds.specs.Steps.{KindSays}
 use Rattle.coordinator_steps.specs.Ready.{CoordinatorReady, StepAsks}
 use Rattle.tracker_queue.specs.declared.Queue.{Queue}
-use Rattle.tracker_delivery.specs.declared.Underway.{Underway}
 use Rattle.tracker_queue.specs.Sending.{withoutHead, SendAsks}
-use Rattle.tracker_delivery.specs.UnderwayParts.{trafficOf}
+use Rattle.tracker_delivery.specs.UnderwayParts.{Underway, trafficOf}
 use Rattle.tracker_delivery.specs.Holding.{answered, Holds, Fits, Delivering, Carrying, carrying}
 use Rattle.tracker_delivery.proofs.OneAnswer.{receives-one}
 use Rattle.tracker_delivery.proofs.HoldingLaws.{coordinator-read, coordinator-memory-length, holds-answer, holds-coordinator, coordinator-again}

@@ -31,10 +31,9 @@ use Rattle.site_receiving.specs.Receiving.{ReceiveAsks, ReceiveStepSays}
 use Rattle.site_receiving.proofs.ReceiveLaws.{Due, message-due}
 use Rattle.site_memory.proofs.SitesMemoryLaws.{sitesMemory-kept}
 use Rattle.tracker_queue.specs.declared.Queue.{Queue}
-use Rattle.tracker_delivery.specs.declared.Underway.{Underway}
 use Rattle.model.specs.Held.{noRecord, withRecord}
 use Rattle.tracker_queue.specs.Sending.{withoutHead, SendAsks}
-use Rattle.tracker_delivery.specs.UnderwayParts.{trafficOf}
+use Rattle.tracker_delivery.specs.UnderwayParts.{Underway, trafficOf}
 use Rattle.tracker_delivery.specs.Holding.{Carrying, carrying, answered, Holds, Fits, Delivering}
 use Rattle.tracker_delivery.specs.Handing.{siteOfHead}
 use Rattle.site_memory.proofs.SitePart.{few-sites, start-small, part, part-is}

@@ -37,12 +37,11 @@ use Rattle.site_memory.proofs.OneSite.{overwritten-again}
 use Rattle.site_memory.proofs.SitePart.{few-sites}
 use Rattle.site_memory.proofs.SitesMemoryLaws.{AllStorable, getD-siteRecords, siteRecords-set, length-sitesMemory}
 use Rattle.site_memory.proofs.SitesReading.{siteIn-sitesMemory}
-use Rattle.tracker_delivery.specs.declared.Underway.{Underway}
 use Rattle.tracker_queue.specs.declared.Queue.{Queue}
 use Rattle.tracker_queue.specs.Log.{messageNumbers, putRecord}
 use Rattle.model.specs.Held.{noRecord, withRecord}
 use Rattle.tracker_queue.specs.Sending.{queueOf, sent, Countable, SendAsks}
-use Rattle.tracker_delivery.specs.UnderwayParts.{trafficOf}
+use Rattle.tracker_delivery.specs.UnderwayParts.{Underway, trafficOf}
 use Rattle.tracker_delivery.specs.Holding.{WithLog, Carrying, carrying, underwayIn, withMessages, answered, Holds, Fits}
 use Rattle.tracker_queue.proofs.LogLaws.{length-messageNumbers, putRecord-append, joined-queueOf}
 

@@ -23,9 +23,8 @@ use Rattle.coordinator_kinds.specs.declared.Answered as CoordinatorAnswer
 use Rattle.coordinator_kinds.specs.Steps.{answerOf}
 use Rattle.coordinator_steps.specs.Ready.{AnnounceAsks}
 use Rattle.tracker_queue.specs.declared.Queue.{Queue}
-use Rattle.tracker_delivery.specs.declared.Underway.{Underway}
 use Rattle.tracker_queue.specs.Sending.{queueOf, SendAsks}
-use Rattle.tracker_delivery.specs.UnderwayParts.{trafficOf}
+use Rattle.tracker_delivery.specs.UnderwayParts.{Underway, trafficOf}
 use Rattle.tracker_delivery.specs.Holding.{answered, Holds, Fits, Going, Delivering, goesOn, WithLog, Carrying, carrying, underwayIn}
 use Rattle.tracker_delivery.proofs.OneAnswer.{announced-one, announced-remembers}
 use Rattle.tracker_delivery.proofs.HoldingLaws.{coordinator-read, send-asks, holds-answer, holds-coordinator}

@@ -19,7 +19,7 @@ use Rattle.model.specs.DeliveryClaims.{Delivery, delivery}
 use Rattle.site_steps.specs.declared.Observed.{Observed}
 use Rattle.model.specs.Held.{noRecord, withRecord}
 use Rattle.tracker_queue.specs.declared.Queue.{Queue}
-use Rattle.tracker_delivery.specs.declared.Underway.{Underway}
+use Rattle.tracker_delivery.specs.UnderwayParts.{Underway}
 use Rattle.tracker_queue.specs.Sending.{queueOf}
 use Rattle.tracker_delivery.specs.Holding.{WithLog, Carrying, carrying, Holds, Accepting, rested}
 

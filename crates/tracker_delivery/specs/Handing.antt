@@ -22,10 +22,9 @@ use Rattle.coordinator_kinds.specs.declared.Answered.{Answered}
 use Rattle.model.specs.Held.{noRecord}
 use Rattle.tracker_queue.specs.declared.Queue.{Queue}
 use Rattle.tracker_queue.specs.declared.Traffic.{Traffic}
-use Rattle.tracker_delivery.specs.declared.Underway.{Underway}
 use Rattle.tracker_delivery.specs.declared.Change.{Change}
 use Rattle.tracker_queue.specs.Sending.{SendAsks}
-use Rattle.tracker_delivery.specs.UnderwayParts.{trafficOf, underwayOf}
+use Rattle.tracker_delivery.specs.UnderwayParts.{Underway, trafficOf, underwayOf}
 use Rattle.tracker_delivery.specs.Holding.{carrying, answered, Holds, Delivering, goesOn}
 
 abbrev pub siteOfHead : Queue → ℕ

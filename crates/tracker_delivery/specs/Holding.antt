@@ -39,10 +39,9 @@ use Rattle.model.specs.DeliveryClaims.{Delivery, delivery, deliveryStep, delive
 use Rattle.mid_delivery.specs.SoundClaims.{Reached}
 use Rattle.tracker_queue.specs.declared.Queue.{Queue}
 use Rattle.tracker_queue.specs.declared.Traffic.{Traffic}
-use Rattle.tracker_delivery.specs.declared.Underway.{Underway}
 use Rattle.tracker_queue.specs.Log.{logRoom, messageNumbers}
 use Rattle.tracker_queue.specs.Sending.{queueOf, sentIf, loggedIf, countedIf}
-use Rattle.tracker_delivery.specs.UnderwayParts.{trafficOf, withTraffic}
+use Rattle.tracker_delivery.specs.UnderwayParts.{Underway, trafficOf, withTraffic}
 
 -- ---- What is held
 

@@ -10,7 +10,7 @@ ghost use Prim.Native.Nat.{_<_};
 ghost use lib.ListN.{getD};
 ghost use Rattle.model.specs.Limits.{mostSites};
 ghost use Rattle.model.specs.Held.{noRecord, withRecord};
-ghost use Rattle.tracker_delivery.specs.UnderwayParts.{resting, underwayOf};
+ghost use Rattle.tracker_delivery.specs.UnderwayParts.{resting, underwayOf, endedOf};
 ghost use Rattle.tracker_delivery.specs.Holding.{carrying, Delivering, EndSays};
 ghost use Rattle.tracker_delivery.specs.Arriving.{SiteAsks, SiteSays, MessagesAsk, MessagesSay};
 use crate::handing::goes_on;
@@ -33,13 +33,12 @@ use tracker_queue::send_two;
 
 mod handing;
 
-// A delivery under way: the records of the network, the messages written to the log so far, and
-// those that wait.
-pub struct Underway {
-    pub sites: Sites,
+// A delivery that has come to its end: the records of the network, and the messages written to the
+// log so far.
+pub struct Ended {
+    pub records: [SiteRecord; SITE_RECORDS],
     pub coordinator: CoordinatorRecord,
     pub written: u64,
-    pub waiting: Queue,
 }
 
 // What a hand-over changes: the record of the site that the head is for, the coordinator's and the
@@ -73,39 +72,25 @@ pub fn with_record(sites: Sites, which: usize, numbers: SiteRecord) -> Sites
     next
 }
 
-// A network at rest, with so many messages written: nothing waits.
-pub fn at_rest(sites: Sites, coordinator: CoordinatorRecord, written: u64) -> Underway
-    ensures { λ r. ⌜ r ≡ resting sites coordinator written ⌝ }
-{
-    let waiting = empty_queue();
-    Underway {
-        sites: sites,
-        coordinator: coordinator,
-        written: written,
-        waiting: waiting,
-    }
-}
-
 // A delivery to its end. The records of the sites are changed in their places here, and handed to
-// no function: 32 of them would be copied for each message. So are the counts of messages, which
-// are lent to what counts.
+// no function: 32 of them would be copied for each message. The counts of messages are lent.
 fn deliver(
     settings: Settings,
     mut records: [SiteRecord; SITE_RECORDS],
-    mut counts: [u64; SITE_RECORDS],
     mut coordinator: CoordinatorRecord,
     mut traffic: Traffic,
     site_memory: &[Word],
     coordinator_memory: &mut [u64],
     log: &mut [u64],
-) -> Underway
+    counts: &mut [u64; SITE_RECORDS],
+) -> Ended
     requires { ⌜ Delivering settings
-        (carrying (underwayOf records counts coordinator traffic)
+        (carrying (underwayOf records (now counts) coordinator traffic)
         (now «site_memory») (now «coordinator_memory») (now log)) ⌝ }
     ensures { λ r. ⌜ EndSays settings
-        (carrying (underwayOf records counts coordinator traffic) (before «site_memory»)
-        (before «coordinator_memory») (before log))
-        (carrying r (before «site_memory»)
+        (carrying (underwayOf records (before counts) coordinator traffic)
+        (before «site_memory») (before «coordinator_memory») (before log))
+        (carrying (endedOf r (after counts)) (before «site_memory»)
         (after «coordinator_memory») (after log)) ⌝ }
 {
     while goes_on(coordinator, traffic.waiting) {
@@ -125,18 +110,12 @@ fn deliver(
         records[which] = site_then;
         coordinator = coordinator_then;
         traffic.waiting = waiting_then;
-        traffic = send_answer(traffic, by.count, by.out, &mut counts, log);
+        traffic = send_answer(traffic, by.count, by.out, counts, log);
     }
-    let sites = Sites {
+    Ended {
         records: records,
-        messages: counts,
-    };
-    let waiting = traffic.waiting;
-    Underway {
-        sites: sites,
         coordinator: coordinator,
         written: traffic.written,
-        waiting: waiting,
     }
 }
 
@@ -159,40 +138,43 @@ pub fn observe(
     site_steps::observe_step(settings, own, arrival, &mut site_memory[start..])
 }
 
-// The messages of an arrival that its site has taken go out, with full delivery. A record of the
-// log is written and counted for each message. Internal, as `observe` is.
+// The messages of an arrival that its site has taken go out, with full delivery. For each message a
+// record of the log is written, and it is counted for the site that it names. Internal, as
+// `observe` is.
 pub fn deliver_messages(
     settings: Settings,
-    underway: Underway,
+    records: [SiteRecord; SITE_RECORDS],
+    coordinator: CoordinatorRecord,
+    written: u64,
     out: Queue,
     site_memory: &[Word],
     coordinator_memory: &mut [u64],
     log: &mut [u64],
-) -> Underway
+    counts: &mut [u64; SITE_RECORDS],
+) -> Ended
     requires { ⌜ MessagesAsk settings out
-        (carrying underway (now «site_memory») (now «coordinator_memory») (now log)) ⌝ }
+        (carrying (resting records (now counts) coordinator written)
+        (now «site_memory») (now «coordinator_memory») (now log)) ⌝ }
     ensures { λ r. ⌜ MessagesSay settings out
-        (carrying underway (before «site_memory»)
-        (before «coordinator_memory») (before log))
-        (carrying r (before «site_memory»)
+        (carrying (resting records (before counts) coordinator written)
+        (before «site_memory») (before «coordinator_memory») (before log))
+        (carrying (endedOf r (after counts)) (before «site_memory»)
         (after «coordinator_memory») (after log)) ⌝ }
 {
-    let waiting = underway.waiting;
+    let waiting = empty_queue();
     let traffic = Traffic {
-        written: underway.written,
+        written: written,
         waiting: waiting,
     };
-    let mut counts = underway.sites.messages;
-    let begun = send_two(traffic, out.count, out.first, out.second, &mut counts, log);
-    let records = underway.sites.records;
+    let begun = send_two(traffic, out.count, out.first, out.second, counts, log);
     deliver(
         settings,
         records,
-        counts,
-        underway.coordinator,
+        coordinator,
         begun,
         site_memory,
         coordinator_memory,
         log,
+        counts,
     )
 }

@@ -10,15 +10,15 @@ use Rattle.tracker_delivery.specs.UnderwayParts.{underwayOf}
 use Rattle.tracker_delivery.specs.Holding.{carrying, Delivering}
 use Rattle.tracker_delivery.proofs.HoldingLaws.{coordinator-memory-length, log-length}
 use Rattle.tracker_delivery.proofs.GoingLaws.{going-stored, going-room}
-use Rattle.tracker_delivery.proofs.DeliverLaws.{leftToDo, After, left-less, after-start, delivering-after, after-step, after-end}
+use Rattle.tracker_delivery.proofs.DeliverLaws.{leftToDo, After, left-less, after-start, delivering-after, after-step, after-end, nothing-left}
 use Rattle.tracker_delivery.proofs.HandToSite.{head-few}
 use Rattle.tracker_delivery.proofs.HandSteps.{send-asks, answered-step}
 use Rattle.tracker_delivery.proofs.deliver.Statement.{statement}
 use Rattle.tracker_delivery.proofs.deliver.Tie as tie
 
 abbrev Inv-loop : tie.InvT-loop
-Inv-loop settings coordinator₀ traffic₀ site-memory coordinator-memory₀ log₀ records₀ counts₀
-    coordinator traffic coordinator-memory log records counts =
+Inv-loop settings coordinator₀ traffic₀ site-memory coordinator-memory₀ log₀ counts₀ records₀
+    coordinator traffic coordinator-memory log counts records =
     (u : Delivering settings
     (carrying (underwayOf records₀ counts₀ coordinator₀ traffic₀) site-memory coordinator-memory₀
     log₀))
@@ -26,8 +26,8 @@ Inv-loop settings coordinator₀ traffic₀ site-memory coordinator-memory₀ lo
     (carrying (underwayOf records counts coordinator traffic) site-memory coordinator-memory log)
 
 abbrev μ-loop : tie.MeasureT-loop
-μ-loop settings coordinator₀ traffic₀ site-memory coordinator-memory₀ log₀ records₀ counts₀
-    coordinator traffic coordinator-memory log records counts =
+μ-loop settings coordinator₀ traffic₀ site-memory coordinator-memory₀ log₀ counts₀ records₀
+    coordinator traffic coordinator-memory log counts records =
     leftToDo (underwayOf records counts coordinator traffic) (length log)
 
 loop-holds : tie.Need-loop-holds Inv-loop μ-loop
@@ -115,7 +115,7 @@ loop-again c =
 
 same-length : tie.Need-same-length Inv-loop μ-loop
 same-length c =
-    let looped = c .before .before .before in
+    let looped = c .before .before in
     let u = looped .before .before .before .before .pre in
     let after = looped .loop .inv u in
     let fits = u .going .accepting .fits in
@@ -124,7 +124,7 @@ same-length c =
 
 same-length-2 : tie.Need-same-length-2 Inv-loop μ-loop
 same-length-2 c =
-    let looped = c .before .before .before in
+    let looped = c .before .before in
     let u = looped .before .before .before .before .pre in
     let after = looped .loop .inv u in
     log-length (after .holds) (going-room (after .going))
@@ -132,10 +132,9 @@ same-length-2 c =
 
 returns : tie.Need-returns Inv-loop μ-loop
 returns c =
-    let looped = c .before .before .before in
-    let ended = sym (c .before .before .goes-on .ensures)
-    ∙ c .before .if1 .left in
-    record { ends = λ u. after-end u (looped .loop .inv u) ended }
+    let looped = c .before .before in
+    let ended = sym (c .before .goes-on .ensures) ∙ c .if1 .left in
+    record { ends = λ u. nothing-left (after-end u (looped .loop .inv u) ended) }
 
 pub deliver-spec : {M : Type 1} → statement M
 deliver-spec =

@@ -5,14 +5,21 @@ use borrow.Author.Needs.{needs}
 use Rattle.tracker_delivery.proofs.deliver_messages.Statement.{statement}
 use Rattle.tracker_delivery.proofs.deliver_messages.Tie as tie
 
+empty-queue-requires : tie.Need-empty-queue-requires
+empty-queue-requires c κs = search needs
+
 send-two-requires : tie.Need-send-two-requires
-send-two-requires c κs = two-ask (c .before .before .before .before .before .before .before .pre .taken)
+send-two-requires c κs =
+    let start = c .before .before .before .before .before .before in
+    rw (c .before .before .empty-queue .ensures) (two-ask (start .pre .taken))
 
 deliver-requires : tie.Need-deliver-requires
 deliver-requires c κs =
     let sent = c .before .before .before .before .before in
-    let u = sent .before .before .before .before .before .before .before .before .pre in
-    delivering-begun u (begun-holds (u .taken) (sent .send-two .ensures))
+    let queued = sent .before .before .before in
+    let u = queued .before .before .before .before .pre in
+    delivering-begun u
+    (begun-holds (u .taken) (rw (queued .empty-queue .ensures) at (sent .send-two .ensures)))
 
 same-length : tie.Need-same-length
 same-length c = search needs
@@ -24,13 +31,22 @@ returns : tie.Need-returns
 returns c =
     let delivered = c .before .before .before .before in
     let sent = delivered .before .before .before .before .before .before in
+    let queued = sent .before .before .before in
     record {
       delivers = λ u.
           delivered .deliver .ensures .ends
-          (delivering-begun u (begun-holds (u .taken) (sent .send-two .ensures)));
+          (delivering-begun u
+          (begun-holds (u .taken)
+          (rw (queued .empty-queue .ensures) at (sent .send-two .ensures))));
     }
 
 pub deliver-messages-spec : {M : Type 1} → statement M
 deliver-messages-spec =
     tie.close
-    (tie.spec send-two-requires deliver-requires same-length same-length-2 returns)
+    (tie.spec
+    empty-queue-requires
+    send-two-requires
+    deliver-requires
+    same-length
+    same-length-2
+    returns)

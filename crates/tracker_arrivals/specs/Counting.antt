@@ -1,10 +1,13 @@
 -- One arrival of the batch call after its turn: the answer that counts it, and its messages.
 --
 --   counted answer which turn          the answer with a turn in it
+--   withCounts answer counts           the answer with these counts of messages
 --   CountTurnAsks                      a turn that can be counted
 --   DeliverTurnAsks, DeliverTurnSays   the messages of a turn
+--   DeliverTurnLeaves                  the same, with what the answer's own counts are then
 use mathlib.Core.Path.{_≡_}
 use mathlib.Core.Bool.{true}
+use mathlib.Core.List.{List}
 use Prim.Native.Nat.{ℕ, _+_, _≤_, _<_}
 use Rattle.model.specs.declared.Settings.{Settings}
 use Rattle.model.specs.declared.Arrival.{Arrival}
@@ -31,6 +34,15 @@ counted answer which turn = record {
   coordinator = answer .coordinator;
 }
 
+abbrev pub withCounts : BatchAnswer → List ℕ → BatchAnswer
+withCounts answer counts = record {
+  refusal = answer .refusal;
+  accepted = answer .accepted;
+  written = answer .written;
+  sites = record { records = answer .sites .records; messages = counts };
+  coordinator = answer .coordinator;
+}
+
 pub record CountTurnAsks (answer : BatchAnswer) (which : ℕ) (turn : Turn) : Type 0 where
   pub which-within : which < mostSites
   pub accepted-within : answer .accepted + 1 < runLimit
@@ -51,3 +63,9 @@ pub record DeliverTurnSays (settings : Settings) (turn : Turn) (before after : B
   where
     pub next : (u : DeliverTurnAsks settings turn before)
         → BatchHolds settings (u .given) (withOne settings (u .batch) (u .arrival)) after
+
+-- The counts are lent, and the answer's own stay.
+pub record DeliverTurnLeaves (settings : Settings) (turn : Turn) (answer result : BatchAnswer)
+    (before after : BatchHeld) : Type 0 where
+  pub delivers : DeliverTurnSays settings turn before after
+  pub own-counts-stay : result .sites .messages ≡ answer .sites .messages

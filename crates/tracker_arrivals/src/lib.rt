@@ -4,10 +4,12 @@
 ghost use Rattle.model.specs.Lent.{before, after};
 ghost use mathlib.Core.Path.{_≡_};
 ghost use Rattle.tracker_steps.specs.Steps.{OneAsks, OneSays, batchHeld};
-ghost use Rattle.tracker_arrivals.specs.Counting.{counted, CountTurnAsks, DeliverTurnAsks, DeliverTurnSays};
+ghost use Rattle.tracker_arrivals.specs.Counting.{counted, withCounts, CountTurnAsks, DeliverTurnAsks, DeliverTurnSays, DeliverTurnLeaves};
 use model::Arrival;
 use model::NO_REFUSAL;
+use model::SITE_RECORDS;
 use model::Settings;
+use model::Sites;
 use model::Word;
 use tracker_steps::BatchAnswer;
 use tracker_steps::Turn;
@@ -26,9 +28,73 @@ fn count_turn(answer: BatchAnswer, which: usize, turn: Turn) -> BatchAnswer
     next
 }
 
-// The messages of a turn, with full delivery. Internal: it follows `tracker_steps::take_turn`,
-// once the turn is counted in the answer.
+// The answer with these counts of messages.
+fn with_counts(answer: BatchAnswer, counts: [u64; SITE_RECORDS]) -> BatchAnswer
+    ensures { λ r. ⌜ r ≡ withCounts answer counts ⌝ }
+{
+    let records = answer.sites.records;
+    let sites = Sites {
+        records: records,
+        messages: counts,
+    };
+    let mut next = answer;
+    next.sites = sites;
+    next
+}
+
+// The messages of a turn, with full delivery. The counts of messages are lent beside the answer,
+// whose own stay as they are: so they are not copied for each arrival that sends. Internal: it
+// follows `tracker_steps::take_turn`, once the turn is counted in the answer.
 pub fn deliver_turn(
+    settings: Settings,
+    answer: BatchAnswer,
+    turn: Turn,
+    site_memory: &mut [Word],
+    coordinator_memory: &mut [u64],
+    log: &mut [u64],
+    counts: &mut [u64; SITE_RECORDS],
+) -> BatchAnswer
+    requires { ⌜ DeliverTurnAsks settings turn
+        (batchHeld (withCounts answer (now counts)) (now «site_memory»)
+        (now «coordinator_memory») (now log)) ⌝ }
+    ensures { λ r. ⌜ DeliverTurnLeaves settings turn answer r
+        (batchHeld (withCounts answer (before counts)) (before «site_memory»)
+        (before «coordinator_memory») (before log))
+        (batchHeld (withCounts r (after counts)) (after «site_memory»)
+        (after «coordinator_memory») (after log)) ⌝ }
+{
+    let records = answer.sites.records;
+    let coordinator = answer.coordinator;
+    let out = turn.out;
+    let after = tracker_delivery::deliver_messages(
+        settings,
+        records,
+        coordinator,
+        answer.written,
+        out,
+        site_memory,
+        coordinator_memory,
+        log,
+        counts,
+    );
+    let messages = answer.sites.messages;
+    let records_then = after.records;
+    let coordinator_then = after.coordinator;
+    let sites_then = Sites {
+        records: records_then,
+        messages: messages,
+    };
+    BatchAnswer {
+        refusal: NO_REFUSAL,
+        accepted: answer.accepted,
+        written: after.written,
+        sites: sites_then,
+        coordinator: coordinator_then,
+    }
+}
+
+// The messages of a turn, counted in the answer.
+fn deliver_counted(
     settings: Settings,
     answer: BatchAnswer,
     turn: Turn,
@@ -44,27 +110,17 @@ pub fn deliver_turn(
         (batchHeld r (after «site_memory») (after «coordinator_memory»)
         (after log)) ⌝ }
 {
-    let sites = answer.sites;
-    let coordinator = answer.coordinator;
-    let out = turn.out;
-    let underway = tracker_delivery::at_rest(sites, coordinator, answer.written);
-    let after = tracker_delivery::deliver_messages(
+    let mut counts = answer.sites.messages;
+    let delivered = deliver_turn(
         settings,
-        underway,
-        out,
+        answer,
+        turn,
         site_memory,
         coordinator_memory,
         log,
+        &mut counts,
     );
-    let sites_then = after.sites;
-    let coordinator_then = after.coordinator;
-    BatchAnswer {
-        refusal: NO_REFUSAL,
-        accepted: answer.accepted,
-        written: after.written,
-        sites: sites_then,
-        coordinator: coordinator_then,
-    }
+    with_counts(delivered, counts)
 }
 
 // One arrival of a batch, from its turn to its last message: what `run_batch` does in place.
@@ -100,5 +156,5 @@ pub fn take_arrival(
     if turn.out.count == 0 {
         return next;
     }
-    deliver_turn(settings, next, turn, site_memory, coordinator_memory, log)
+    deliver_counted(settings, next, turn, site_memory, coordinator_memory, log)
 }

@@ -8,26 +8,25 @@ use Rattle.tracker_arrivals.proofs.deliver_turn.Tie as tie
 
 deliver-messages-requires : tie.Need-deliver-messages-requires
 deliver-messages-requires c κs =
-    let rests = c .before .before .before in
-    let start = rests .before .before .before .before .before .before .before in
-    rw (rests .at-rest .ensures) (messages-ask (start .pre))
+    let start = c .before .before .before .before .before .before .before .before .before .before in
+    messages-ask (start .pre)
 
 returns : tie.Need-returns
 returns c =
-    let delivers = c .before .before .before .before .before .before in
-    let rests = delivers .before .before .before .before in
-    let says = rw (rests .at-rest .ensures) at (delivers .deliver-messages .ensures) in
+    let says = c .before .before .before .before .before .before .before .deliver-messages .ensures in
     record {
-      next = λ u.
-          holds-delivered (u .batch) (u .arrival) _ _
-          (says .delivers (messages-ask u)) (u .is-draw) refl (u .accepted-more) refl;
+      delivers = record {
+        next = λ u.
+            holds-delivered (u .batch) (u .arrival) _ _
+            (says .delivers (messages-ask u)) (u .is-draw) refl (u .accepted-more) refl;
+      };
+      own-counts-stay = refl;
     }
 
 pub deliver-turn-spec : {M : Type 1} → statement M
 deliver-turn-spec =
     tie.close
     (tie.spec
-    (λ c κs. search needs)
     deliver-messages-requires
     (λ c. search needs) (λ c. search needs) (λ c. search needs)
     returns)

@@ -49,8 +49,8 @@ returns c =
     (counts .count-turn .result) (rw (places .place-of .ensures) at (counts .count-turn .ensures))
     (c .if1 .taken)
 
-deliver-turn-requires : tie.Need-deliver-turn-requires
-deliver-turn-requires c κs =
+deliver-counted-requires : tie.Need-deliver-counted-requires
+deliver-counted-requires c κs =
     let some = c .before .before .before in
     let counts = some .before .before in
     let takes = counts .before .before .before in
@@ -74,7 +74,7 @@ returns-2 c =
     loud-says (held-now start) (start .args .arrival)
     (rw (places .place-of .ensures) at (reads .record-of .ensures)) (takes .take-turn .ensures)
     (counts .count-turn .result) (rw (places .place-of .ensures) at (counts .count-turn .ensures))
-    (some .if1 .left) (delivers .deliver-turn .ensures)
+    (some .if1 .left) (delivers .deliver-counted .ensures)
 
 pub take-arrival-spec : {M : Type 1} → statement M
 take-arrival-spec =
@@ -86,6 +86,6 @@ take-arrival-spec =
     count-turn-requires
     (λ c. search needs)
     returns
-    deliver-turn-requires
+    deliver-counted-requires
     (λ c. search needs) (λ c. search needs) (λ c. search needs)
     returns-2)

@@ -9,14 +9,16 @@
 --                    are values of their types
 --   turn-refusal-fits, turn-record-good       so are a turn's refusal and record
 --   counted-good     so is the answer with a turn in it
+--   counts-value     the counts of messages within an answer have the value that they have alone
+--   counts-good, with-counts-good   they are values of their type; and the answer with others
 use mathlib.Core.Path.{_≡_, refl, sym, _∙_, ap, subst}
 use Prim.Native.Nat.{ℕ, zero, suc, _+_, _<_, _^_}
 use native.Mathlib.Nat.{not-suc-le-zero, le-of-suc-le-suc}
 use mathlib.Core.List.{List, [], _∷_, map}
 use mathlib.Core.Option.{Option, none, some}
 use lib.ListN.{length, getD, set, length-set, length-map}
-use mir.Syntax.{Ty}
-use mir.Val.{Val}
+use mir.Syntax.{Ty, w64}
+use mir.Val.{Val, vint}
 use prog.Memory.{size, fieldOf}
 use denote.RattleType.{RattleType}
 use denote.Laws.{Is, valss}
@@ -30,7 +32,7 @@ use Rattle.model.specs.Limits.{mostSites}
 use Rattle.model.specs.Held.{noRecord}
 use Rattle.tracker_steps.specs.declared.BatchAnswer.{BatchAnswer}
 use Rattle.tracker_steps.specs.declared.Turn.{Turn}
-use Rattle.tracker_arrivals.specs.Counting.{counted}
+use Rattle.tracker_arrivals.specs.Counting.{counted, withCounts}
 use Rattle.model.proofs.SiteRecord as R
 use Rattle.model.proofs.SiteRecord.Laws as R′
 use Rattle.model.proofs.Sites as P
@@ -39,7 +41,8 @@ use Rattle.tracker_steps.proofs.BatchAnswer as K
 use Rattle.tracker_steps.proofs.BatchAnswer.Laws as K′
 use Rattle.tracker_steps.proofs.Turn as N
 use Rattle.tracker_steps.proofs.Turn.Laws as N′
-use Rattle.tracker.proofs.Types.{VR, VK, VN}
+use Rattle.walks.proofs.Data.{Good}
+use Rattle.tracker.proofs.Types.{VR, VK, VN, VC, counts-data}
 
 -- ---- The machine's values
 
@@ -184,6 +187,41 @@ module _ (answer : BatchAnswer) (good : Is K.the-row answer (VK answer ∷ [])) 
               LL.owes P.the-type P′.the-laws (next .sites)
                   (array-set k (turn .site) site-good, sites-good .1),
               fields-good .1 .1 .1 .1,
+            ),
+          ),
+        ),
+      )
+
+-- ---- The counts of messages
+
+-- Within a struct they stand as `map` of what changes nothing.
+map-same : (counts : List ℕ) → map (λ (count : ℕ). count) counts ≡ counts
+map-same [] = refl
+map-same (count ∷ counts) = ap (λ (others : List ℕ). count ∷ others) (map-same counts)
+
+pub counts-value : (counts : List ℕ) → VC (map (λ (count : ℕ). count) counts) ≡ VC counts
+counts-value counts = ap VC (map-same counts)
+
+module _ (answer : BatchAnswer) (good : Is K.the-row answer (VK answer ∷ [])) where
+  pub counts-good : Good counts-data (answer .sites .messages)
+  counts-good =
+      subst (Good counts-data) (map-same (answer .sites .messages)) (sites-good answer good .1 .0)
+
+  pub with-counts-good : (counts : List ℕ) → Good counts-data counts
+      → Is K.the-row (withCounts answer counts) (VK (withCounts answer counts) ∷ [])
+  with-counts-good counts counts-are =
+      LL.owes K.the-type K′.the-laws (withCounts answer counts) (
+        fields-good answer good .0,
+        (
+          fields-good answer good .1 .0,
+          (
+            fields-good answer good .1 .1 .0,
+            (
+              LL.owes P.the-type P′.the-laws (withCounts answer counts .sites) (
+                sites-good answer good .0,
+                (subst (Good counts-data) (sym (map-same counts)) counts-are, tt),
+              ),
+              fields-good answer good .1 .1 .1 .1,
             ),
           ),
         ),

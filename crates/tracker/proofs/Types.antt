@@ -5,6 +5,10 @@
 --                   `Settings`, `Sites`, `CoordinatorRecord`, `Arrival`, `SiteRecord`,
 --                   `BatchAnswer`, `Turn`
 --   VS, VP, VD, VT, VR, VK, VN   their machine's values, in this order
+--   counts-data, VC   the same of 32 counts of messages
+use mathlib.Core.List.{List}
+use Prim.Native.Nat.{ℕ}
+use mir.Syntax.{w64}
 use mir.Val.{Val}
 use Rattle.model.specs.declared.Settings.{Settings}
 use Rattle.model.specs.declared.Sites.{Sites}
@@ -27,7 +31,8 @@ use Rattle.tracker_steps.proofs.BatchAnswer as K
 use Rattle.tracker_steps.proofs.BatchAnswer.Laws as K′
 use Rattle.tracker_steps.proofs.Turn as N
 use Rattle.tracker_steps.proofs.Turn.Laws as N′
-use Rattle.walks.proofs.Data.{Data, struct}
+use Rattle.model.specs.Limits.{mostSites}
+use Rattle.walks.proofs.Data.{Data, struct, number, array}
 
 abbrev pub settings-data : Data
 settings-data = struct S.the-type S′.the-laws S′.the-plain
@@ -70,3 +75,9 @@ VK = answer-data .val
 
 abbrev pub VN : Turn → Val
 VN = turn-data .val
+
+abbrev pub counts-data : Data
+counts-data = array (number w64) mostSites
+
+abbrev pub VC : List ℕ → Val
+VC = counts-data .val

@@ -61,8 +61,9 @@ pub fn run_one(
 }
 
 // The batch call: a lent run of arrivals, walked one by one until one is refused. The site's record
-// is read and stored where it stands, and so is the count of arrivals: the answer is 1 KB, and a
-// function that took it and gave it back (`take_arrival`) would copy it at every arrival.
+// is read and stored where it stands, and so is the count of arrivals: the answer is 1.6 KB, and a
+// function that took it and gave it back (`take_arrival`) would copy it at every arrival. The
+// counts of messages stand by themselves meanwhile, and are lent to what counts.
 pub fn run_batch(
     settings: Settings,
     sites: Sites,
@@ -89,6 +90,7 @@ pub fn run_batch(
         site_memory,
         coordinator_memory,
     );
+    let mut counts = answer.sites.messages;
     let mut i: usize = 0;
     while i < arrivals.len() && answer.refusal == NO_REFUSAL {
         let arrival = arrivals[i];
@@ -106,9 +108,18 @@ pub fn run_batch(
         answer.refusal = turn.refusal;
         answer.accepted = answer.accepted + turn.taken;
         if turn.out.count != 0 {
-            answer = deliver_turn(settings, answer, turn, site_memory, coordinator_memory, log);
+            answer = deliver_turn(
+                settings,
+                answer,
+                turn,
+                site_memory,
+                coordinator_memory,
+                log,
+                &mut counts,
+            );
         }
         i += 1;
     }
+    answer.sites.messages = counts;
     answer
 }

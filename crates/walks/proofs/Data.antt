@@ -2,11 +2,12 @@
 -- them, under one name.
 --
 --   Data          such a type: its row, the machine's value of each of its values, and the laws
---   struct, number   of a declared struct, and of numbers of a width
+--   struct, number, array   of a declared struct, of numbers of a width, and of so many in a row
 --   Good          x is a value of the type, at the machine's value of x
 --   is-typed      then the machine's value may be stored; its `.0`, of the one value
 --   settled, value-is   of any machine's value that x is related to: it is that of x
-use Rattle.walks.proofs.Kit.{_≡_, ap, subst, List, [], _∷_, URA, Width, Val, vint, Heap, Atoms, Given, RattleType, Is, Tells, Makes, Lawful, Typed, UInt, uint-tells, uint-makes, uint-lawful, only, Declared, fields, Plains}
+use Rattle.walks.proofs.Kit.{_≡_, ap, subst, ℕ, List, [], _∷_, map, URA, Width, Val, vint, Heap, Atoms, Given, RattleType, Is, Tells, Makes, Lawful, Typed, UInt, uint-tells, uint-makes, uint-lawful, Array, arrayVal, only, Declared, fields, Plains}
+use denote.Array.{array-tells, array-makes, array-lawful}
 use denote.Struct.Declared.{row}
 use denote.Struct.Laws as LL
 
@@ -35,6 +36,15 @@ number w = record {
   tells = uint-tells w;
   makes = λ 𝓤 H A W. uint-makes 𝓤 H A W w;
   lawful = λ 𝓤 H A W. uint-lawful 𝓤 H A W w;
+}
+
+abbrev pub array : Data → ℕ → Data
+array D n = record {
+  row = Array (D .row) n;
+  val = λ xs. arrayVal (map (D .val) xs);
+  tells = array-tells (D .row) (λ x. D .val x ∷ []) (D .tells) n;
+  makes = λ 𝓤 H A W. array-makes 𝓤 H A W (D .row) (D .makes 𝓤 H A W) n;
+  lawful = λ 𝓤 H A W. array-lawful 𝓤 H A W (D .row) (D .lawful 𝓤 H A W) n;
 }
 
 abbrev pub Good : (D : Data) → D .row .Denot → Type 0

@@ -7,6 +7,7 @@
 --   Parameters   what the function is called with, and what it has to hand back
 --   Lends        what the calls are given
 --   Locals       its locals, where the body begins, at the loop's test and within a turn
+--   Counts       the counts of messages, lent and back
 --   Sending      the end of a turn: its messages are delivered
 --   Counting     before that: its record is stored, and it is counted
 --   Taking       before that: the turn at its site
@@ -19,6 +20,7 @@
 mod Parameters
 mod Lends
 mod Locals
+mod Counts
 mod Sending
 mod Counting
 mod Taking

@@ -59,41 +59,41 @@ module _ {M : Type 1} (logic : Logic M) (f : Called) (l : Places) (i : ℕ) (tur
       subst (λ (n : ℕ). placeOf a < n) (sym many) within in
       let fits : s .answer .accepted + turn .taken < 2 ^ 64 =
       omega (arith, asks .accepted-within, asks .taken-within) in
-      assigns ! (bin ! (load ! (from ! (stop !)) (look ! (cell 11) refl)) (lit ! tt)
+      assigns ! (bin ! (load ! (from ! (stop !)) (look ! (cell 12) refl)) (lit ! tt)
       (record { fits = record-fits (placeOf a) within })) (from ! (stop !))
-      (init ! (cell 20) refl (tt, record { fits = record-fits (placeOf a) within })) $
+      (init ! (cell 22) refl (tt, record { fits = record-fits (placeOf a) within })) $
       assigns ! (addr ! (from ! (fld ! refl (fld ! refl (stop !))))) (from ! (stop !))
-      (init ! (cell 31) refl (tt, tt)) $
-      assigns ! (bin ! (load ! (from ! (stop !)) (look ! (cell 31) refl))
-      (load ! (from ! (stop !)) (look ! (cell 20) refl)) tt) (from ! (stop !))
-      (init ! (cell 32) refl (tt, tt)) $
-      rewrite ! (cell 32) (λ (z : ℕ). ‵ (fat fullShare tyPtr (l 32) 0 (vptr (l 8) z)))
+      (init ! (cell 33) refl (tt, tt)) $
+      assigns ! (bin ! (load ! (from ! (stop !)) (look ! (cell 33) refl))
+      (load ! (from ! (stop !)) (look ! (cell 22) refl)) tt) (from ! (stop !))
+      (init ! (cell 34) refl (tt, tt)) $
+      rewrite ! (cell 34) (λ (z : ℕ). ‵ (fat fullShare tyPtr (l 34) 0 (vptr (l 8) z)))
       (sym (place-is recordSize recordsPlace (placeOf a))) refl $
       -- the record is stored in its place
       assigns ! (of-opd ! (load ! (from ! (fld ! refl (stop !)))
-      (look-in ! (cell 13) (sub ! 2 refl (whole !))))) (from ! (hop ! (look ! (cell 32) refl)
+      (look-in ! (cell 14) (sub ! 2 refl (whole !))))) (from ! (hop ! (look ! (cell 34) refl)
       (stop !)))
       (store-in ! (cell 8) (elem ! (values records) (placeOf a) (VR noRecord) inside many
       (sub ! 0 refl (sub ! 3 refl (whole !))))
       (is-typed W record-data (turn .site) (turn-record-good turn is) .0)) $
       -- the refusal, and the arrivals accepted
       assigns ! (of-opd ! (load ! (from ! (fld ! refl (stop !)))
-      (look-in ! (cell 13) (sub ! 0 refl (whole !))))) (from ! (fld ! refl (stop !)))
+      (look-in ! (cell 14) (sub ! 0 refl (whole !))))) (from ! (fld ! refl (stop !)))
       (store-in ! (cell 8) (sub ! 0 refl (whole !))
       (tt, record { fits = turn-refusal-fits turn is })) $
       assigns ! (of-opd ! (load ! (from ! (fld ! refl (stop !)))
       (look-in ! (cell 8) (sub ! 1 refl (whole !))))) (from ! (stop !))
-      (init ! (cell 28) refl (tt, record { fits = omega (arith, fits) })) $
-      assigns ! (bin ! (load ! (from ! (stop !)) (look ! (cell 28) refl))
-      (load ! (from ! (fld ! refl (stop !))) (look-in ! (cell 13) (sub ! 1 refl (whole !))))
+      (init ! (cell 30) refl (tt, record { fits = omega (arith, fits) })) $
+      assigns ! (bin ! (load ! (from ! (stop !)) (look ! (cell 30) refl))
+      (load ! (from ! (fld ! refl (stop !))) (look-in ! (cell 14) (sub ! 1 refl (whole !))))
       (record { fits = fits })) (from ! (stop !))
-      (init ! (cell 33) refl (tt, record { fits = fits })) $
-      assigns ! (of-opd ! (load ! (from ! (stop !)) (look ! (cell 33) refl)))
+      (init ! (cell 35) refl (tt, record { fits = fits })) $
+      assigns ! (of-opd ! (load ! (from ! (stop !)) (look ! (cell 35) refl)))
       (from ! (fld ! refl (stop !)))
       (store-in ! (cell 8) (sub ! 1 refl (whole !)) (tt, record { fits = fits })) $
       rewrite ! (cell 8) (λ (us : List Val). ‵ (fat fullShare K′.mir (l 8) 0 (holding next us)))
       (values-set records (placeOf a) (turn .site)) refl $
-      forget ! (cell 11) refl $ forget ! (cell 20) refl $ forget ! (cell 28) refl $
-      forget ! (cell 31) refl $ forget ! (cell 32) refl $ forget ! (cell 33) refl $
+      forget ! (cell 12) refl $ forget ! (cell 22) refl $ forget ! (cell 30) refl $
+      forget ! (cell 33) refl $ forget ! (cell 34) refl $ forget ! (cell 35) refl $
       k (counted-good (s .answer) (s .good) (placeOf a) turn (turn-refusal-fits turn is) fits
       (turn-record-good turn is))

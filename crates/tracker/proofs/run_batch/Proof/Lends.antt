@@ -5,7 +5,7 @@
 --   opens-to, finds-to, takes-to, delivers-to   what the contracts are cited at
 --   opens-tokens, takes-tokens, delivers-tokens   the tokens of those lifetimes
 --   opens-parts, takes-parts, delivers-parts     what the callees get of their parameters
-use Rattle.walks.proofs.Kit.{refl, ℕ, List, [], _∷_, length, fullShare, named, w64, vint, GName, flft, u32, u64}
+use Rattle.walks.proofs.Kit.{refl, ℕ, List, [], _∷_, length, fullShare, PosShare·left, named, w64, vint, vptr, GName, flft, u32, u64}
 use Rattle.model.specs.declared.Arrival.{Arrival}
 use Rattle.tracker_steps.specs.declared.Turn.{Turn}
 use Rattle.tracker_steps.specs.Turns.{placeOf, ownOf}
@@ -13,9 +13,10 @@ use Rattle.tracker_steps.proofs.RefusalLaws.{place-within}
 use Rattle.walks.proofs.Data.{number, Good}
 use Rattle.walks.proofs.Lending.{listed, value}
 use Rattle.walks.proofs.Again.{Again}
+use Rattle.walks.proofs.LentLocal.{Lent}
 use Rattle.walks.proofs.Handing.{Part, handing, value-of}
 use Rattle.walks.proofs.Meeting.{_&_}
-use Rattle.tracker.proofs.Types.{settings-data, sites-data, coordinator-data, arrival-data, record-data, answer-data, turn-data, VS, VP, VD, VT, VR, VK, VN}
+use Rattle.tracker.proofs.Types.{settings-data, sites-data, coordinator-data, arrival-data, record-data, answer-data, turn-data, counts-data, VS, VP, VD, VT, VR, VK, VN}
 use Rattle.tracker.proofs.Records.{written-fits, record-good}
 use Rattle.tracker.proofs.run_batch.Proof.Parameters.{Called, Typed, Point, Opens, Finds, Takes, Delivers, Logic}
 
@@ -94,25 +95,27 @@ module _ {M : Type 1} (logic : Logic M) (f : Called) (s : Point f) (a : Arrival)
       ∷ value-of W (number w64) (numbers f) (refl, ok .log-room .0)
       ∷ handing (Again u32 (f .siteMemory) (named 0) ν δ (s .lent .siteMemory)) ∷ []
 
--- ---- The messages of a turn: both memories and the log are lent again
+-- ---- The messages of a turn: both memories and the log are lent again, and the counts in their
+-- local, for a lifetime within that of the run
 
-module _ {M : Type 1} (logic : Logic M) (f : Called) (s : Point f) (turn : Turn) (ν₁ ν₂ ν₃ : ℕ)
-    (δ₁ δ₂ δ₃ : GName) where
+module _ {M : Type 1} (logic : Logic M) (f : Called) (s : Point f) (turn : Turn)
+    (ν₁ ν₂ ν₃ ν₄ : ℕ) (δ₁ δ₂ δ₃ δ₄ : GName) (place : ℕ) where
   open Logic logic using (𝓤, H, A, W, mem, run)
 
   abbrev pub delivers-to : Delivers 𝓤 H A mem run .Ghost
   delivers-to = (
     (
-      (ν₁ ∷ []) & (ν₂ ∷ []) & (ν₃ ∷ []) & tt,
-      fullShare & fullShare & fullShare & tt,
+      (ν₁ ∷ []) & (ν₂ ∷ []) & (ν₃ ∷ []) & (ν₄ ∷ f .arrivals .life) & tt,
+      fullShare & fullShare & fullShare & PosShare·left (f .arrivals .share) & tt,
       tt,
       f .settings & s .answer & turn
           & listed (f .siteMemory) δ₁ (s .lent .siteMemory)
           & listed (f .coordinatorMemory) δ₂ (s .lent .coordinatorMemory)
-          & listed (f .log) δ₃ (s .lent .log) & tt,
+          & listed (f .log) δ₃ (s .lent .log)
+          & record { ptr = (place, 0); name = δ₄; now = s .counts } & tt,
       (VS (f .settings) ∷ []) & (VK (s .answer) ∷ []) & (VN turn ∷ [])
           & (value (f .siteMemory) ∷ []) & (value (f .coordinatorMemory) ∷ [])
-          & (value (f .log) ∷ []) & tt,
+          & (value (f .log) ∷ []) & (vptr place 0 ∷ []) & tt,
     ),
     tt,
   )
@@ -120,7 +123,8 @@ module _ {M : Type 1} (logic : Logic M) (f : Called) (s : Point f) (turn : Turn)
   abbrev pub delivers-tokens : List (Part 𝓤 H A)
   delivers-tokens =
       handing (flft (ν₁ ∷ []) fullShare) ∷ handing (flft (ν₂ ∷ []) fullShare)
-      ∷ handing (flft (ν₃ ∷ []) fullShare) ∷ []
+      ∷ handing (flft (ν₃ ∷ []) fullShare)
+      ∷ handing (flft (ν₄ ∷ f .arrivals .life) (PosShare·left (f .arrivals .share))) ∷ []
 
   abbrev pub delivers-parts : Typed f → Good turn-data turn → List (Part 𝓤 H A)
   delivers-parts ok is =
@@ -129,4 +133,6 @@ module _ {M : Type 1} (logic : Logic M) (f : Called) (s : Point f) (turn : Turn)
       ∷ value-of W turn-data turn is
       ∷ handing (Again u32 (f .siteMemory) (named 0) ν₁ δ₁ (s .lent .siteMemory))
       ∷ handing (Again u64 (f .coordinatorMemory) (named 1) ν₂ δ₂ (s .lent .coordinatorMemory))
-      ∷ handing (Again u64 (f .log) (named 2) ν₃ δ₃ (s .lent .log)) ∷ []
+      ∷ handing (Again u64 (f .log) (named 2) ν₃ δ₃ (s .lent .log))
+      ∷ handing (Lent (counts-data .row) (named 3) (f .arrivals .life) (f .arrivals .share) place 0
+      ν₄ δ₄ (s .counts)) ∷ []

@@ -2,7 +2,7 @@
 -- where a turn has read its site's record, where it was taken, where it was counted, and after the
 -- loop.
 --
---   at        where the ith of the 43 locals stands in a context, behind so many items
+--   at        where the ith of the 46 locals stands in a context, behind so many items
 --   cell      the same, behind the eight items that are owned between the statements
 --   local-types, locals   their types, as the MIR numbers them, and with their places
 --   Begun     the context where the body begins: only the parameters have values
@@ -11,8 +11,9 @@
 --   Told      the context when the turn was taken, which is not yet counted
 --   Counted   the context when it was counted, and its messages are not yet delivered
 --   Left      what is to hold where the loop is left: the rest of the body runs
-use Rattle.walks.proofs.Kit.{ℕ, List, [], _∷_, w64, vint, SProp, Out, Env, Wp, afterSeq, afterBlock, atReturn, Item, Ty, named, erased, imm, mut, w32, tyPtr, tyBool, tyInt, tyRef, sliceTy, pointee}
+use Rattle.walks.proofs.Kit.{ℕ, List, [], _∷_, w64, vint, SProp, Out, Env, Wp, afterSeq, afterBlock, atReturn, Item, Ty, named, erased, imm, mut, w32, tyPtr, tyBool, tyInt, tyArray, tyRef, sliceTy, pointee}
 use Rattle.model.specs.declared.Arrival.{Arrival}
+use Rattle.model.specs.Limits.{mostSites}
 use Rattle.tracker_steps.specs.declared.Turn.{Turn}
 use Rattle.tracker_steps.specs.Turns.{placeOf, ownOf}
 use Rattle.walks.proofs.Lending.{value}
@@ -24,12 +25,12 @@ use Rattle.model.proofs.Arrival.Laws as T′
 use Rattle.model.proofs.SiteRecord.Laws as R′
 use Rattle.tracker_steps.proofs.BatchAnswer.Laws as K′
 use Rattle.tracker_steps.proofs.Turn.Laws as N′
-use Rattle.tracker.proofs.Types.{arrival-data, VS, VP, VD, VT, VR, VK, VN}
+use Rattle.tracker.proofs.Types.{arrival-data, VS, VP, VD, VT, VR, VK, VN, VC}
 use Rattle.tracker.proofs.run_batch.Code.Mir as m
 use Rattle.tracker.proofs.run_batch.Proof.Parameters.{Called, Point, Owned, Post, Logic, lentOf}
 
 abbrev pub at : ℕ → ℕ → ℕ
-at = behind 43
+at = behind 46
 
 abbrev pub cell : ℕ → ℕ
 cell = at 8
@@ -43,16 +44,20 @@ rm = tyRef erased mut (tyInt w32)
 abbrev rn : Ty
 rn = tyRef erased mut (tyInt w64)
 
+-- The counts of messages.
+abbrev pub counts-type : Ty
+counts-type = tyArray (tyInt w64) mostSites
+
 abbrev pub local-types : List Ty
 local-types =
     K′.mir ∷ S′.mir ∷ P′.mir ∷ D′.mir
     ∷ sliceTy (tyRef (named 0) imm (pointee (arrival-data .row .written)))
     ∷ sliceTy (tyRef (named 1) mut (tyInt w32)) ∷ sliceTy (tyRef (named 2) mut (tyInt w64))
-    ∷ sliceTy (tyRef (named 3) mut (tyInt w64)) ∷ K′.mir ∷ tyInt w64 ∷ T′.mir ∷ tyInt w64
-    ∷ R′.mir ∷ N′.mir ∷ K′.mir ∷ rm ∷ sliceTy rm ∷ rn ∷ sliceTy rn ∷ tyBool ∷ tyInt w64
-    ∷ tyInt w32 ∷ tyBool ∷ tyPtr ∷ T′.mir ∷ tyPtr ∷ tyPtr ∷ R′.mir ∷ tyInt w64 ∷ rm
-    ∷ sliceTy rm ∷ tyPtr ∷ tyPtr ∷ tyInt w64 ∷ tyBool ∷ K′.mir ∷ K′.mir ∷ rm ∷ sliceTy rm
-    ∷ rn ∷ sliceTy rn ∷ rn ∷ sliceTy rn ∷ []
+    ∷ sliceTy (tyRef (named 3) mut (tyInt w64)) ∷ K′.mir ∷ counts-type ∷ tyInt w64 ∷ T′.mir
+    ∷ tyInt w64 ∷ R′.mir ∷ N′.mir ∷ K′.mir ∷ rm ∷ sliceTy rm ∷ rn ∷ sliceTy rn ∷ counts-type
+    ∷ tyBool ∷ tyInt w64 ∷ tyInt w32 ∷ tyBool ∷ tyPtr ∷ T′.mir ∷ tyPtr ∷ tyPtr ∷ R′.mir
+    ∷ tyInt w64 ∷ rm ∷ sliceTy rm ∷ tyPtr ∷ tyPtr ∷ tyInt w64 ∷ tyBool ∷ K′.mir ∷ K′.mir ∷ rm
+    ∷ sliceTy rm ∷ rn ∷ sliceTy rn ∷ rn ∷ sliceTy rn ∷ tyRef erased mut counts-type ∷ []
 
 -- ---- What the locals hold
 
@@ -64,9 +69,11 @@ module _ (f : Called) where
       ∷ holds (value (f .arrivals)) ∷ holds (value (f .siteMemory))
       ∷ holds (value (f .coordinatorMemory)) ∷ holds (value (f .log)) ∷ cs
 
-  -- With the answer and the index.
+  -- With the answer, the counts and the index.
   abbrev pub standing : Content → ℕ → Point f → List Content → List Content
-  standing result i s cs = parameters result (holds (VK (s .answer)) ∷ holds (vint w64 i) ∷ cs)
+  standing result i s cs =
+      parameters result
+      (holds (VK (s .answer)) ∷ holds (VC (s .counts)) ∷ holds (vint w64 i) ∷ cs)
 
 -- ---- The contexts
 
@@ -108,5 +115,5 @@ module _ {M : Type 1} (logic : Logic M) (f : Called) (l : Places) where
   Left =
       afterBlock 𝓤 H
       (afterSeq 𝓤 H
-      (Wp 𝓤 H (𝓣 .C) (𝓣 .Λ) locals m.t-9 (atReturn 𝓤 H locals (Post 𝓤 H A mem run f)))
+      (Wp 𝓤 H (𝓣 .C) (𝓣 .Λ) locals m.t-11 (atReturn 𝓤 H locals (Post 𝓤 H A mem run f)))
       (atReturn 𝓤 H locals (Post 𝓤 H A mem run f)))

@@ -59,6 +59,6 @@ module _ {M : Type 1} (logic : Logic M) (f : Called) (ok : Typed f) (l : Places)
 
   pub starts : (s : Point f) → Walked (asked f) (f .arrivals .list) (heldAt s)
       → Sq W (At logic f l 0 s)
-      (runs (𝓣 .C) (𝓣 .Λ) (locals logic f l) m.t-8
+      (runs (𝓣 .C) (𝓣 .Λ) (locals logic f l) m.t-10
       (atRet (locals logic f l) (Post 𝓤 H A mem run f)))
   starts s w = first ! $ blocks ! $ by ! (looped s w)

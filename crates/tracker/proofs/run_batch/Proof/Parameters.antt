@@ -4,7 +4,8 @@
 --   Called               the parameters: three structs by value, and four lent slices
 --   Typed                they are values of their types
 --   asked                all of it as the contract reads it
---   Lists, Point         what the slices hold; where the loop stands: these and the answer so far
+--   Lists, Point         what the slices hold; where the loop stands: these, the answer so far and
+--                        the counts
 --   heldAt               the same as the contracts read it
 --   answered             the same with another answer
 --   Owned                what is owned then, with the tokens of the lifetimes
@@ -22,6 +23,7 @@ use Rattle.model.specs.declared.Sites.{Sites}
 use Rattle.model.specs.declared.CoordinatorRecord.{CoordinatorRecord}
 use Rattle.model.specs.Held.{heldBy}
 use Rattle.tracker_steps.specs.declared.BatchAnswer.{BatchAnswer}
+use Rattle.tracker_arrivals.specs.Counting.{withCounts}
 use Rattle.tracker.specs.Batch.{BatchCall, BatchHeld, batchHeld}
 use Rattle.walks.proofs.Data.{Good}
 use Rattle.walks.proofs.Lending.{Lending, as-lent}
@@ -30,7 +32,7 @@ use Rattle.walks.proofs.Elem.{Looked}
 use Rattle.walks.proofs.Handing.{Part, handing, token, value-of}
 use Rattle.walks.proofs.Calling.{Says}
 use Rattle.walks.proofs.Meeting.{_&_, Params, by-value, shared, kept, stays-of, bound-at}
-use Rattle.tracker.proofs.Types.{settings-data, sites-data, coordinator-data, arrival-data, answer-data}
+use Rattle.tracker.proofs.Types.{settings-data, sites-data, coordinator-data, arrival-data, answer-data, counts-data}
 use Rattle.tracker_steps.proofs.open_batch as opening
 use Rattle.tracker_steps.proofs.open_batch.Symbol.{name as #steps·open-batch}
 use Rattle.tracker_steps.proofs.place_of as finding
@@ -97,17 +99,28 @@ pub record Same (f : Called) (lent : Lists) : Type 0 where
 
 pub record Point (f : Called) : Type 0 where
   pub answer : BatchAnswer
+  -- the counts of messages, which stand beside the answer until the end
+  pub counts : List ℕ
   pub lent : Lists
   pub good : Good answer-data answer
+  pub counts-good : Good counts-data counts
   pub same : Same f lent
 
 abbrev pub heldAt : {f : Called} → Point f → BatchHeld
 heldAt s =
-    batchHeld (s .answer) (s .lent .siteMemory) (s .lent .coordinatorMemory) (s .lent .log)
+    batchHeld (withCounts (s .answer) (s .counts)) (s .lent .siteMemory)
+    (s .lent .coordinatorMemory) (s .lent .log)
 
 -- The same with another answer.
 abbrev pub answered : {f : Called} → Point f → (r : BatchAnswer) → Good answer-data r → Point f
-answered s r good = record { answer = r; lent = s .lent; good = good; same = s .same }
+answered s r good = record {
+  answer = r;
+  counts = s .counts;
+  lent = s .lent;
+  good = good;
+  counts-good = s .counts-good;
+  same = s .same;
+}
 
 abbrev pub Owned : {M : Type 1} {𝓤 : URA M} → Called → Lists → List (Item 𝓤) → List (Item 𝓤)
 Owned f lent Γ =

@@ -5,10 +5,10 @@
 --           after `take_turn`, and after it was counted
 --   sends   from where the turn was counted to the loop's test again, at the next index
 -- Numbers behind `move` count the context's items, as `cell` of Locals does.
-use Rattle.walks.proofs.Kit.{_≡_, refl, _∙_, subst, Bool, true, false, not, ℕ, zero, suc, _<_, _^_, _+_, arith, List, [], _∷_, Holds, eqb, length, eq-eqb, eqb-true, Body, skip, seq, assign, block, loop, cond, switch, exit, return, call, named, SProp, ent, id⊢, Wp, afterTurn, ⋆, anyQ, Sq, runs, _$_, !, prop, by, move, whole, sub, look-in, look, init, store, forget, stop, fld, from, load, lit, of-opd, bin, and-then, no-more, assigns, assigns-last, branches, skips, first, exec, land, fmOf, u32, u64}
+use Rattle.walks.proofs.Kit.{_≡_, refl, _∙_, subst, Bool, true, false, not, ℕ, zero, suc, _<_, _^_, _+_, arith, List, [], _∷_, Holds, eqb, length, eq-eqb, eqb-true, Body, skip, seq, assign, block, loop, cond, switch, exit, return, call, named, SProp, ent, id⊢, Wp, afterTurn, ⋆, anyQ, Sq, runs, _$_, !, prop, by, move, whole, sub, look-in, look, init, store, forget, stop, fld, from, load, addr, lit, of-opd, bin, and-then, no-more, assigns, assigns-last, branches, skips, first, exec, land, fmOf, u32, u64}
 use Rattle.tracker_steps.specs.declared.Turn.{Turn}
 use Rattle.tracker_steps.specs.Steps.{batchHeld}
-use Rattle.tracker_arrivals.specs.Counting.{DeliverTurnAsks, DeliverTurnSays}
+use Rattle.tracker_arrivals.specs.Counting.{withCounts, DeliverTurnAsks, DeliverTurnSays, DeliverTurnLeaves}
 use Rattle.walks.proofs.Data.{Good, is-typed}
 use Rattle.walks.proofs.Again.{lends, returned}
 use Rattle.walks.proofs.Handing.{asking}
@@ -20,6 +20,7 @@ use Rattle.tracker_arrivals.proofs.deliver_turn as delivering
 use Rattle.tracker.proofs.run_batch.Code.Mir as m
 use Rattle.tracker.proofs.run_batch.Proof.Parameters.{Called, Typed, Point, Logic, heldAt, lentOf}
 use Rattle.tracker.proofs.run_batch.Proof.Locals.{cell, locals, At, Counted, Left, at}
+use Rattle.tracker.proofs.run_batch.Proof.Counts.{counts-lent, counts-back}
 use Rattle.tracker.proofs.run_batch.Proof.Lends.{delivers-to, delivers-tokens, delivers-parts}
 
 next-fits : (i n : ℕ) → i < n → n < 2 ^ 64 → i + 1 < 2 ^ 64
@@ -54,6 +55,14 @@ abbrev later-on : ℕ → Body → Body
 later-on zero body = body
 later-on (suc n) body = later-on n (rest-of body)
 
+-- The items of the locals behind _9, which is in front: two to each of _45 to _10, and then _9.
+abbrev so-many : ℕ → ℕ → List ℕ
+so-many zero place = 0 ∷ []
+so-many (suc more) place = place ∷ so-many more (suc place)
+
+abbrev behind-nine : List ℕ
+behind-nine = so-many 72 9
+
 abbrev pub work : Body
 work = later-on 3 m.turn-1
 
@@ -83,10 +92,10 @@ module _ {M : Type 1} (logic : Logic M) (f : Called) (ok : Typed f) (l : Places)
   steps s k =
       let fits = next-fits i (length (f .arrivals .list)) within (ok .arrivals-room .0) in
       exec ! (𝓣 .C) (𝓣 .Λ) (locals logic f l) last (anyQ (afterTurn 𝓤 H X (Left logic f l))) $
-      assigns-last ! (bin ! (load ! (from ! (stop !)) (look ! (cell 9) refl)) (lit ! tt)
+      assigns-last ! (bin ! (load ! (from ! (stop !)) (look ! (cell 10) refl)) (lit ! tt)
       (record { fits = fits })) (from ! (stop !))
-      (store ! (cell 9) refl (tt, record { fits = fits })) $
-      forget ! (cell 13) refl $ k
+      (store ! (cell 10) refl (tt, record { fits = fits })) $
+      forget ! (cell 14) refl $ k
 
   -- ---- The messages
 
@@ -101,66 +110,84 @@ module _ {M : Type 1} (logic : Logic M) (f : Called) (ok : Typed f) (l : Places)
         (anyQ (afterTurn 𝓤 H X (Left logic f l))))
     sends asks quiet loud =
         assigns ! (bin ! (load ! (from ! (fld ! refl (fld ! refl (stop !))))
-        (look-in ! (cell 13) (sub ! 0 refl (sub ! 3 refl (whole !))))) (lit ! tt) tt)
-        (from ! (stop !)) (init ! (cell 34) refl (tt, tt)) $
-        first ! $ branches ! (load ! (from ! (stop !)) (look ! (cell 34) refl)) (λ test.
+        (look-in ! (cell 14) (sub ! 0 refl (sub ! 3 refl (whole !))))) (lit ! tt) tt)
+        (from ! (stop !)) (init ! (cell 36) refl (tt, tt)) $
+        first ! $ branches ! (load ! (from ! (stop !)) (look ! (cell 36) refl)) (λ test.
         let some = some-of (turn .out .count) test in
         assigns ! (of-opd ! (load ! (from ! (stop !)) (look ! (cell 8) refl))) (from ! (stop !))
-        (init ! (cell 36) refl (is-typed W answer-data (s .answer) (s .good) .0)) $
+        (init ! (cell 38) refl (is-typed W answer-data (s .answer) (s .good) .0)) $
         -- both memories and the log are lent again
-        reborrows ! (cell 5) (cell 37) (cell 38) refl refl refl refl refl refl refl refl
+        reborrows ! (cell 5) (cell 39) (cell 40) refl refl refl refl refl refl refl refl
         (ok .site-memory-room .0) $
-        reborrows ! (cell 6) (cell 39) (cell 40) refl refl refl refl refl refl refl refl
+        reborrows ! (cell 6) (cell 41) (cell 42) refl refl refl refl refl refl refl refl
         (ok .coordinator-memory-room .0) $
-        reborrows ! (cell 7) (cell 41) (cell 42) refl refl refl refl refl refl refl refl
+        reborrows ! (cell 7) (cell 43) (cell 44) refl refl refl refl refl refl refl refl
         (ok .log-room .0) $
+        assigns ! (addr ! (from ! (stop !))) (from ! (stop !)) (init ! (cell 45) refl (tt, tt)) $
         move ! (2 ∷ 3 ∷ []) $
         lends u32 (f .siteMemory) (named 1) (named 0) (s .lent .siteMemory) ! tt (λ ν₁ δ₁.
         move ! (5 ∷ 6 ∷ []) $
         lends u64 (f .coordinatorMemory) (named 2) (named 1) (s .lent .coordinatorMemory) ! tt
         (λ ν₂ δ₂. move ! (8 ∷ 9 ∷ []) $
         lends u64 (f .log) (named 3) (named 2) (s .lent .log) ! tt (λ ν₃ δ₃.
-        -- [log; kept; ν₃; coordinator's; kept; ν₂; sites'; kept; ν₁; the run; κ; _42; …]
-        move ! (8 ∷ 5 ∷ 2 ∷ 6 ∷ 3 ∷ 0 ∷ []) $
+        -- [log; kept; ν₃; coordinator's; kept; ν₂; sites'; kept; ν₁; the run; κ; _45; …]: and the
+        -- counts are lent
+        move ! (at 11 9 ∷ 10 ∷ []) $
+        counts-lent (f .arrivals .life) (f .arrivals .share) (l 9) ! tt (s .counts)
+        (s .counts-good) (λ ν₄ δ₄.
+        -- [counts; ν₄; κ; kept; log; kept; ν₃; coordinator's; kept; ν₂; sites'; kept; ν₁; the run;
+        -- _45; …]
+        move ! (12 ∷ 9 ∷ 6 ∷ 1 ∷ 10 ∷ 7 ∷ 4 ∷ 0 ∷ []) $
         calls-by ! (fmOf 𝓤 H (W .laws) 𝓣) delivering.ended (delivering.clauses 𝓤 H A mem run)
-        delivers-known (delivers-to logic f s turn ν₁ ν₂ ν₃ δ₁ δ₂ δ₃)
-        (delivers-tokens logic f s turn ν₁ ν₂ ν₃ δ₁ δ₂ δ₃)
-        (delivers-parts logic f s turn ν₁ ν₂ ν₃ δ₁ δ₂ δ₃ ok is) (asking 𝓤 _ (asks some))
+        delivers-known (delivers-to logic f s turn ν₁ ν₂ ν₃ ν₄ δ₁ δ₂ δ₃ δ₄ (l 9))
+        (delivers-tokens logic f s turn ν₁ ν₂ ν₃ ν₄ δ₁ δ₂ δ₃ δ₄ (l 9))
+        (delivers-parts logic f s turn ν₁ ν₂ ν₃ ν₄ δ₁ δ₂ δ₃ δ₄ (l 9) ok is)
+        (asking 𝓤 _ (asks some))
         (and-then ! (load ! (from ! (stop !)) (look ! (at 6 1) refl))
-        (and-then ! (load ! (from ! (stop !)) (look ! (at 6 36) refl))
-        (and-then ! (load ! (from ! (stop !)) (look ! (at 6 13) refl))
-        (and-then ! (load ! (from ! (stop !)) (look ! (at 6 38) refl))
-        (and-then ! (load ! (from ! (stop !)) (look ! (at 6 40) refl))
-        (and-then ! (load ! (from ! (stop !)) (look ! (at 6 42) refl)) (no-more !)))))))
+        (and-then ! (load ! (from ! (stop !)) (look ! (at 7 38) refl))
+        (and-then ! (load ! (from ! (stop !)) (look ! (at 7 14) refl))
+        (and-then ! (load ! (from ! (stop !)) (look ! (at 7 40) refl))
+        (and-then ! (load ! (from ! (stop !)) (look ! (at 7 42) refl))
+        (and-then ! (load ! (from ! (stop !)) (look ! (at 7 44) refl))
+        (and-then ! (load ! (from ! (stop !)) (look ! (at 7 45) refl)) (no-more !))))))))
         VK (answer-data .tells)
-        (λ r ws. DeliverTurnSays (f .settings) turn (heldAt s)
-        (batchHeld r (ws .1 .1 .1 .0) (ws .1 .1 .1 .1 .0) (ws .1 .1 .1 .1 .1 .0)))
+        (λ r ws. DeliverTurnLeaves (f .settings) turn (s .answer) r (heldAt s)
+        (batchHeld (withCounts r (ws .1 .1 .1 .1 .1 .1 .0)) (ws .1 .1 .1 .0) (ws .1 .1 .1 .1 .0)
+        (ws .1 .1 .1 .1 .1 .0)))
         (λ r ws. id⊢ 𝓤 _) (λ r ws e good.
-        -- [ν₁; ν₂; ν₃; sites' last list; coordinator's; log's; kept; kept; kept; the run; κ; …]
-        move ! (0 ∷ 3 ∷ 8 ∷ []) $
+        -- [ν₁; ν₂; ν₃; ν₄; sites' last list; coordinator's; log's; the counts'; κ; kept; kept;
+        -- kept; kept; the run; …]
+        move ! (0 ∷ 4 ∷ 12 ∷ []) $
         returned u32 (f .siteMemory) (named 1) (named 0) (s .lent .siteMemory) ! tt ν₁ δ₁ _ (λ lm.
-        move ! (2 ∷ 4 ∷ 7 ∷ []) $
+        move ! (2 ∷ 5 ∷ 11 ∷ []) $
         returned u64 (f .coordinatorMemory) (named 2) (named 1) (s .lent .coordinatorMemory) ! tt
-        ν₂ δ₂ _ (λ lc. move ! (4 ∷ 5 ∷ 6 ∷ []) $
+        ν₂ δ₂ _ (λ lc. move ! (4 ∷ 6 ∷ 10 ∷ []) $
         returned u64 (f .log) (named 3) (named 2) (s .lent .log) ! tt ν₃ δ₃ _ (λ ll.
-        -- [log; κ₃; coordinator's; κ₂; sites'; κ₁; the run; κ; _42; …]
-        move ! (6 ∷ 7 ∷ 4 ∷ 5 ∷ 2 ∷ 3 ∷ 0 ∷ 1 ∷ []) $
-        land ! (from ! (stop !)) (init ! (cell 35) refl (is-typed W answer-data r good .0)) $
-        assigns-last ! (of-opd ! (load ! (from ! (stop !)) (look ! (cell 35) refl)))
+        -- [log; κ₃; coordinator's; κ₂; sites'; κ₁; ν₄; the counts' last list; κ; kept; the run; …]
+        move ! (6 ∷ 8 ∷ 9 ∷ 7 ∷ []) $
+        counts-back (f .arrivals .life) (f .arrivals .share) (l 9) ! tt ν₄ δ₄
+        (ws .1 .1 .1 .1 .1 .1 .0) (λ counts-then.
+        -- [_9; κ; log; κ₃; coordinator's; κ₂; sites'; κ₁; the run; _45; …]: each in its place
+        move ! (8 ∷ 1 ∷ 6 ∷ 7 ∷ 4 ∷ 5 ∷ 2 ∷ 3 ∷ behind-nine) $
+        land ! (from ! (stop !)) (init ! (cell 37) refl (is-typed W answer-data r good .0)) $
+        assigns-last ! (of-opd ! (load ! (from ! (stop !)) (look ! (cell 37) refl)))
         (from ! (stop !)) (store ! (cell 8) refl (is-typed W answer-data r good .0)) $
-        forget ! (cell 34) refl $ forget ! (cell 35) refl $ forget ! (cell 36) refl $
-        forget ! (cell 37) refl $ forget ! (cell 38) refl $ forget ! (cell 39) refl $
-        forget ! (cell 40) refl $ forget ! (cell 41) refl $ forget ! (cell 42) refl $
+        forget ! (cell 36) refl $ forget ! (cell 37) refl $ forget ! (cell 38) refl $
+        forget ! (cell 39) refl $ forget ! (cell 40) refl $ forget ! (cell 41) refl $
+        forget ! (cell 42) refl $ forget ! (cell 43) refl $ forget ! (cell 44) refl $
+        forget ! (cell 45) refl $
         (let s′ : Point f = record {
           answer = r;
+          counts = ws .1 .1 .1 .1 .1 .1 .0;
           lent = lentOf (ws .1 .1 .1 .0) (ws .1 .1 .1 .1 .0) (ws .1 .1 .1 .1 .1 .0);
           good = good;
+          counts-good = counts-then;
           same = record {
             site-memory-same = lm ∙ s .same .site-memory-same;
             coordinator-memory-same = lc ∙ s .same .coordinator-memory-same;
             log-same = ll ∙ s .same .log-same;
           };
         } in
-        steps s′ (by ! (loud s′ some e)))))))))))
-        (λ test. skips ! $ forget ! (cell 34) refl $
+        steps s′ (by ! (loud s′ some (e .delivers))))))))))))))
+        (λ test. skips ! $ forget ! (cell 36) refl $
         steps s (by ! (quiet (none-of (turn .out .count) test))))

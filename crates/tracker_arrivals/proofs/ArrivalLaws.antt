@@ -2,7 +2,7 @@
 --
 --   messages-ask                            what the delivery of a turn's messages asks
 --   turn-asks, count-asks, deliver-asks     what each part asks, from a batch that is held
---   quiet-says, loud-says                   the arrival without messages, and with them
+--   quiet-says, loud-says, sent-says        the arrival without messages, and with them
 use mathlib.Core.Path.{_≡_, refl, ap, _∙_, subst⁻¹}
 use mathlib.Core.List.{List}
 use Prim.Native.Nat.{ℕ, _+_, _≤_}
@@ -17,7 +17,7 @@ use Rattle.model.specs.Refusals.{noRefusal}
 use Rattle.model.specs.Runs.{Batch}
 use Rattle.model.specs.Held.{noRecord}
 use Rattle.tracker_queue.specs.Log.{logRoom}
-use Rattle.tracker_delivery.specs.Arriving.{MessagesAsk}
+use Rattle.tracker_delivery.specs.Arriving.{MessagesAsk, MessagesSay}
 use Rattle.tracker_delivery.proofs.TakenLaws.{quiet-rests}
 use Rattle.tracker_steps.specs.declared.BatchAnswer.{BatchAnswer}
 use Rattle.tracker_steps.specs.declared.Turn.{Turn}
@@ -155,6 +155,28 @@ module _ (now : BatchHeld) {settings : Settings} (arrival : Arrival) {own : Site
         by-told u (taken t) =
             subst⁻¹ (λ (b : Batch). BatchHolds settings (u .given) b last)
             (taken-is u arrival (t .none-due)) (delivered .next (then-asks u t))
+
+    -- The same from what the messages come to, with the answer's numbers as they were counted.
+    pub sent-says : {last : BatchHeld}
+        → (turn .out .count ≡ 0 → ⊥)
+        → last .refusal ≡ next .refusal
+        → last .accepted ≡ next .accepted
+        → MessagesSay settings (turn .out) (restingIn then) (restingIn last)
+        → OneSays settings arrival now last
+    sent-says {last} some refusal-same accepted-same sent =
+        record { next = λ u. by-told u (told-of u) }
+      where
+        by-told : (u : OneAsks settings now) → Told u
+            → BatchHolds settings (u .given)
+            (batchOne settings (logRoom (u .given .log)) (u .batch) arrival) last
+        by-told u (refused r) = absurd (some (no-messages _ _ (r .turn-is) (r .memory-kept)))
+        by-told u (touched t) = absurd (some (no-messages _ _ (t .turn-is) (t .memory-kept)))
+        by-told u (taken t) =
+            subst⁻¹ (λ (b : Batch). BatchHolds settings (u .given) b last)
+            (taken-is u arrival (t .none-due))
+            (holds-delivered (u .batch) arrival last (restingIn last)
+            (sent .delivers (messages-ask (then-asks u t))) (t .is-draw)
+            (refusal-same ∙ refusal-none u t) (accepted-same ∙ accepted-more u t) refl)
 
     pub quiet-says : turn .out .count ≡ 0 → OneSays settings arrival now then
     quiet-says quiet = record { next = λ u. by-told u (told-of u) }

@@ -1,13 +1,11 @@
 -- One arrival of the batch call after its turn: the answer that counts it, and its messages.
 --
 --   counted answer which turn          the answer with a turn in it
---   withCounts answer counts           the answer with these counts of messages
 --   CountTurnAsks                      a turn that can be counted
---   DeliverTurnAsks, DeliverTurnSays   the messages of a turn
---   DeliverTurnLeaves                  the same, with what the answer's own counts are then
+--   SentSays                           the messages of a turn, part by part of the answer
+--   DeliverTurnAsks, DeliverTurnSays   the same of the whole answer
 use mathlib.Core.Path.{_≡_}
 use mathlib.Core.Bool.{true}
-use mathlib.Core.List.{List}
 use Prim.Native.Nat.{ℕ, _+_, _≤_, _<_}
 use Rattle.model.specs.declared.Settings.{Settings}
 use Rattle.model.specs.declared.Arrival.{Arrival}
@@ -15,8 +13,9 @@ use Rattle.model.specs.Limits.{mostSites}
 use Rattle.model.specs.Draws.{isDraw}
 use Rattle.model.specs.Runs.{Batch}
 use Rattle.model.specs.Held.{withRecord}
-use Rattle.tracker_delivery.specs.Holding.{WithLog}
-use Rattle.tracker_delivery.specs.Arriving.{Taken}
+use Rattle.tracker_queue.specs.declared.Queue.{Queue}
+use Rattle.tracker_delivery.specs.Holding.{WithLog, Carrying}
+use Rattle.tracker_delivery.specs.Arriving.{Taken, MessagesSay}
 use Rattle.tracker_steps.specs.declared.BatchAnswer.{BatchAnswer}
 use Rattle.tracker_steps.specs.declared.Turn.{Turn}
 use Rattle.tracker_steps.specs.Steps.{BatchHeld, runLimit, withOne, restingIn, BatchHolds}
@@ -34,21 +33,17 @@ counted answer which turn = record {
   coordinator = answer .coordinator;
 }
 
-abbrev pub withCounts : BatchAnswer → List ℕ → BatchAnswer
-withCounts answer counts = record {
-  refusal = answer .refusal;
-  accepted = answer .accepted;
-  written = answer .written;
-  sites = record { records = answer .sites .records; messages = counts };
-  coordinator = answer .coordinator;
-}
-
 pub record CountTurnAsks (answer : BatchAnswer) (which : ℕ) (turn : Turn) : Type 0 where
   pub which-within : which < mostSites
   pub accepted-within : answer .accepted + 1 < runLimit
   pub taken-within : turn .taken ≤ 1
 
 -- ---- The messages of a turn
+
+-- The sites' memory is only read.
+pub record SentSays (settings : Settings) (out : Queue) (before after : Carrying) : Type 0 where
+  pub says : MessagesSay settings out before after
+  pub memory-kept : after .held .siteMemory ≡ before .held .siteMemory
 
 pub record DeliverTurnAsks (settings : Settings) (turn : Turn) (now : BatchHeld) : Type 0 where
   pub given : WithLog
@@ -63,9 +58,3 @@ pub record DeliverTurnSays (settings : Settings) (turn : Turn) (before after : B
   where
     pub next : (u : DeliverTurnAsks settings turn before)
         → BatchHolds settings (u .given) (withOne settings (u .batch) (u .arrival)) after
-
--- The counts are lent, and the answer's own stay.
-pub record DeliverTurnLeaves (settings : Settings) (turn : Turn) (answer result : BatchAnswer)
-    (before after : BatchHeld) : Type 0 where
-  pub delivers : DeliverTurnSays settings turn before after
-  pub own-counts-stay : result .sites .messages ≡ answer .sites .messages

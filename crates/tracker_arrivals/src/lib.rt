@@ -4,13 +4,20 @@
 ghost use Rattle.model.specs.Lent.{before, after};
 ghost use mathlib.Core.Path.{_≡_};
 ghost use Rattle.tracker_steps.specs.Steps.{OneAsks, OneSays, batchHeld};
-ghost use Rattle.tracker_arrivals.specs.Counting.{counted, withCounts, CountTurnAsks, DeliverTurnAsks, DeliverTurnSays, DeliverTurnLeaves};
+ghost use Rattle.tracker_delivery.specs.UnderwayParts.{resting, endedOf};
+ghost use Rattle.tracker_delivery.specs.Holding.{carrying};
+ghost use Rattle.tracker_delivery.specs.Arriving.{MessagesAsk};
+ghost use Rattle.tracker_arrivals.specs.Counting.{counted, CountTurnAsks, SentSays, DeliverTurnAsks, DeliverTurnSays};
 use model::Arrival;
+use model::CoordinatorRecord;
 use model::NO_REFUSAL;
 use model::SITE_RECORDS;
 use model::Settings;
+use model::SiteRecord;
 use model::Sites;
 use model::Word;
+use tracker_delivery::Ended;
+use tracker_queue::Queue;
 use tracker_steps::BatchAnswer;
 use tracker_steps::Turn;
 
@@ -28,72 +35,44 @@ fn count_turn(answer: BatchAnswer, which: usize, turn: Turn) -> BatchAnswer
     next
 }
 
-// The answer with these counts of messages.
-fn with_counts(answer: BatchAnswer, counts: [u64; SITE_RECORDS]) -> BatchAnswer
-    ensures { λ r. ⌜ r ≡ withCounts answer counts ⌝ }
-{
-    let records = answer.sites.records;
-    let sites = Sites {
-        records: records,
-        messages: counts,
-    };
-    let mut next = answer;
-    next.sites = sites;
-    next
-}
-
-// The messages of a turn, with full delivery. The counts of messages are lent beside the answer,
-// whose own stay as they are: so they are not copied for each arrival that sends. Internal: it
-// follows `tracker_steps::take_turn`, once the turn is counted in the answer.
+// The messages of a turn, with full delivery: what changes of the answer is handed over and handed
+// back, part by part, and the counts of messages are lent, so that an arrival with messages copies
+// no more than the records of the sites. Internal: it follows `tracker_steps::take_turn`, once the
+// turn is counted in the answer.
 pub fn deliver_turn(
     settings: Settings,
-    answer: BatchAnswer,
-    turn: Turn,
+    records: [SiteRecord; SITE_RECORDS],
+    coordinator: CoordinatorRecord,
+    written: u64,
+    out: Queue,
     site_memory: &mut [Word],
     coordinator_memory: &mut [u64],
     log: &mut [u64],
     counts: &mut [u64; SITE_RECORDS],
-) -> BatchAnswer
-    requires { ⌜ DeliverTurnAsks settings turn
-        (batchHeld (withCounts answer (now counts)) (now «site_memory»)
-        (now «coordinator_memory») (now log)) ⌝ }
-    ensures { λ r. ⌜ DeliverTurnLeaves settings turn answer r
-        (batchHeld (withCounts answer (before counts)) (before «site_memory»)
-        (before «coordinator_memory») (before log))
-        (batchHeld (withCounts r (after counts)) (after «site_memory»)
+) -> Ended
+    requires { ⌜ MessagesAsk settings out
+        (carrying (resting records (now counts) coordinator written)
+        (now «site_memory») (now «coordinator_memory») (now log)) ⌝ }
+    ensures { λ r. ⌜ SentSays settings out
+        (carrying (resting records (before counts) coordinator written)
+        (before «site_memory») (before «coordinator_memory») (before log))
+        (carrying (endedOf r (after counts)) (after «site_memory»)
         (after «coordinator_memory») (after log)) ⌝ }
 {
-    let records = answer.sites.records;
-    let coordinator = answer.coordinator;
-    let out = turn.out;
-    let after = tracker_delivery::deliver_messages(
+    tracker_delivery::deliver_messages(
         settings,
         records,
         coordinator,
-        answer.written,
+        written,
         out,
         site_memory,
         coordinator_memory,
         log,
         counts,
-    );
-    let messages = answer.sites.messages;
-    let records_then = after.records;
-    let coordinator_then = after.coordinator;
-    let sites_then = Sites {
-        records: records_then,
-        messages: messages,
-    };
-    BatchAnswer {
-        refusal: NO_REFUSAL,
-        accepted: answer.accepted,
-        written: after.written,
-        sites: sites_then,
-        coordinator: coordinator_then,
-    }
+    )
 }
 
-// The messages of a turn, counted in the answer.
+// The messages of a turn, and the answer then.
 fn deliver_counted(
     settings: Settings,
     answer: BatchAnswer,
@@ -110,17 +89,34 @@ fn deliver_counted(
         (batchHeld r (after «site_memory») (after «coordinator_memory»)
         (after log)) ⌝ }
 {
+    let records = answer.sites.records;
     let mut counts = answer.sites.messages;
-    let delivered = deliver_turn(
+    let coordinator = answer.coordinator;
+    let out = turn.out;
+    let after = deliver_turn(
         settings,
-        answer,
-        turn,
+        records,
+        coordinator,
+        answer.written,
+        out,
         site_memory,
         coordinator_memory,
         log,
         &mut counts,
     );
-    with_counts(delivered, counts)
+    let records_then = after.records;
+    let coordinator_then = after.coordinator;
+    let sites_then = Sites {
+        records: records_then,
+        messages: counts,
+    };
+    BatchAnswer {
+        refusal: NO_REFUSAL,
+        accepted: answer.accepted,
+        written: after.written,
+        sites: sites_then,
+        coordinator: coordinator_then,
+    }
 }
 
 // One arrival of a batch, from its turn to its last message: what `run_batch` does in place.

@@ -10,7 +10,10 @@
 --   turn-refusal-fits, turn-record-good       so are a turn's refusal and record
 --   counted-good     so is the answer with a turn in it
 --   counts-value     the counts of messages within an answer have the value that they have alone
---   counts-good, with-counts-good   they are values of their type; and the answer with others
+--   withCounts, withEnded           the answer with other counts, and with what a delivery leaves
+--   counts-good, records-all-good, coordinator-good, out-good   parts of an answer and of a turn are
+--                    values of their types
+--   with-counts-good, with-ended-good   so are those answers
 use mathlib.Core.Path.{_≡_, refl, sym, _∙_, ap, subst}
 use Prim.Native.Nat.{ℕ, zero, suc, _+_, _<_, _^_}
 use native.Mathlib.Nat.{not-suc-le-zero, le-of-suc-le-suc}
@@ -32,7 +35,8 @@ use Rattle.model.specs.Limits.{mostSites}
 use Rattle.model.specs.Held.{noRecord}
 use Rattle.tracker_steps.specs.declared.BatchAnswer.{BatchAnswer}
 use Rattle.tracker_steps.specs.declared.Turn.{Turn}
-use Rattle.tracker_arrivals.specs.Counting.{counted, withCounts}
+use Rattle.tracker_delivery.specs.declared.Ended.{Ended}
+use Rattle.tracker_arrivals.specs.Counting.{counted}
 use Rattle.model.proofs.SiteRecord as R
 use Rattle.model.proofs.SiteRecord.Laws as R′
 use Rattle.model.proofs.Sites as P
@@ -41,8 +45,10 @@ use Rattle.tracker_steps.proofs.BatchAnswer as K
 use Rattle.tracker_steps.proofs.BatchAnswer.Laws as K′
 use Rattle.tracker_steps.proofs.Turn as N
 use Rattle.tracker_steps.proofs.Turn.Laws as N′
-use Rattle.walks.proofs.Data.{Good}
-use Rattle.tracker.proofs.Types.{VR, VK, VN, VC, counts-data}
+use Rattle.tracker_delivery.proofs.Ended as E
+use Rattle.tracker_delivery.proofs.Ended.Laws as E′
+use Rattle.walks.proofs.Data.{Good, settled}
+use Rattle.tracker.proofs.Types.{VR, VK, VN, VC, VA, VE, counts-data, records-data, coordinator-data, queue-data, ended-data}
 
 -- ---- The machine's values
 
@@ -202,10 +208,65 @@ map-same (count ∷ counts) = ap (λ (others : List ℕ). count ∷ others) (map
 pub counts-value : (counts : List ℕ) → VC (map (λ (count : ℕ). count) counts) ≡ VC counts
 counts-value counts = ap VC (map-same counts)
 
+-- ---- The parts that a delivery is handed, and those that it leaves
+
+abbrev pub withCounts : BatchAnswer → List ℕ → BatchAnswer
+withCounts answer counts = record {
+  refusal = answer .refusal;
+  accepted = answer .accepted;
+  written = answer .written;
+  sites = record { records = answer .sites .records; messages = counts };
+  coordinator = answer .coordinator;
+}
+
+abbrev pub withEnded : BatchAnswer → Ended → BatchAnswer
+withEnded answer ended = record {
+  refusal = answer .refusal;
+  accepted = answer .accepted;
+  written = ended .written;
+  sites = record { records = ended .records; messages = answer .sites .messages };
+  coordinator = ended .coordinator;
+}
+
+-- Within a struct the records stand as their tuples.
+pub records-value : (rs : List SiteRecord) → arrayVal (values rs) ≡ VA rs
+records-value rs = ap arrayVal (same rs)
+  where
+    same : (rs : List SiteRecord) → values rs ≡ map VR rs
+    same [] = refl
+    same (r ∷ rs) = ap (λ (us : List Val). VR r ∷ us) (same rs)
+
+all-good : (rs : List SiteRecord) (us : List Val) → Elements rs us
+    → shadow (each SiteRecord (R.the-row .own) rs us)
+all-good [] [] goods = tt
+all-good [] (u ∷ us) goods = absurd goods
+all-good (r ∷ rs) [] goods = absurd goods
+all-good (r ∷ rs) (u ∷ us) goods = (goods .0, all-good rs us (goods .1))
+
+-- As an array by themselves they are good too.
+alone-good : (rs : List SiteRecord) (vs : List Val)
+    → Is (Array Element mostSites) (map (R.the-type .to) rs) vs
+    → Is (Array R.the-row mostSites) rs vs
+alone-good rs vs is = (
+  is .0,
+  (
+    (is .1 .0 .0, sym (length-map rs (R.the-type .to)) ∙ is .1 .0 .1),
+    all-good rs (is .0) (is .1 .1),
+  ),
+)
+
 module _ (answer : BatchAnswer) (good : Is K.the-row answer (VK answer ∷ [])) where
   pub counts-good : Good counts-data (answer .sites .messages)
   counts-good =
       subst (Good counts-data) (map-same (answer .sites .messages)) (sites-good answer good .1 .0)
+
+  pub records-all-good : Good records-data (answer .sites .records)
+  records-all-good =
+      settled records-data (answer .sites .records) _
+      (alone-good (answer .sites .records) _ (sites-good answer good .0))
+
+  pub coordinator-good : Good coordinator-data (answer .coordinator)
+  coordinator-good = fields-good answer good .1 .1 .1 .1 .0
 
   pub with-counts-good : (counts : List ℕ) → Good counts-data counts
       → Is K.the-row (withCounts answer counts) (VK (withCounts answer counts) ∷ [])
@@ -226,3 +287,38 @@ module _ (answer : BatchAnswer) (good : Is K.the-row answer (VK answer ∷ [])) 
           ),
         ),
       )
+
+module _ (ended : Ended) (good : Good ended-data ended) where
+  abbrev ended-parts : Fields E.the-type E′.the-laws ended
+  ended-parts = LL.owed E.the-type E′.the-laws ended (VE ended ∷ []) good
+
+  pub ended-records-good : Good records-data (ended .records)
+  ended-records-good =
+      settled records-data (ended .records) _ (alone-good (ended .records) _ (ended-parts .0))
+
+  pub ended-coordinator-good : Good coordinator-data (ended .coordinator)
+  ended-coordinator-good = ended-parts .1 .0
+
+  pub ended-written-fits : ended .written < 2 ^ 64
+  ended-written-fits = ended-parts .1 .1 .0 .1
+
+  pub with-ended-good : (answer : BatchAnswer) (answer-good : Is K.the-row answer (VK answer ∷ []))
+      → Is K.the-row (withEnded answer ended) (VK (withEnded answer ended) ∷ [])
+  with-ended-good answer answer-good =
+      LL.owes K.the-type K′.the-laws (withEnded answer ended) (
+        fields-good answer answer-good .0,
+        (
+          fields-good answer answer-good .1 .0,
+          (
+            ended-parts .1 .1 .0,
+            (
+              LL.owes P.the-type P′.the-laws (withEnded answer ended .sites)
+                  (ended-parts .0, sites-good answer answer-good .1),
+              (ended-parts .1 .0, tt),
+            ),
+          ),
+        ),
+      )
+
+pub out-good : (turn : Turn) → Is N.the-row turn (VN turn ∷ []) → Good queue-data (turn .out)
+out-good turn good = parts-good turn good .1 .1 .1 .0

@@ -5,7 +5,8 @@
 --                   `Settings`, `Sites`, `CoordinatorRecord`, `Arrival`, `SiteRecord`,
 --                   `BatchAnswer`, `Turn`
 --   VS, VP, VD, VT, VR, VK, VN   their machine's values, in this order
---   counts-data, VC   the same of 32 counts of messages
+--   queue-data, ended-data, VQ, VE   the same of `Queue` and `Ended`
+--   counts-data, records-data, VC, VA   of 32 counts of messages, and of 32 records
 use mathlib.Core.List.{List}
 use Prim.Native.Nat.{ℕ}
 use mir.Syntax.{w64}
@@ -31,6 +32,12 @@ use Rattle.tracker_steps.proofs.BatchAnswer as K
 use Rattle.tracker_steps.proofs.BatchAnswer.Laws as K′
 use Rattle.tracker_steps.proofs.Turn as N
 use Rattle.tracker_steps.proofs.Turn.Laws as N′
+use Rattle.tracker_queue.specs.declared.Queue.{Queue}
+use Rattle.tracker_queue.proofs.Queue as Q
+use Rattle.tracker_queue.proofs.Queue.Laws as Q′
+use Rattle.tracker_delivery.specs.declared.Ended.{Ended}
+use Rattle.tracker_delivery.proofs.Ended as E
+use Rattle.tracker_delivery.proofs.Ended.Laws as E′
 use Rattle.model.specs.Limits.{mostSites}
 use Rattle.walks.proofs.Data.{Data, struct, number, array}
 
@@ -81,3 +88,21 @@ counts-data = array (number w64) mostSites
 
 abbrev pub VC : List ℕ → Val
 VC = counts-data .val
+
+abbrev pub queue-data : Data
+queue-data = struct Q.the-type Q′.the-laws Q′.the-plain
+
+abbrev pub VQ : Queue → Val
+VQ = queue-data .val
+
+abbrev pub ended-data : Data
+ended-data = struct E.the-type E′.the-laws E′.the-plain
+
+abbrev pub VE : Ended → Val
+VE = ended-data .val
+
+abbrev pub records-data : Data
+records-data = array record-data mostSites
+
+abbrev pub VA : List SiteRecord → Val
+VA = records-data .val

@@ -108,15 +108,20 @@ pub fn run_batch(
         answer.refusal = turn.refusal;
         answer.accepted = answer.accepted + turn.taken;
         if turn.out.count != 0 {
-            answer = deliver_turn(
+            let after = deliver_turn(
                 settings,
-                answer,
-                turn,
+                answer.sites.records,
+                answer.coordinator,
+                answer.written,
+                turn.out,
                 site_memory,
                 coordinator_memory,
                 log,
                 &mut counts,
             );
+            answer.sites.records = after.records;
+            answer.coordinator = after.coordinator;
+            answer.written = after.written;
         }
         i += 1;
     }

@@ -61,17 +61,17 @@ module _ {M : Type 1} (logic : Logic M) (f : Called) (l : Places) (i : ℕ) (tur
       omega (arith, asks .accepted-within, asks .taken-within) in
       assigns ! (bin ! (load ! (from ! (stop !)) (look ! (cell 12) refl)) (lit ! tt)
       (record { fits = record-fits (placeOf a) within })) (from ! (stop !))
-      (init ! (cell 22) refl (tt, record { fits = record-fits (placeOf a) within })) $
+      (init ! (cell 23) refl (tt, record { fits = record-fits (placeOf a) within })) $
       assigns ! (addr ! (from ! (fld ! refl (fld ! refl (stop !))))) (from ! (stop !))
-      (init ! (cell 33) refl (tt, tt)) $
-      assigns ! (bin ! (load ! (from ! (stop !)) (look ! (cell 33) refl))
-      (load ! (from ! (stop !)) (look ! (cell 22) refl)) tt) (from ! (stop !))
       (init ! (cell 34) refl (tt, tt)) $
-      rewrite ! (cell 34) (λ (z : ℕ). ‵ (fat fullShare tyPtr (l 34) 0 (vptr (l 8) z)))
+      assigns ! (bin ! (load ! (from ! (stop !)) (look ! (cell 34) refl))
+      (load ! (from ! (stop !)) (look ! (cell 23) refl)) tt) (from ! (stop !))
+      (init ! (cell 35) refl (tt, tt)) $
+      rewrite ! (cell 35) (λ (z : ℕ). ‵ (fat fullShare tyPtr (l 35) 0 (vptr (l 8) z)))
       (sym (place-is recordSize recordsPlace (placeOf a))) refl $
       -- the record is stored in its place
       assigns ! (of-opd ! (load ! (from ! (fld ! refl (stop !)))
-      (look-in ! (cell 14) (sub ! 2 refl (whole !))))) (from ! (hop ! (look ! (cell 34) refl)
+      (look-in ! (cell 14) (sub ! 2 refl (whole !))))) (from ! (hop ! (look ! (cell 35) refl)
       (stop !)))
       (store-in ! (cell 8) (elem ! (values records) (placeOf a) (VR noRecord) inside many
       (sub ! 0 refl (sub ! 3 refl (whole !))))
@@ -83,17 +83,17 @@ module _ {M : Type 1} (logic : Logic M) (f : Called) (l : Places) (i : ℕ) (tur
       (tt, record { fits = turn-refusal-fits turn is })) $
       assigns ! (of-opd ! (load ! (from ! (fld ! refl (stop !)))
       (look-in ! (cell 8) (sub ! 1 refl (whole !))))) (from ! (stop !))
-      (init ! (cell 30) refl (tt, record { fits = omega (arith, fits) })) $
-      assigns ! (bin ! (load ! (from ! (stop !)) (look ! (cell 30) refl))
+      (init ! (cell 31) refl (tt, record { fits = omega (arith, fits) })) $
+      assigns ! (bin ! (load ! (from ! (stop !)) (look ! (cell 31) refl))
       (load ! (from ! (fld ! refl (stop !))) (look-in ! (cell 14) (sub ! 1 refl (whole !))))
       (record { fits = fits })) (from ! (stop !))
-      (init ! (cell 35) refl (tt, record { fits = fits })) $
-      assigns ! (of-opd ! (load ! (from ! (stop !)) (look ! (cell 35) refl)))
+      (init ! (cell 36) refl (tt, record { fits = fits })) $
+      assigns ! (of-opd ! (load ! (from ! (stop !)) (look ! (cell 36) refl)))
       (from ! (fld ! refl (stop !)))
       (store-in ! (cell 8) (sub ! 1 refl (whole !)) (tt, record { fits = fits })) $
       rewrite ! (cell 8) (λ (us : List Val). ‵ (fat fullShare K′.mir (l 8) 0 (holding next us)))
       (values-set records (placeOf a) (turn .site)) refl $
-      forget ! (cell 12) refl $ forget ! (cell 22) refl $ forget ! (cell 30) refl $
-      forget ! (cell 33) refl $ forget ! (cell 34) refl $ forget ! (cell 35) refl $
+      forget ! (cell 12) refl $ forget ! (cell 23) refl $ forget ! (cell 31) refl $
+      forget ! (cell 34) refl $ forget ! (cell 35) refl $ forget ! (cell 36) refl $
       k (counted-good (s .answer) (s .good) (placeOf a) turn (turn-refusal-fits turn is) fits
       (turn-record-good turn is))

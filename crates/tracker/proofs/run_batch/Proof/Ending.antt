@@ -14,9 +14,8 @@ use Rattle.walks.proofs.Locals.{Places, holds, freed}
 use Rattle.walks.proofs.Meeting.{_&_}
 use Rattle.tracker_steps.specs.declared.BatchAnswer.{BatchAnswer}
 use Rattle.tracker_steps.proofs.BatchAnswer.Laws as K′
-use Rattle.tracker_arrivals.specs.Counting.{withCounts}
 use Rattle.tracker.proofs.Types.{answer-data, counts-data, VD, VK}
-use Rattle.tracker.proofs.Records.{values, refusal-fits, counts-value, with-counts-good}
+use Rattle.tracker.proofs.Records.{values, refusal-fits, counts-value, withCounts, with-counts-good}
 use Rattle.tracker.proofs.run_batch as fun
 use Rattle.tracker.proofs.run_batch.Code.Mir as m
 use Rattle.tracker.proofs.run_batch.Proof.Parameters.{Called, Typed, asked, Point, answered, Owned, stayed, bound, Post, Logic, heldAt, lent-for, had}
@@ -63,13 +62,13 @@ module _ {M : Type 1} (logic : Logic M) (f : Called) (ok : Typed f) where
         (atRet (locals logic f l) (Post 𝓤 H A mem run f)) $
         -- the counts are stored in the answer
         assigns ! (of-opd ! (load ! (from ! (stop !)) (look ! (cell 9) refl))) (from ! (stop !))
-        (init ! (cell 20) refl counts-typed) $
-        assigns ! (of-opd ! (load ! (from ! (stop !)) (look ! (cell 20) refl)))
+        (init ! (cell 21) refl counts-typed) $
+        assigns ! (of-opd ! (load ! (from ! (stop !)) (look ! (cell 21) refl)))
         (from ! (fld ! refl (fld ! refl (stop !))))
         (store-in ! (cell 8) (sub ! 1 refl (sub ! 3 refl (whole !))) counts-typed) $
         rewrite ! (cell 8) (λ (v : Val). ‵ (fat fullShare K′.mir (l 8) 0 (counting s v)))
         (sym (counts-value (s .counts))) refl $
-        forget ! (cell 20) refl $
+        forget ! (cell 21) refl $
         assigns ! (of-opd ! (load ! (from ! (stop !)) (look ! (cell 8) refl))) (from ! (stop !))
         (init ! (cell 0) refl (is-typed W answer-data (whole-of s) whole-good .0)) $
         returns ! (look ! (cell 0) refl) $
@@ -91,14 +90,14 @@ module _ {M : Type 1} (logic : Logic M) (f : Called) (ok : Typed f) where
         -- the length of the run, and the first test, which fails
         assigns ! (of-opd ! (load ! (from ! (fld ! refl (stop !)))
         (look-in ! (cell 4) (sub ! 1 refl (whole !))))) (from ! (stop !))
-        (init ! (cell 22) refl (tt, record { fits = ok .arrivals-room .0 })) $
+        (init ! (cell 23) refl (tt, record { fits = ok .arrivals-room .0 })) $
         assigns ! (bin ! (load ! (from ! (stop !)) (look ! (cell 10) refl))
-        (load ! (from ! (stop !)) (look ! (cell 22) refl)) tt) (from ! (stop !))
-        (init ! (cell 21) refl (tt, tt)) $
-        rewrite ! (cell 21) (λ (t : Bool). ‵ (fat fullShare tyBool (l 21) 0 (vbool t)))
+        (load ! (from ! (stop !)) (look ! (cell 23) refl)) tt) (from ! (stop !))
+        (init ! (cell 22) refl (tt, tt)) $
+        rewrite ! (cell 22) (λ (t : Bool). ‵ (fat fullShare tyBool (l 22) 0 (vbool t)))
         (le-ltb i (length (f .arrivals .list)) past) refl $
-        first ! $ branches ! (load ! (from ! (stop !)) (look ! (cell 21) refl)) (λ z. absurd z)
-        (λ _. jumps ! $ forget ! (cell 22) refl $ forget ! (cell 21) refl $ by ! (leaves i s e))
+        first ! $ branches ! (load ! (from ! (stop !)) (look ! (cell 22) refl)) (λ z. absurd z)
+        (λ _. jumps ! $ forget ! (cell 23) refl $ forget ! (cell 22) refl $ by ! (leaves i s e))
 
     pub refuses : (i : ℕ) (s : Point f) (X : SProp 𝓤) → i < length (f .arrivals .list)
         → eqb (s .answer .refusal) 0 ≡ false
@@ -113,24 +112,24 @@ module _ {M : Type 1} (logic : Logic M) (f : Called) (ok : Typed f) where
         -- the length of the run, and the first test, which holds
         assigns ! (of-opd ! (load ! (from ! (fld ! refl (stop !)))
         (look-in ! (cell 4) (sub ! 1 refl (whole !))))) (from ! (stop !))
-        (init ! (cell 22) refl (tt, record { fits = ok .arrivals-room .0 })) $
+        (init ! (cell 23) refl (tt, record { fits = ok .arrivals-room .0 })) $
         assigns ! (bin ! (load ! (from ! (stop !)) (look ! (cell 10) refl))
-        (load ! (from ! (stop !)) (look ! (cell 22) refl)) tt) (from ! (stop !))
-        (init ! (cell 21) refl (tt, tt)) $
-        rewrite ! (cell 21) (λ (t : Bool). ‵ (fat fullShare tyBool (l 21) 0 (vbool t)))
+        (load ! (from ! (stop !)) (look ! (cell 23) refl)) tt) (from ! (stop !))
+        (init ! (cell 22) refl (tt, tt)) $
+        rewrite ! (cell 22) (λ (t : Bool). ‵ (fat fullShare tyBool (l 22) 0 (vbool t)))
         (lt-ltb i (length (f .arrivals .list)) within) refl $
-        first ! $ branches ! (load ! (from ! (stop !)) (look ! (cell 21) refl)) (λ _.
+        first ! $ branches ! (load ! (from ! (stop !)) (look ! (cell 22) refl)) (λ _.
         -- the second test, which fails
         assigns ! (of-opd ! (load ! (from ! (fld ! refl (stop !)))
         (look-in ! (cell 8) (sub ! 0 refl (whole !))))) (from ! (stop !))
-        (init ! (cell 23) refl (tt, record { fits = refusal-fits (s .answer) (s .good) })) $
-        assigns ! (bin ! (load ! (from ! (stop !)) (look ! (cell 23) refl)) (lit ! tt) tt)
-        (from ! (stop !)) (store ! (cell 21) refl (tt, tt)) $
-        rewrite ! (cell 21) (λ (t : Bool). ‵ (fat fullShare tyBool (l 21) 0 (vbool t))) refused
+        (init ! (cell 24) refl (tt, record { fits = refusal-fits (s .answer) (s .good) })) $
+        assigns ! (bin ! (load ! (from ! (stop !)) (look ! (cell 24) refl)) (lit ! tt) tt)
+        (from ! (stop !)) (store ! (cell 22) refl (tt, tt)) $
+        rewrite ! (cell 22) (λ (t : Bool). ‵ (fat fullShare tyBool (l 22) 0 (vbool t))) refused
         refl $
-        assigns ! (of-opd ! (load ! (from ! (stop !)) (look ! (cell 21) refl))) (from ! (stop !))
-        (init ! (cell 24) refl (tt, tt)) $
-        branches ! (load ! (from ! (stop !)) (look ! (cell 24) refl)) (λ z. absurd z) (λ _.
-        jumps ! $ forget ! (cell 24) refl $ forget ! (cell 23) refl $ forget ! (cell 22) refl $
-        forget ! (cell 21) refl $
+        assigns ! (of-opd ! (load ! (from ! (stop !)) (look ! (cell 22) refl))) (from ! (stop !))
+        (init ! (cell 25) refl (tt, tt)) $
+        branches ! (load ! (from ! (stop !)) (look ! (cell 25) refl)) (λ z. absurd z) (λ _.
+        jumps ! $ forget ! (cell 25) refl $ forget ! (cell 24) refl $ forget ! (cell 23) refl $
+        forget ! (cell 22) refl $
         by ! (leaves i s e))) (λ z. absurd z)

@@ -16,8 +16,8 @@ use Rattle.walks.proofs.Again.{Again}
 use Rattle.walks.proofs.LentLocal.{Lent}
 use Rattle.walks.proofs.Handing.{Part, handing, value-of}
 use Rattle.walks.proofs.Meeting.{_&_}
-use Rattle.tracker.proofs.Types.{settings-data, sites-data, coordinator-data, arrival-data, record-data, answer-data, turn-data, counts-data, VS, VP, VD, VT, VR, VK, VN}
-use Rattle.tracker.proofs.Records.{written-fits, record-good}
+use Rattle.tracker.proofs.Types.{settings-data, sites-data, coordinator-data, arrival-data, record-data, turn-data, queue-data, counts-data, records-data, VS, VP, VD, VT, VR, VA, VQ}
+use Rattle.tracker.proofs.Records.{written-fits, record-good, records-all-good, coordinator-good, out-good}
 use Rattle.tracker.proofs.run_batch.Proof.Parameters.{Called, Typed, Point, Opens, Finds, Takes, Delivers, Logic}
 
 -- ---- The start: both memories are lent again
@@ -108,12 +108,15 @@ module _ {M : Type 1} (logic : Logic M) (f : Called) (s : Point f) (turn : Turn)
       (ν₁ ∷ []) & (ν₂ ∷ []) & (ν₃ ∷ []) & (ν₄ ∷ f .arrivals .life) & tt,
       fullShare & fullShare & fullShare & PosShare·left (f .arrivals .share) & tt,
       tt,
-      f .settings & s .answer & turn
+      f .settings & s .answer .sites .records & s .answer .coordinator & s .answer .written
+          & turn .out
           & listed (f .siteMemory) δ₁ (s .lent .siteMemory)
           & listed (f .coordinatorMemory) δ₂ (s .lent .coordinatorMemory)
           & listed (f .log) δ₃ (s .lent .log)
           & record { ptr = (place, 0); name = δ₄; now = s .counts } & tt,
-      (VS (f .settings) ∷ []) & (VK (s .answer) ∷ []) & (VN turn ∷ [])
+      (VS (f .settings) ∷ []) & (VA (s .answer .sites .records) ∷ [])
+          & (VD (s .answer .coordinator) ∷ []) & (vint w64 (s .answer .written) ∷ [])
+          & (VQ (turn .out) ∷ [])
           & (value (f .siteMemory) ∷ []) & (value (f .coordinatorMemory) ∷ [])
           & (value (f .log) ∷ []) & (vptr place 0 ∷ []) & tt,
     ),
@@ -129,8 +132,12 @@ module _ {M : Type 1} (logic : Logic M) (f : Called) (s : Point f) (turn : Turn)
   abbrev pub delivers-parts : Typed f → Good turn-data turn → List (Part 𝓤 H A)
   delivers-parts ok is =
       value-of W settings-data (f .settings) (ok .settings-good)
-      ∷ value-of W answer-data (s .answer) (s .good)
-      ∷ value-of W turn-data turn is
+      ∷ value-of W records-data (s .answer .sites .records)
+      (records-all-good (s .answer) (s .good))
+      ∷ value-of W coordinator-data (s .answer .coordinator)
+      (coordinator-good (s .answer) (s .good))
+      ∷ value-of W (number w64) (s .answer .written) (refl, written-fits (s .answer) (s .good))
+      ∷ value-of W queue-data (turn .out) (out-good turn is)
       ∷ handing (Again u32 (f .siteMemory) (named 0) ν₁ δ₁ (s .lent .siteMemory))
       ∷ handing (Again u64 (f .coordinatorMemory) (named 1) ν₂ δ₂ (s .lent .coordinatorMemory))
       ∷ handing (Again u64 (f .log) (named 2) ν₃ δ₃ (s .lent .log))

@@ -2,7 +2,7 @@
 -- where a turn has read its site's record, where it was taken, where it was counted, and after the
 -- loop.
 --
---   at        where the ith of the 46 locals stands in a context, behind so many items
+--   at        where the ith of the 48 locals stands in a context, behind so many items
 --   cell      the same, behind the eight items that are owned between the statements
 --   local-types, locals   their types, as the MIR numbers them, and with their places
 --   Begun     the context where the body begins: only the parameters have values
@@ -25,12 +25,13 @@ use Rattle.model.proofs.Arrival.Laws as T′
 use Rattle.model.proofs.SiteRecord.Laws as R′
 use Rattle.tracker_steps.proofs.BatchAnswer.Laws as K′
 use Rattle.tracker_steps.proofs.Turn.Laws as N′
+use Rattle.tracker_delivery.proofs.Ended.Laws as E′
 use Rattle.tracker.proofs.Types.{arrival-data, VS, VP, VD, VT, VR, VK, VN, VC}
 use Rattle.tracker.proofs.run_batch.Code.Mir as m
 use Rattle.tracker.proofs.run_batch.Proof.Parameters.{Called, Point, Owned, Post, Logic, lentOf}
 
 abbrev pub at : ℕ → ℕ → ℕ
-at = behind 46
+at = behind 48
 
 abbrev pub cell : ℕ → ℕ
 cell = at 8
@@ -44,9 +45,12 @@ rm = tyRef erased mut (tyInt w32)
 abbrev rn : Ty
 rn = tyRef erased mut (tyInt w64)
 
--- The counts of messages.
+-- The counts of messages, and the records.
 abbrev pub counts-type : Ty
 counts-type = tyArray (tyInt w64) mostSites
+
+abbrev pub records-type : Ty
+records-type = tyArray R′.mir mostSites
 
 abbrev pub local-types : List Ty
 local-types =
@@ -54,10 +58,11 @@ local-types =
     ∷ sliceTy (tyRef (named 0) imm (pointee (arrival-data .row .written)))
     ∷ sliceTy (tyRef (named 1) mut (tyInt w32)) ∷ sliceTy (tyRef (named 2) mut (tyInt w64))
     ∷ sliceTy (tyRef (named 3) mut (tyInt w64)) ∷ K′.mir ∷ counts-type ∷ tyInt w64 ∷ T′.mir
-    ∷ tyInt w64 ∷ R′.mir ∷ N′.mir ∷ K′.mir ∷ rm ∷ sliceTy rm ∷ rn ∷ sliceTy rn ∷ counts-type
-    ∷ tyBool ∷ tyInt w64 ∷ tyInt w32 ∷ tyBool ∷ tyPtr ∷ T′.mir ∷ tyPtr ∷ tyPtr ∷ R′.mir
-    ∷ tyInt w64 ∷ rm ∷ sliceTy rm ∷ tyPtr ∷ tyPtr ∷ tyInt w64 ∷ tyBool ∷ K′.mir ∷ K′.mir ∷ rm
-    ∷ sliceTy rm ∷ rn ∷ sliceTy rn ∷ rn ∷ sliceTy rn ∷ tyRef erased mut counts-type ∷ []
+    ∷ tyInt w64 ∷ R′.mir ∷ N′.mir ∷ E′.mir ∷ K′.mir ∷ rm ∷ sliceTy rm ∷ rn ∷ sliceTy rn
+    ∷ counts-type ∷ tyBool ∷ tyInt w64 ∷ tyInt w32 ∷ tyBool ∷ tyPtr ∷ T′.mir ∷ tyPtr ∷ tyPtr
+    ∷ R′.mir ∷ tyInt w64 ∷ rm ∷ sliceTy rm ∷ tyPtr ∷ tyPtr ∷ tyInt w64 ∷ tyBool ∷ records-type
+    ∷ D′.mir ∷ tyInt w64 ∷ rm ∷ sliceTy rm ∷ rn ∷ sliceTy rn ∷ rn ∷ sliceTy rn
+    ∷ tyRef erased mut counts-type ∷ []
 
 -- ---- What the locals hold
 

@@ -23,7 +23,6 @@ use Rattle.model.specs.declared.Sites.{Sites}
 use Rattle.model.specs.declared.CoordinatorRecord.{CoordinatorRecord}
 use Rattle.model.specs.Held.{heldBy}
 use Rattle.tracker_steps.specs.declared.BatchAnswer.{BatchAnswer}
-use Rattle.tracker_arrivals.specs.Counting.{withCounts}
 use Rattle.tracker.specs.Batch.{BatchCall, BatchHeld, batchHeld}
 use Rattle.walks.proofs.Data.{Good}
 use Rattle.walks.proofs.Lending.{Lending, as-lent}
@@ -32,6 +31,7 @@ use Rattle.walks.proofs.Elem.{Looked}
 use Rattle.walks.proofs.Handing.{Part, handing, token, value-of}
 use Rattle.walks.proofs.Calling.{Says}
 use Rattle.walks.proofs.Meeting.{_&_, Params, by-value, shared, kept, stays-of, bound-at}
+use Rattle.tracker.proofs.Records.{withCounts}
 use Rattle.tracker.proofs.Types.{settings-data, sites-data, coordinator-data, arrival-data, answer-data, counts-data}
 use Rattle.tracker_steps.proofs.open_batch as opening
 use Rattle.tracker_steps.proofs.open_batch.Symbol.{name as #steps·open-batch}

@@ -61,32 +61,32 @@ module _ {M : Type 1} (logic : Logic M) (f : Called) (ok : Typed f) (l : Places)
   takes-turn is asks k =
       assigns ! (of-opd ! (load ! (from ! (fld ! refl (stop !)))
       (look-in ! (cell 8) (sub ! 2 refl (whole !))))) (from ! (stop !))
-      (init ! (cell 30) refl (tt, record { fits = written-fits (s .answer) (s .good) })) $
+      (init ! (cell 31) refl (tt, record { fits = written-fits (s .answer) (s .good) })) $
       assigns ! (of-opd ! (load ! (from ! (fld ! refl (stop !)))
       (look-in ! (cell 7) (sub ! 1 refl (whole !))))) (from ! (stop !))
-      (init ! (cell 22) refl (tt, record { fits = ok .log-room .0 })) $
+      (init ! (cell 23) refl (tt, record { fits = ok .log-room .0 })) $
       -- the sites' memory is lent again
-      reborrows ! (cell 5) (cell 31) (cell 32) refl refl refl refl refl refl refl refl
+      reborrows ! (cell 5) (cell 32) (cell 33) refl refl refl refl refl refl refl refl
       (ok .site-memory-room .0) $
       move ! (2 ∷ 3 ∷ []) $
       lends u32 (f .siteMemory) (named 1) (named 0) (s .lent .siteMemory) ! tt (λ ν δ.
-      -- [sites'; kept; ν; the run; κ; coordinator's; κ₂; log; κ₃; _45; …]
+      -- [sites'; kept; ν; the run; κ; coordinator's; κ₂; log; κ₃; _47; …]
       move ! (2 ∷ 0 ∷ []) $
       calls-by ! (fmOf 𝓤 H (W .laws) 𝓣) taking.ended (taking.clauses 𝓤 H A mem run) takes-known
       (takes-to logic f s a ν δ) (takes-tokens logic f s a ν δ) (takes-parts logic f s a ν δ ok is)
       (asking 𝓤 _ asks)
       (and-then ! (load ! (from ! (stop !)) (look ! (cell 1) refl))
       (and-then ! (load ! (from ! (stop !)) (look ! (cell 13) refl))
-      (and-then ! (load ! (from ! (stop !)) (look ! (cell 30) refl))
+      (and-then ! (load ! (from ! (stop !)) (look ! (cell 31) refl))
       (and-then ! (load ! (from ! (stop !)) (look ! (cell 11) refl))
-      (and-then ! (load ! (from ! (stop !)) (look ! (cell 22) refl))
-      (and-then ! (load ! (from ! (stop !)) (look ! (cell 32) refl)) (no-more !)))))))
+      (and-then ! (load ! (from ! (stop !)) (look ! (cell 23) refl))
+      (and-then ! (load ! (from ! (stop !)) (look ! (cell 33) refl)) (no-more !)))))))
       VN (turn-data .tells) (λ turn ws. Said turn (ws .1 .1 .1 .1 .1 .0)) (λ turn ws. id⊢ 𝓤 _)
       (λ turn ws e good.
-      -- [ν; the last list; kept; the run; κ; coordinator's; κ₂; log; κ₃; _45; …]
+      -- [ν; the last list; kept; the run; κ; coordinator's; κ₂; log; κ₃; _47; …]
       land ! (from ! (stop !)) (init ! (at 9 14) refl (is-typed W turn-data turn good .0)) $
       returned u32 (f .siteMemory) (named 1) (named 0) (s .lent .siteMemory) ! tt ν δ _ (λ same.
       move ! (2 ∷ 3 ∷ []) $
-      forget ! (cell 11) refl $ forget ! (cell 13) refl $ forget ! (cell 22) refl $
-      forget ! (cell 30) refl $ forget ! (cell 31) refl $ forget ! (cell 32) refl $
+      forget ! (cell 11) refl $ forget ! (cell 13) refl $ forget ! (cell 23) refl $
+      forget ! (cell 31) refl $ forget ! (cell 32) refl $ forget ! (cell 33) refl $
       k turn (ws .1 .1 .1 .1 .1 .0) same good e)))

@@ -16,7 +16,7 @@ use Rattle.tracker_steps.specs.Turns.{placeOf, ownOf, TurnAsks, TurnSays}
 use Rattle.model.proofs.Arrival as T
 use Rattle.model.proofs.Arrival.Laws as T′
 use Rattle.model.proofs.SiteRecord.Laws as R′
-use Rattle.tracker_arrivals.proofs.ArrivalLaws.{turn-asks, count-asks, deliver-asks, quiet-says, loud-says}
+use Rattle.tracker_arrivals.proofs.ArrivalLaws.{turn-asks, count-asks, deliver-asks, quiet-says, sent-says, messages-ask}
 use Rattle.tracker_steps.proofs.RefusalLaws.{place-within}
 use Rattle.tracker.proofs.Records.{recordSize, recordsPlace, values, length-values, values-at, many-records, refusal-fits, record-good}
 use Rattle.walks.proofs.Locals.{Places}
@@ -69,44 +69,44 @@ module _ {M : Type 1} (logic : Logic M) (f : Called) (ok : Typed f) (l : Places)
       -- the length of the run, and the first test
       assigns ! (of-opd ! (load ! (from ! (fld ! refl (stop !)))
       (look-in ! (cell 4) (sub ! 1 refl (whole !))))) (from ! (stop !))
-      (init ! (cell 22) refl (tt, record { fits = ok .arrivals-room .0 })) $
+      (init ! (cell 23) refl (tt, record { fits = ok .arrivals-room .0 })) $
       assigns ! (bin ! (load ! (from ! (stop !)) (look ! (cell 10) refl))
-      (load ! (from ! (stop !)) (look ! (cell 22) refl)) tt) (from ! (stop !))
-      (init ! (cell 21) refl (tt, tt)) $
-      rewrite ! (cell 21) (λ (t : Bool). ‵ (fat fullShare tyBool (l 21) 0 (vbool t)))
+      (load ! (from ! (stop !)) (look ! (cell 23) refl)) tt) (from ! (stop !))
+      (init ! (cell 22) refl (tt, tt)) $
+      rewrite ! (cell 22) (λ (t : Bool). ‵ (fat fullShare tyBool (l 22) 0 (vbool t)))
       (lt-ltb i (length (f .arrivals .list)) within) refl $
-      first ! $ branches ! (load ! (from ! (stop !)) (look ! (cell 21) refl)) (λ _.
+      first ! $ branches ! (load ! (from ! (stop !)) (look ! (cell 22) refl)) (λ _.
       -- the second test
       assigns ! (of-opd ! (load ! (from ! (fld ! refl (stop !)))
       (look-in ! (cell 8) (sub ! 0 refl (whole !))))) (from ! (stop !))
-      (init ! (cell 23) refl (tt, record { fits = refusal-fits (s .answer) (s .good) })) $
-      assigns ! (bin ! (load ! (from ! (stop !)) (look ! (cell 23) refl)) (lit ! tt) tt)
-      (from ! (stop !)) (store ! (cell 21) refl (tt, tt)) $
-      rewrite ! (cell 21) (λ (t : Bool). ‵ (fat fullShare tyBool (l 21) 0 (vbool t))) goes-on refl $
-      assigns ! (of-opd ! (load ! (from ! (stop !)) (look ! (cell 21) refl))) (from ! (stop !))
-      (init ! (cell 24) refl (tt, tt)) $
-      branches ! (load ! (from ! (stop !)) (look ! (cell 24) refl)) (λ _. skips ! $
+      (init ! (cell 24) refl (tt, record { fits = refusal-fits (s .answer) (s .good) })) $
+      assigns ! (bin ! (load ! (from ! (stop !)) (look ! (cell 24) refl)) (lit ! tt) tt)
+      (from ! (stop !)) (store ! (cell 22) refl (tt, tt)) $
+      rewrite ! (cell 22) (λ (t : Bool). ‵ (fat fullShare tyBool (l 22) 0 (vbool t))) goes-on refl $
+      assigns ! (of-opd ! (load ! (from ! (stop !)) (look ! (cell 22) refl))) (from ! (stop !))
+      (init ! (cell 25) refl (tt, tt)) $
+      branches ! (load ! (from ! (stop !)) (look ! (cell 25) refl)) (λ _. skips ! $
       exec ! (𝓣 .C) (𝓣 .Λ) (locals logic f l) work (anyQ (afterTurn 𝓤 H X (Left logic f l))) $
       -- the arrival is read
       assigns ! (bin ! (load ! (from ! (stop !)) (look ! (cell 10) refl)) (lit ! tt)
       (record { fits = offset-fits i n within (ok .arrivals-room .1) })) (from ! (stop !))
-      (store ! (cell 22) refl
+      (store ! (cell 23) refl
       (tt, record { fits = offset-fits i n within (ok .arrivals-room .1) })) $
       assigns ! (bin ! (load ! (from ! (fld ! refl (stop !)))
       (look-in ! (cell 4) (sub ! 0 refl (whole !))))
-      (load ! (from ! (stop !)) (look ! (cell 22) refl)) tt)
-      (from ! (stop !)) (init ! (cell 25) refl (tt, tt)) $
-      rewrite ! (cell 25)
-      (λ (z : ℕ). ‵ (fat fullShare tyPtr (l 25) 0 (vptr (f .arrivals .block) z)))
+      (load ! (from ! (stop !)) (look ! (cell 23) refl)) tt)
+      (from ! (stop !)) (init ! (cell 26) refl (tt, tt)) $
+      rewrite ! (cell 26)
+      (λ (z : ℕ). ‵ (fat fullShare tyPtr (l 26) 0 (vptr (f .arrivals .block) z)))
       (sym (place-is arrivalSize (f .arrivals .offset) i)) refl $
       elem-opens T.the-row (LL.vals T.the-type T′.the-laws) none (f .arrivals) i ! tt (named 0)
       (LL.tells T.the-type T′.the-laws) (LL.copy T.the-type T′.the-copy 𝓤 H A W) within (λ q′ is.
-      assigns ! (of-opd ! (load ! (from ! (hop ! (look ! (cell 25) refl) (stop !)))
+      assigns ! (of-opd ! (load ! (from ! (hop ! (look ! (cell 26) refl) (stop !)))
       (look-raw ! 0 refl))) (from ! (stop !))
-      (init ! (cell 26) refl (is-typed W arrival-data arrival is .0)) $
+      (init ! (cell 27) refl (is-typed W arrival-data arrival is .0)) $
       elem-shuts T.the-row (LL.vals T.the-type T′.the-laws) none (f .arrivals) i ! tt (named 0) q′
       within $
-      assigns ! (of-opd ! (load ! (from ! (stop !)) (look ! (cell 26) refl))) (from ! (stop !))
+      assigns ! (of-opd ! (load ! (from ! (stop !)) (look ! (cell 27) refl))) (from ! (stop !))
       (init ! (cell 11) refl (is-typed W arrival-data arrival is .0)) $
       -- its place among the records
       calls-by ! (fmOf 𝓤 H (W .laws) 𝓣) finding.ended (finding.clauses 𝓤 H A mem run) finds-known
@@ -119,27 +119,27 @@ module _ {M : Type 1} (logic : Logic M) (f : Called) (ok : Typed f) (l : Places)
       -- the record that stands there
       assigns ! (bin ! (load ! (from ! (stop !)) (look ! (cell 12) refl)) (lit ! tt)
       (record { fits = record-fits (placeOf arrival) (place-within arrival) })) (from ! (stop !))
-      (store ! (cell 22) refl
+      (store ! (cell 23) refl
       (tt, record { fits = record-fits (placeOf arrival) (place-within arrival) })) $
       assigns ! (addr ! (from ! (fld ! refl (fld ! refl (stop !))))) (from ! (stop !))
-      (init ! (cell 27) refl (tt, tt)) $
-      assigns ! (bin ! (load ! (from ! (stop !)) (look ! (cell 27) refl))
-      (load ! (from ! (stop !)) (look ! (cell 22) refl)) tt) (from ! (stop !))
       (init ! (cell 28) refl (tt, tt)) $
-      rewrite ! (cell 28) (λ (z : ℕ). ‵ (fat fullShare tyPtr (l 28) 0 (vptr (l 8) z)))
+      assigns ! (bin ! (load ! (from ! (stop !)) (look ! (cell 28) refl))
+      (load ! (from ! (stop !)) (look ! (cell 23) refl)) tt) (from ! (stop !))
+      (init ! (cell 29) refl (tt, tt)) $
+      rewrite ! (cell 29) (λ (z : ℕ). ‵ (fat fullShare tyPtr (l 29) 0 (vptr (l 8) z)))
       (sym (place-is recordSize recordsPlace (placeOf arrival))) refl $
-      assigns ! (of-opd ! (load ! (from ! (hop ! (look ! (cell 28) refl) (stop !)))
+      assigns ! (of-opd ! (load ! (from ! (hop ! (look ! (cell 29) refl) (stop !)))
       (look-in ! (cell 8) (elem ! (values records) (placeOf arrival) (VR noRecord) inside many
       (sub ! 0 refl (sub ! 3 refl (whole !))))))) (from ! (stop !))
-      (init ! (cell 29) refl (subst (λ (v : Val). Holds (hasTy R′.mir v) × WT v)
+      (init ! (cell 30) refl (subst (λ (v : Val). Holds (hasTy R′.mir v) × WT v)
       (sym (values-at records (placeOf arrival))) own-typed)) $
-      rewrite ! (cell 29) (λ (v : Val). ‵ (fat fullShare R′.mir (l 29) 0 v))
+      rewrite ! (cell 30) (λ (v : Val). ‵ (fat fullShare R′.mir (l 30) 0 v))
       (values-at records (placeOf arrival)) refl $
-      assigns ! (of-opd ! (load ! (from ! (stop !)) (look ! (cell 29) refl))) (from ! (stop !))
+      assigns ! (of-opd ! (load ! (from ! (stop !)) (look ! (cell 30) refl))) (from ! (stop !))
       (init ! (cell 13) refl own-typed) $
-      forget ! (cell 21) refl $ forget ! (cell 22) refl $ forget ! (cell 23) refl $
-      forget ! (cell 24) refl $ forget ! (cell 25) refl $ forget ! (cell 26) refl $
-      forget ! (cell 27) refl $ forget ! (cell 28) refl $ forget ! (cell 29) refl $
+      forget ! (cell 22) refl $ forget ! (cell 23) refl $ forget ! (cell 24) refl $
+      forget ! (cell 25) refl $ forget ! (cell 26) refl $ forget ! (cell 27) refl $
+      forget ! (cell 28) refl $ forget ! (cell 29) refl $ forget ! (cell 30) refl $
       k is)))
       (λ z. absurd z)) (λ z. absurd z)
 
@@ -169,8 +169,8 @@ module _ {M : Type 1} (logic : Logic M) (f : Called) (ok : Typed f) (l : Places)
         taken-within = asks-count .taken-within;
       }) (λ good.
       sends logic f ok l i within turn turn-is X (answered s′ (counted (s .answer) (placeOf arrival) turn) good)
-      (λ some. deliver-asks (heldAt s) arrival refl told _ refl asks some)
+      (λ some. messages-ask (deliver-asks (heldAt s) arrival refl told _ refl asks some))
       (λ quiet. k (answered s′ (counted (s .answer) (placeOf arrival) turn) good)
       (quiet-says (heldAt s) arrival refl told _ refl quiet))
-      (λ s″ some says. k s″
-      (loud-says (heldAt s) arrival refl told _ refl some says)))))
+      (λ s″ some refusal-same accepted-same says. k s″
+      (sent-says (heldAt s) arrival refl told _ refl some refusal-same accepted-same says)))))

@@ -39,7 +39,7 @@ fn fresh_session(settings: Settings, at: usize) -> Session
         settings: settings,
         sites: Sites {
             records: [site; SITE_RECORDS],
-            messages: 0,
+            messages: [0; SITE_RECORDS],
         },
         coordinator: CoordinatorRecord {
             total: 0,

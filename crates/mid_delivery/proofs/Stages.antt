@@ -10,3 +10,4 @@ pub mod AnnounceStage
 pub mod MidDelivery
 pub mod SoundStages
 pub mod StageFacts
+pub mod StageNames

@@ -4,4 +4,5 @@ pub mod Growth
 pub mod Rounds
 pub mod RoundBounds
 pub mod Counts
+pub mod CountLaws
 pub mod Instances

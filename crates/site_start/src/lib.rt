@@ -43,14 +43,14 @@ fn fresh_site() -> SiteRecord
     }
 }
 
-// The records of 32 sites started fresh, and no message counted.
+// The records of 32 sites started fresh, and no message counted for any.
 fn fresh_sites() -> Sites
     ensures { λ r. ⌜ r ≡ freshSites ⌝ }
 {
     let fresh = fresh_site();
     Sites {
         records: [fresh; SITE_RECORDS],
-        messages: 0,
+        messages: [0; SITE_RECORDS],
     }
 }
 

@@ -20,6 +20,7 @@ use Rattle.model.specs.declared.Arrival.{Arrival}
 use Rattle.model.specs.Choice.{if_then_else_, isZero}
 use Rattle.model.specs.Refusals.{noRefusal}
 use Rattle.model.specs.Network.{Network}
+use Rattle.model.specs.MessageCounts.{countedUp}
 use Rattle.model.specs.Runs.{Batch, batchFrom, freshBatch}
 use Rattle.coordinator_kinds.proofs.MemoryLaws.{memory-kept}
 use Rattle.site_memory.proofs.SitesReading.{siteRecords-sitesIn, sitesMemory-sitesIn}
@@ -107,7 +108,7 @@ module _ (call : BatchCall) (none : startRefusal call ≡ noRefusal) where
     holds = record {
       records = sym (siteRecords-sitesIn (call .settings .sites) (call .settings)
           (given .sites .records) (given .siteMemory));
-      counted = omega arith;
+      counted = refl;
       coordinator = refl;
       written = refl;
       waiting = refl;
@@ -127,7 +128,7 @@ module _ (call : BatchCall) (none : startRefusal call ≡ noRefusal) where
       all-records = passes .all-records;
       site-memory-long = passes .fits .sites-fit .long-enough;
       coordinator-memory-long = passes .fits .coordinator-long;
-      count-within = passes .count-within;
+      few-counted = passes .few-counted .each-within;
     };
     sound = passes .sound;
     bounded = passes .bounded;
@@ -263,7 +264,7 @@ module _ {call : BatchCall} {now : BatchHeld} where
       let all : batch .messages ++ [] ≡ batch .messages = append-nil (batch .messages) in
       let records = holds .holds .records in
       let counted : now .held .sites .messages
-      ≡ call .held .sites .messages + length (batch .messages) =
+      ≡ countedUp (call .held .sites .messages) (batch .messages) =
       rw all at (holds .holds .counted) in
       let written : now .written ≡ length (batch .messages) =
       rw all at (holds .holds .written) in

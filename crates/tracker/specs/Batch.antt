@@ -6,7 +6,7 @@
 -- and BatchHeld of crate `tracker_steps`.
 use mathlib.Core.Path.{_≡_}
 use mathlib.Core.List.{List}
-use Prim.Native.Nat.{ℕ, _+_}
+use Prim.Native.Nat.{ℕ}
 use lib.ListN.{length}
 use Rattle.model.specs.declared.Settings.{Settings}
 use Rattle.model.specs.declared.Arrival.{Arrival}
@@ -14,6 +14,7 @@ use Rattle.model.specs.declared.Sites.{Sites}
 use Rattle.model.specs.Choice.{if_then_else_, isZero}
 use Rattle.model.specs.SiteMemory.{overwrite}
 use Rattle.model.specs.CoordinatorMemory.{coordinatorRecord, coordinatorMemory}
+use Rattle.model.specs.MessageCounts.{countedUp}
 use Rattle.model.specs.NetworkMemory.{siteRecords, sitesMemory}
 use Rattle.model.specs.Held.{Held, networkOf, heldRefusal}
 use Rattle.model.specs.Runs.{Batch, batchOf}
@@ -45,11 +46,11 @@ abbrev pub unlessRefused : {A : Type 0} → BatchCall → A → A → A
 unlessRefused call done given = if isZero (startRefusal call) then done else given
 
 -- The `Sites` value then: "the bench's count .. to which the many-draw call alone adds what it
--- writes".
+-- writes", of each deck by itself (request N5): each message for the site that it names.
 abbrev pub sitesAfter : BatchCall → Sites
 sitesAfter call = record {
   records = siteRecords (batchIn call .network .sites) (call .held .sites .records);
-  messages = call .held .sites .messages + length (batchIn call .messages);
+  messages = countedUp (call .held .sites .messages) (batchIn call .messages);
 }
 
 pub record BatchSays (call : BatchCall) (left : BatchHeld) : Type 0 where

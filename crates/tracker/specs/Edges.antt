@@ -13,12 +13,12 @@ use Rattle.model.specs.Edges.Inputs.{freshNumbers}
 use Rattle.model.specs.Edges.Networks.{stoppedDraws}
 use Rattle.tracker.specs.Batch.{BatchCall, logRoom, startRefusal, batchIn, unlessRefused, sitesAfter}
 
--- Settings A on a fresh network that has counted 7 messages: these draws, site memory of so many
+-- Settings A on a fresh network that has counted 7 messages of each site: these draws, site memory of so many
 -- numbers, a log of so many.
 abbrev pub callWith : List Arrival → ℕ → ℕ → BatchCall
 callWith arrivals numbers places = record {
   settings = settingsA;
-  held = heldBy (record { records = freshSites .records; messages = 7 }) freshNumbers
+  held = heldBy (record { records = freshSites .records; messages = replicate 32 7 }) freshNumbers
       (replicate numbers 0) (replicate 1034 0);
   arrivals = arrivals;
   log = replicate places 0;
@@ -40,15 +40,15 @@ pub record BatchCallEdges : Type 0 where
   -- two draws of five messages each leave 20 of 30 records
   pub third-lacks : refusalOf (callWith (draws 3) 1048 120) ≡ 14
   pub two-accepted : acceptedOf (callWith (draws 3) 1048 120) ≡ 2
-  -- the count grows by what was written: 7 and 10
-  pub counted : sitesAfter (callWith (draws 3) 1048 120) .messages ≡ 17
+  -- the count of site 0 grows by what was written, 7 and 10; counts 1 to 31 stay
+  pub counted : sitesAfter (callWith (draws 3) 1048 120) .messages ≡ 17 ∷ replicate 31 7
   -- a refused draw after an accepted one
   pub stopped : refusalOf (callWith stoppedDraws 1048 400) ≡ 6
   pub stopped-accepted : acceptedOf (callWith stoppedDraws 1048 400) ≡ 1
   -- request N2: touches are accepted and counted with no log, and change nothing
   pub touches : refusalOf (callWith (touch ∷ touch ∷ []) 1048 0) ≡ 0
   pub touches-accepted : acceptedOf (callWith (touch ∷ touch ∷ []) 1048 0) ≡ 2
-  pub touches-unlogged : sitesAfter (callWith (touch ∷ touch ∷ []) 1048 0) .messages ≡ 7
+  pub touches-unlogged : sitesAfter (callWith (touch ∷ touch ∷ []) 1048 0) .messages ≡ replicate 32 7
   -- between two draws with a log for one: 14 before the second draw
   pub between : refusalOf (callWith (draw ∷ touch ∷ draw ∷ []) 1048 100) ≡ 14
   pub between-accepted : acceptedOf (callWith (draw ∷ touch ∷ draw ∷ []) 1048 100) ≡ 2

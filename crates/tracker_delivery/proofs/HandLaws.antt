@@ -4,6 +4,7 @@
 --   head-accepted       by whom it is for
 --   rest-waits          the messages that wait when the head was taken
 --   room, stored-then   what the hand-over comes to fits the log, and lent memory
+--   answer-names        the answer names a site of the network
 use mathlib.Core.Path.{_≡_, ap, _∙_}
 use mathlib.Core.List.{_++_}
 use Prim.Native.Nat.{_*_, _≤_}
@@ -15,7 +16,9 @@ use Rattle.model.specs.Refusals.{noRefusal}
 use Rattle.model.specs.Messages.{messageWidth}
 use Rattle.model.specs.Network.{Network, handOver}
 use Rattle.model.specs.DeliveryClaims.{messageRefusal}
+use Rattle.model.proofs.MessageCount.CountLaws.{NamesBelow}
 use Rattle.mid_delivery.proofs.Stages.MidDelivery.{hand-on}
+use Rattle.mid_delivery.proofs.Stages.StageNames.{joined-names}
 use Rattle.tracker_queue.specs.declared.Queue.{Queue}
 use Rattle.tracker_queue.specs.Sending.{queueOf, withoutHead}
 use Rattle.tracker_delivery.specs.Holding.{Delivering, Carrying}
@@ -49,6 +52,9 @@ module _ {settings : Settings} {carry : Carrying} (u : Delivering settings carry
       * length (u .earlier ++ (u .now .log ++ handOver settings now m .messages))
       ≤ length (u .given .log)
   room = going-room (going-handed (hand .going))
+
+  pub answer-names : NamesBelow (settings .sites) (handOver settings now m .messages)
+  answer-names = joined-names (hand .rest) (going-stage (going-handed (hand .going)))
 
   pub stored-then : Stored settings (handOver settings now m .network)
   stored-then = going-stored (going-handed (hand .going))

@@ -4,7 +4,7 @@
 --   asked-says                   a kind 7 asked for
 --   received-says, site-says     a message for the coordinator, for a site
 --   send-asks, answered-step     what sending its answer requires, and the step when it went out
-use mathlib.Core.Path.{_≡_, sym, ap, _∙_, subst⁻¹, subst₂}
+use mathlib.Core.Path.{_≡_, ap, _∙_, subst⁻¹}
 use mathlib.Core.Bool.{true, false}
 use mathlib.Core.List.{List}
 use Prim.Native.Nat.{ℕ}
@@ -30,7 +30,7 @@ use Rattle.tracker_delivery.specs.declared.Underway.{Underway}
 use Rattle.tracker_delivery.specs.declared.Change.{Change}
 use Rattle.tracker_queue.specs.Sending.{withoutHead, SendAsks, AnswerSays}
 use Rattle.tracker_delivery.specs.UnderwayParts.{trafficOf, underwayOf}
-use Rattle.tracker_delivery.specs.Holding.{carrying, answered, Holds, Delivering, goesOn, StepSays}
+use Rattle.tracker_delivery.specs.Holding.{Carrying, carrying, answered, Holds, Delivering, goesOn, StepSays}
 use Rattle.tracker_delivery.specs.Handing.{siteOfHead, coordinatorChange, withQueue, changed, HandedStep, HandSays}
 use Rattle.tracker_delivery.proofs.StepLaws.{handing, asking, asked-sends, asked-holds}
 use Rattle.tracker_delivery.proofs.HandToCoordinator.{coordinator-sends, coordinator-holds}
@@ -42,13 +42,14 @@ use Rattle.tracker_delivery.proofs.HandToSite.{siteOfHead-is, site-send
 coordinator-changed : (underway : Underway) (own : SiteRecord) (waiting : Queue) (answer : Answered)
     → own ≡ getD (underway .sites .records) (siteOfHead (underway .waiting)) noRecord
     → changed underway (coordinatorChange own waiting answer)
-    ≡ underwayOf (underway .sites .records) (answer .coordinator)
+    ≡ underwayOf (underway .sites .records) (underway .sites .messages) (answer .coordinator)
     (withQueue (trafficOf underway) waiting)
 coordinator-changed underway own waiting answer own-is =
     let records = underway .sites .records in
     let at = siteOfHead (underway .waiting) in
     ap (λ (after : List SiteRecord).
-    underwayOf after (answer .coordinator) (withQueue (trafficOf underway) waiting))
+    underwayOf after (underway .sites .messages) (answer .coordinator)
+    (withQueue (trafficOf underway) waiting))
     (ap (set records at) own-is ∙ set-getD records at noRecord)
 
 -- From what is under way then.
@@ -58,15 +59,17 @@ handed-as : {settings : Settings} {underway : Underway}
     → ((log : List ℕ)
     → Delivering settings (carrying underway siteMemory coordinatorBefore log)
     → (by .count ≡ 0 → ⊥)
-    → SendAsks (trafficOf next) log)
+    → SendAsks (trafficOf next) (by .out) (underway .sites .messages) log)
     → ((log : List ℕ) (u : Delivering settings (carrying underway siteMemory coordinatorBefore log))
     → Holds settings (u .given) (u .earlier) (deliveryStep settings (u .now))
     (answered (by .count) (by .out) (carrying next siteMemory coordinatorAfter log)))
     → HandedStep settings underway siteMemory coordinatorBefore coordinatorAfter by
-handed-as {settings} {siteMemory = siteMemory} {coordinatorAfter = coordinatorAfter} {by = by}
+handed-as {settings} {underway} {siteMemory = siteMemory} {coordinatorAfter = coordinatorAfter} {by = by}
     next is sends holds = record {
       sends = λ log u some.
-          subst⁻¹ (λ (then : Underway). SendAsks (trafficOf then) log) is (sends log u some);
+          subst⁻¹ (λ (then : Underway).
+          SendAsks (trafficOf then) (by .out) (underway .sites .messages) log) is
+          (sends log u some);
       next = λ log u.
           subst⁻¹ (λ (then : Underway).
           Holds settings (u .given) (u .earlier) (deliveryStep settings (u .now))
@@ -90,10 +93,11 @@ module _ {settings : Settings} {own : SiteRecord} {coordinator : CoordinatorReco
       (HandSays settings own coordinator waiting siteMemory coordinatorBefore coordinatorBefore)
       by-is
       (record {
-        handed = λ records traffic own-is.
+        handed = λ records counts traffic own-is.
             handed-as _
-            (coordinator-changed (underwayOf records coordinator (withQueue traffic waiting)) own
-            waiting answer own-is)
+            (coordinator-changed
+            (underwayOf records counts coordinator (withQueue traffic waiting)) own waiting answer
+            own-is)
             (λ log u. asked-sends u (asking u none goes) answer is)
             (λ log u. asked-holds u (asking u none goes) answer is);
       })
@@ -115,10 +119,11 @@ module _ {settings : Settings} {own : SiteRecord} {coordinator : CoordinatorReco
         subst⁻¹ (HandSays settings own coordinator waiting siteMemory coordinatorBefore memory)
         by-is
         (record {
-          handed = λ records traffic own-is.
+          handed = λ records counts traffic own-is.
               handed-as _
-              (coordinator-changed (underwayOf records coordinator (withQueue traffic waiting))
-              own queue answer own-is)
+              (coordinator-changed
+              (underwayOf records counts coordinator (withQueue traffic waiting)) own queue answer
+              own-is)
               (λ log u. coordinator-sends u (handing u some) way answer memory queue does queue-is)
               (λ log u. coordinator-holds u (handing u some) way answer memory queue does queue-is);
         })
@@ -139,11 +144,11 @@ module _ {settings : Settings} {own : SiteRecord} {coordinator : CoordinatorReco
           out = answer .reply;
         })
     site-says way words words-are answer says = record {
-      handed = λ records traffic own-is.
+      handed = λ records counts traffic own-is.
           let at = siteOfHead-is waiting some way in
           let numbers-are = own-is ∙ ap (λ (j : ℕ). getD records j noRecord) at in
           handed-as _
-          (ap (λ (j : ℕ). underwayOf (set records j (answer .site)) coordinator
+          (ap (λ (j : ℕ). underwayOf (set records j (answer .site)) counts coordinator
           (withQueue traffic queue)) at)
           (λ log u.
           site-sends u (handing u some) way own words numbers-are words-are answer queue says
@@ -159,43 +164,45 @@ module _ {settings : Settings} {own : SiteRecord} {coordinator : CoordinatorReco
 module _ {settings : Settings} {coordinator : CoordinatorRecord}
     {siteMemory coordinatorBefore coordinatorAfter : List ℕ} {by : Change}
     (records : List SiteRecord)
+    (counts : List ℕ)
     (traffic : Traffic)
     (log : List ℕ)
     (which : ℕ)
     (which-is : which ≡ siteOfHead (traffic .waiting))
     (says : HandSays settings (getD records which noRecord) coordinator (traffic .waiting)
     siteMemory coordinatorBefore coordinatorAfter by) where
-  abbrev settled : Traffic → Underway
-  settled = underwayOf (set records which (by .site)) (by .coordinator)
+  abbrev settled : List ℕ → Traffic → Underway
+  settled counted = underwayOf (set records which (by .site)) counted (by .coordinator)
 
-  by-hand : HandedStep settings (underwayOf records coordinator traffic) siteMemory
+  by-hand : HandedStep settings (underwayOf records counts coordinator traffic) siteMemory
       coordinatorBefore
       coordinatorAfter by
-  by-hand = says .handed records traffic (ap (λ (j : ℕ). getD records j noRecord) which-is)
+  by-hand = says .handed records counts traffic (ap (λ (j : ℕ). getD records j noRecord) which-is)
 
-  settled-is : settled (withQueue traffic (by .waiting))
-      ≡ changed (underwayOf records coordinator traffic) by
+  settled-is : settled counts (withQueue traffic (by .waiting))
+      ≡ changed (underwayOf records counts coordinator traffic) by
   settled-is =
-      ap (λ (j : ℕ). underwayOf (set records j (by .site)) (by .coordinator)
+      ap (λ (j : ℕ). underwayOf (set records j (by .site)) counts (by .coordinator)
       (withQueue traffic (by .waiting))) which-is
 
   pub send-asks : Delivering settings
-      (carrying (underwayOf records coordinator traffic) siteMemory coordinatorBefore log)
+      (carrying (underwayOf records counts coordinator traffic) siteMemory coordinatorBefore log)
       → (by .count ≡ 0 → ⊥)
-      → SendAsks (withQueue traffic (by .waiting)) log
+      → SendAsks (withQueue traffic (by .waiting)) (by .out) counts log
   send-asks = by-hand .sends log
 
-  pub answered-step : {result : Traffic} {written : List ℕ}
-      → AnswerSays (by .count) (withQueue traffic (by .waiting)) (by .out) log result written
+  pub answered-step : {result : Traffic} {counted written : List ℕ}
+      → AnswerSays (by .count) (withQueue traffic (by .waiting)) (by .out) counts log result counted
+      written
       → StepSays settings
-      (carrying (underwayOf records coordinator traffic) siteMemory coordinatorBefore log)
-      (carrying (settled result) siteMemory coordinatorAfter written)
-  answered-step said = record {
+      (carrying (underwayOf records counts coordinator traffic) siteMemory coordinatorBefore log)
+      (carrying (settled counted result) siteMemory coordinatorAfter written)
+  answered-step {result} {counted} {written} said = record {
     next = λ u.
-        subst₂ (λ (then : Traffic) (after : List ℕ).
-        Holds settings (u .given) (u .earlier) (deliveryStep settings (u .now))
-        (carrying (settled then) siteMemory coordinatorAfter after))
-        (sym (said .goes-out)) (sym (said .logged))
+        subst⁻¹ (λ (next : Carrying).
+        Holds settings (u .given) (u .earlier) (deliveryStep settings (u .now)) next)
+        (λ i. carrying (settled (said .counted i) (said .goes-out i)) siteMemory coordinatorAfter
+        (said .logged i))
         (subst⁻¹ (λ (then : Underway).
         Holds settings (u .given) (u .earlier) (deliveryStep settings (u .now))
         (answered (by .count) (by .out) (carrying then siteMemory coordinatorAfter log))) settled-is

@@ -8,10 +8,10 @@ use mathlib.Core.Bool.{true}
 use mathlib.Core.List.{List, _++_}
 use Prim.Native.Nat.{ℕ, _*_, _≤_}
 use native.Mathlib.Omega.{arith}
-use lib.ListN.{length}
+use lib.ListN.{length, getD}
 use Rattle.model.specs.declared.Settings.{Settings}
 use Rattle.model.specs.declared.Message.{Message}
-use Rattle.model.specs.Messages.{messageWidth, toCoordinator}
+use Rattle.model.specs.Messages.{messageWidth, noMessage, toCoordinator}
 use Rattle.model.specs.Coordinator.{Coordinator, CoordinatorStep, coordinatorReceives}
 use Rattle.model.specs.CoordinatorMemory.{coordinatorIn}
 use Rattle.model.specs.Network.{Network, withCoordinator}
@@ -28,7 +28,7 @@ use Rattle.tracker_delivery.proofs.OneAnswer.{receives-one}
 use Rattle.tracker_delivery.proofs.HoldingLaws.{coordinator-read, coordinator-memory-length, holds-answer, holds-coordinator, coordinator-again}
 use Rattle.tracker_delivery.proofs.GoingLaws.{going-ready, going-stored}
 use Rattle.tracker_delivery.proofs.StepLaws.{Handing, answer-sends}
-use Rattle.tracker_delivery.proofs.HandLaws.{head-accepted, few-rest, rest-waits, room, stored-then}
+use Rattle.tracker_delivery.proofs.HandLaws.{head-accepted, few-rest, rest-waits, room, answer-names, stored-then}
 
 module _ {settings : Settings} {carry : Carrying} (u : Delivering settings carry)
     (hand : Handing settings carry u) where
@@ -105,9 +105,14 @@ module _ {settings : Settings} {carry : Carrying} (u : Delivering settings carry
       abbrev count-is : answer .count ≡ length (after .messages)
       count-is = ap (λ (a : CoordinatorAnswer.Answered). a .count) (did .answer)
 
-      pub coordinator-sends : (answer .count ≡ 0 → ⊥) → SendAsks (trafficOf next) (carry .log)
+      abbrev out-is : answer .out ≡ getD (after .messages) 0 noMessage
+      out-is = ap (λ (a : CoordinatorAnswer.Answered). a .out) (did .answer)
+
+      pub coordinator-sends : (answer .count ≡ 0 → ⊥)
+          → SendAsks (trafficOf next) (answer .out) (carry .held .sites .messages) (carry .log)
       coordinator-sends =
-          answer-sends changed (after .messages) (answer .count) count-is room-then fits
+          answer-sends changed (after .messages) (answer .count) count-is (answer .out) out-is
+          (rw way at (answer-names u hand)) room-then fits
 
       pub coordinator-holds :
           Holds settings (u .given) (u .earlier) (deliveryStep settings (u .now))
@@ -116,6 +121,4 @@ module _ {settings : Settings} {carry : Carrying} (u : Delivering settings carry
       coordinator-holds =
           rw (hand .step-is, way)
           (holds-answer (after .messages) (answer .count) (answer .out) changed
-          (receives-one settings c m) count-is
-          (ap (λ (a : CoordinatorAnswer.Answered). a .out) (did .answer))
-          (few-rest u hand) room-then)
+          (receives-one settings c m) count-is out-is (few-rest u hand) room-then)

@@ -42,7 +42,7 @@ use Rattle.tracker_delivery.proofs.OneAnswer.{site-one}
 use Rattle.tracker_delivery.proofs.HoldingLaws.{part-long, part-starts, site-read, holds-answer, holds-site}
 use Rattle.tracker_delivery.proofs.GoingLaws.{going-fit, going-stage, going-stored}
 use Rattle.tracker_delivery.proofs.StepLaws.{Handing, handing, answer-sends}
-use Rattle.tracker_delivery.proofs.HandLaws.{head-accepted, few-rest, rest-waits, room}
+use Rattle.tracker_delivery.proofs.HandLaws.{head-accepted, few-rest, rest-waits, room, answer-names}
 
 pub siteOfHead-is : (waiting : Queue)
     → (waiting .count ≡ 0 → ⊥)
@@ -148,9 +148,14 @@ module _ {settings : Settings} {carry : Carrying} (u : Delivering settings carry
         abbrev count-is : answer .count ≡ length (after .messages)
         count-is = says .count ∙ ap (λ (x : Site). length (siteReceives x m .messages)) read
 
-        pub site-sends : (answer .count ≡ 0 → ⊥) → SendAsks (trafficOf next) (carry .log)
+        abbrev out-is : answer .reply ≡ getD (after .messages) 0 noMessage
+        out-is = says .reply ∙ ap (λ (x : Site). getD (siteReceives x m .messages) 0 noMessage) read
+
+        pub site-sends : (answer .count ≡ 0 → ⊥)
+            → SendAsks (trafficOf next) (answer .reply) (carry .held .sites .messages) (carry .log)
         site-sends =
-            answer-sends changed (after .messages) (answer .count) count-is room-then fits
+            answer-sends changed (after .messages) (answer .count) count-is (answer .reply) out-is
+            (rw way at (answer-names u hand)) room-then fits
 
         pub site-holds :
             Holds settings (u .given) (u .earlier) (deliveryStep settings (u .now))
@@ -159,9 +164,7 @@ module _ {settings : Settings} {carry : Carrying} (u : Delivering settings carry
         site-holds =
             rw (hand .step-is, way)
             (holds-answer (after .messages) (answer .count) (answer .reply) changed
-            (site-one (siteAt now j) m) count-is
-            (says .reply ∙ ap (λ (x : Site). getD (siteReceives x m .messages) 0 noMessage) read)
-            (few-rest u hand) room-then)
+            (site-one (siteAt now j) m) count-is out-is (few-rest u hand) room-then)
 
 -- There is a record for the site that the head is for, or for site 0.
 pub head-few : {settings : Settings} {carry : Carrying} → Delivering settings carry

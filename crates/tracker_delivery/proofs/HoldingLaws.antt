@@ -4,6 +4,7 @@
 --   Stored                     sites and coordinator have the sizes that the settings say
 --   site-read                  a site, read from its record and its part of the memory
 --   coordinator-read           the coordinator, read from its record and memory
+--   countable                  a message that names a site of the network can be counted
 --   holds-sent, holds-answer   a message went out; the answer of a step, if there is one
 --   holds-coordinator          the coordinator changed
 --   holds-site                 one site changed
@@ -21,22 +22,26 @@ use Rattle.model.specs.declared.SiteRecord.{SiteRecord}
 use Rattle.model.specs.declared.CoordinatorRecord.{CoordinatorRecord}
 use Rattle.model.specs.Limits.{valueCount}
 use Rattle.model.specs.Messages.{messageWidth, noMessage}
-use Rattle.model.specs.Site.{Site}
+use Rattle.model.specs.Site.{Site, oneMoreAt}
 use Rattle.model.specs.SiteMemory.{siteWords, siteIn, siteRecord, siteMemory}
 use Rattle.model.specs.Coordinator.{Coordinator}
 use Rattle.model.specs.CoordinatorMemory.{coordinatorIn, coordinatorRecord, coordinatorMemory}
 use Rattle.model.specs.Network.{Network, siteAt, withSite, withCoordinator}
+use Rattle.model.specs.MessageCounts.{countAt, countedUp}
 use Rattle.model.specs.NetworkMemory.{sitesMemory}
 use Rattle.model.specs.DeliveryClaims.{Delivery, delivery}
+use Rattle.model.proofs.Thresholds.SettingsLaws.{settled}
+use Rattle.model.proofs.MessageCount.CountLaws.{count-le, countedUp-append}
 use Rattle.coordinator_kinds.proofs.MemoryLaws.{written-coordinator}
 use Rattle.site_memory.proofs.OneSite.{overwritten-again}
+use Rattle.site_memory.proofs.SitePart.{few-sites}
 use Rattle.site_memory.proofs.SitesMemoryLaws.{AllStorable, getD-siteRecords, siteRecords-set, length-sitesMemory}
 use Rattle.site_memory.proofs.SitesReading.{siteIn-sitesMemory}
 use Rattle.tracker_delivery.specs.declared.Underway.{Underway}
 use Rattle.tracker_queue.specs.declared.Queue.{Queue}
 use Rattle.tracker_queue.specs.Log.{messageNumbers, putRecord}
 use Rattle.model.specs.Held.{noRecord, withRecord}
-use Rattle.tracker_queue.specs.Sending.{queueOf, sent, SendAsks}
+use Rattle.tracker_queue.specs.Sending.{queueOf, sent, Countable, SendAsks}
 use Rattle.tracker_delivery.specs.UnderwayParts.{trafficOf}
 use Rattle.tracker_delivery.specs.Holding.{WithLog, Carrying, carrying, underwayIn, withMessages, answered, Holds, Fits}
 use Rattle.tracker_queue.proofs.LogLaws.{length-messageNumbers, putRecord-append, joined-queueOf}
@@ -144,14 +149,33 @@ module _ {settings : Settings} {given : WithLog} {earlier : List Message} where
       ∙ length-overwritten (messageNumbers (earlier ++ d .log)) (given .log)
       (omega (arith, length-messageNumbers (earlier ++ d .log)))
 
-  pub send-asks : {d : Delivery} {carry : Carrying}
+  -- Its count was within the limit, and has grown by no more than all that was written.
+  pub countable : {d : Delivery} {carry : Carrying} (m : Message)
       → Fits settings given
       → Holds settings given earlier d carry
+      → m .site < settings .sites
+      → Countable (carry .held .sites .messages) (carry .written) m
+  countable {d} m fits holds known = record {
+    site-few = few-sites (settled settings (fits .settings-accepted)) known;
+    count-within =
+        omega (
+          arith,
+          ap (λ (counts : List ℕ). countAt counts (m .site)) (holds .counted),
+          count-le (given .held .sites .messages) (earlier ++ d .log) (m .site),
+          holds .written,
+          fits .few-counted (m .site) known,
+        );
+  }
+
+  pub send-asks : {d : Delivery} {carry : Carrying} (m : Message)
+      → Fits settings given
+      → Holds settings given earlier d carry
+      → m .site < settings .sites
       → messageWidth * length (earlier ++ d .log) + messageWidth ≤ length (given .log)
-      → SendAsks (trafficOf (underwayIn carry)) (carry .log)
-  send-asks fits holds room = record {
+      → SendAsks (trafficOf (underwayIn carry)) m (carry .held .sites .messages) (carry .log)
+  send-asks m fits holds known room = record {
     room = omega (arith, log-length holds (omega arith), holds .written);
-    count-within = omega (arith, holds .counted, holds .written, fits .count-within);
+    countable = countable m fits holds known;
   }
 
   pub holds-sent : {network : Network} {waiting log : List Message} {carry : Carrying} (m : Message)
@@ -161,6 +185,7 @@ module _ {settings : Settings} {given : WithLog} {earlier : List Message} where
       → Holds settings given earlier
       (delivery network (waiting ++ (m ∷ [])) (log ++ (m ∷ [])))
       (withMessages carry (sent (trafficOf (underwayIn carry)) m)
+      (oneMoreAt (carry .held .sites .messages) (m .site))
       (putRecord (carry .log) (carry .written) m))
   holds-sent {network} {waiting} {log} {carry} m holds few room =
       let all : earlier ++ (log ++ (m ∷ [])) ≡ (earlier ++ log) ++ (m ∷ []) =
@@ -169,7 +194,10 @@ module _ {settings : Settings} {given : WithLog} {earlier : List Message} where
       ap length all ∙ length-snoc (earlier ++ log) m in
       record {
         records = holds .records;
-        counted = omega (arith, holds .counted, more);
+        counted =
+            ap (λ (counts : List ℕ). oneMoreAt counts (m .site)) (holds .counted)
+            ∙ sym (ap (countedUp (given .held .sites .messages)) all
+            ∙ countedUp-append (given .held .sites .messages) (earlier ++ log) (m ∷ []));
         coordinator = holds .coordinator;
         written = omega (arith, holds .written, more);
         waiting = rw (holds .waiting) (joined-queueOf waiting m few);

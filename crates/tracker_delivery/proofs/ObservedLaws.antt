@@ -14,7 +14,7 @@ use Rattle.model.specs.Messages.{messageWidth, noMessage}
 use Rattle.model.specs.Site.{Site, observed, reportsItem, reportsCount}
 use Rattle.model.specs.Network.{Network}
 use Rattle.model.specs.DeliveryClaims.{delivery}
-use Rattle.tracker_queue.specs.Sending.{sentTwo, loggedTwo}
+use Rattle.tracker_queue.specs.Sending.{sentTwo, loggedTwo, countedTwo}
 use Rattle.tracker_delivery.specs.UnderwayParts.{trafficOf}
 use Rattle.tracker_delivery.specs.Holding.{WithLog, Carrying, underwayIn, withMessages, Holds}
 use Rattle.tracker_delivery.proofs.HoldingLaws.{holds-sent}
@@ -45,6 +45,7 @@ pub holds-two : {settings : Settings} {given : WithLog} {earlier : List Message}
     → messageWidth * length (earlier ++ out) ≤ length (given .log)
     → Holds settings given earlier (delivery network out out)
     (withMessages carry (sentTwo count (trafficOf (underwayIn carry)) first second)
+    (countedTwo count (carry .held .sites .messages) first second)
     (loggedTwo count (carry .log) (carry .written) first second))
 holds-two [] count first second holds few count-is first-is second-is room = rw count-is holds
 holds-two {earlier = earlier} (x ∷ []) count first second holds few count-is first-is second-is

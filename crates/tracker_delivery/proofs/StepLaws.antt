@@ -6,17 +6,19 @@
 use mathlib.Core.Path.{_≡_, refl, sym, ap, _∙_, subst, subst⁻¹}
 use mathlib.Core.Bool.{true}
 use mathlib.Core.List.{List, [], _∷_, _++_}
-use Prim.Native.Nat.{ℕ, _*_, _≤_}
+use Prim.Native.Nat.{ℕ, zero, suc, _*_, _≤_, _<_}
 use native.Mathlib.Omega.{arith}
-use lib.ListN.{length, length-append}
+use lib.ListN.{length, getD, length-append}
 use Rattle.model.specs.declared.Settings.{Settings}
 use Rattle.model.specs.declared.Message.{Message}
-use Rattle.model.specs.Messages.{messageWidth}
+use Rattle.model.specs.Messages.{messageWidth, noMessage}
 use Rattle.model.specs.Coordinator.{Coordinator, CoordinatorStep, announced, isAnnouncing}
 use Rattle.model.specs.CoordinatorMemory.{coordinatorIn, coordinatorMemory}
 use Rattle.model.specs.Network.{Network, withCoordinator, handOver, askAnnouncement}
 use Rattle.model.specs.DeliveryClaims.{Delivery, delivery, joining, deliveryStep}
+use Rattle.model.proofs.MessageCount.CountLaws.{NamesBelow, names-at}
 use Rattle.mid_delivery.proofs.Stages.StageFacts.{stage-coordinator}
+use Rattle.mid_delivery.proofs.Stages.StageNames.{joined-names}
 use Rattle.coordinator_kinds.specs.declared.Answered as CoordinatorAnswer
 use Rattle.coordinator_kinds.specs.Steps.{answerOf}
 use Rattle.coordinator_steps.specs.Ready.{AnnounceAsks}
@@ -120,25 +122,29 @@ module _ {settings : Settings} {given : WithLog} {earlier : List Message}
     (out : List Message)
     (count : ℕ)
     (count-is : count ≡ length out)
+    (m : Message)
+    (m-is : m ≡ getD out 0 noMessage)
+    (named : NamesBelow (settings .sites) out)
     (room : messageWidth * length (earlier ++ (log ++ out)) ≤ length (given .log)) where
   pub answer-sends : Fits settings given
       → (count ≡ 0 → ⊥)
-      → SendAsks (trafficOf (underwayIn carry)) (carry .log)
-  answer-sends fits some = by-answer out count-is room
+      → SendAsks (trafficOf (underwayIn carry)) m (carry .held .sites .messages) (carry .log)
+  answer-sends fits some =
+      let some-out : 0 < length out = some-is (length out) count-is in
+      let known : m .site < settings .sites = rw m-is (names-at 0 noMessage named some-out) in
+      send-asks m fits holds known
+      (omega (
+        arith,
+        room,
+        some-out,
+        length-append earlier (log ++ out),
+        length-append log out,
+        length-append earlier log,
+      ))
     where
-      by-answer : (answer : List Message) → count ≡ length answer
-          → messageWidth * length (earlier ++ (log ++ answer)) ≤ length (given .log)
-          → SendAsks (trafficOf (underwayIn carry)) (carry .log)
-      by-answer [] is fits-log = absurd (some is)
-      by-answer (x ∷ xs) is fits-log =
-          send-asks fits holds
-          (omega (
-            arith,
-            fits-log,
-            length-append earlier (log ++ (x ∷ xs)),
-            length-append log (x ∷ xs),
-            length-append earlier log,
-          ))
+      some-is : (n : ℕ) → count ≡ n → 0 < n
+      some-is zero is = absurd (some is)
+      some-is (suc n) is = omega arith
 
 -- ---- The next kind 7
 
@@ -197,9 +203,14 @@ module _ {settings : Settings} {carry : Carrying} (u : Delivering settings carry
     count-is : answer .count ≡ length (after .messages)
     count-is = ap (λ (a : CoordinatorAnswer.Answered). a .count) answer-is
 
-    pub asked-sends : (answer .count ≡ 0 → ⊥) → SendAsks (trafficOf next) (carry .log)
+    out-is : answer .out ≡ getD (after .messages) 0 noMessage
+    out-is = ap (λ (a : CoordinatorAnswer.Answered). a .out) answer-is
+
+    pub asked-sends : (answer .count ≡ 0 → ⊥)
+        → SendAsks (trafficOf next) (answer .out) (carry .held .sites .messages) (carry .log)
     asked-sends =
-        answer-sends changed (after .messages) (answer .count) count-is room
+        answer-sends changed (after .messages) (answer .count) count-is (answer .out) out-is
+        (joined-names [] (going-stage (going-asked (ask .going) (ask .announces)))) room
         (ask .going .accepting .fits)
 
     pub asked-holds :
@@ -212,6 +223,4 @@ module _ {settings : Settings} {carry : Carrying} (u : Delivering settings carry
         (carrying next (carry .held .siteMemory) (carry .held .coordinatorMemory) (carry .log))))
         (ask .step-is)
         (holds-answer (after .messages) (answer .count) (answer .out) changed
-        (announced-one settings c) count-is
-        (ap (λ (a : CoordinatorAnswer.Answered). a .out) answer-is)
-        (omega arith) room)
+        (announced-one settings c) count-is out-is (omega arith) room)

@@ -46,7 +46,6 @@ coordinatorChange own waiting answer = record {
 
 abbrev pub withQueue : Traffic → Queue → Traffic
 withQueue traffic waiting = record {
-  messages = traffic .messages;
   written = traffic .written;
   waiting = waiting;
 }
@@ -55,6 +54,7 @@ abbrev pub changed : Underway → Change → Underway
 changed underway by =
     underwayOf
     (set (underway .sites .records) (siteOfHead (underway .waiting)) (by .site))
+    (underway .sites .messages)
     (by .coordinator)
     (withQueue (trafficOf underway) (by .waiting))
 
@@ -67,7 +67,7 @@ pub record HandedStep
   pub sends : (log : List ℕ)
       → Delivering settings (carrying underway siteMemory coordinatorBefore log)
       → (by .count ≡ 0 → ⊥)
-      → SendAsks (trafficOf (changed underway by)) log
+      → SendAsks (trafficOf (changed underway by)) (by .out) (underway .sites .messages) log
   pub next : (log : List ℕ)
       (u : Delivering settings (carrying underway siteMemory coordinatorBefore log))
       → Holds settings (u .given) (u .earlier) (deliveryStep settings (u .now))
@@ -83,11 +83,12 @@ pub record HandAsks
     (waiting : Queue)
     (siteMemory coordinatorMemory : List ℕ) : Type 0 where
   pub records : List SiteRecord
+  pub counts : List ℕ
   pub traffic : Traffic
   pub log : List ℕ
   pub own-is : own ≡ getD records (siteOfHead waiting) noRecord
   pub delivering : Delivering settings
-      (carrying (underwayOf records coordinator (withQueue traffic waiting)) siteMemory
+      (carrying (underwayOf records counts coordinator (withQueue traffic waiting)) siteMemory
       coordinatorMemory log)
   pub goes-on : goesOn coordinator waiting ≡ true
 
@@ -99,7 +100,7 @@ pub record HandSays
     (waiting : Queue)
     (siteMemory coordinatorBefore coordinatorAfter : List ℕ)
     (by : Change) : Type 0 where
-  pub handed : (records : List SiteRecord) (traffic : Traffic)
+  pub handed : (records : List SiteRecord) (counts : List ℕ) (traffic : Traffic)
       → own ≡ getD records (siteOfHead waiting) noRecord
-      → HandedStep settings (underwayOf records coordinator (withQueue traffic waiting)) siteMemory
-      coordinatorBefore coordinatorAfter by
+      → HandedStep settings (underwayOf records counts coordinator (withQueue traffic waiting))
+      siteMemory coordinatorBefore coordinatorAfter by

@@ -4,7 +4,7 @@
 --   WithLog                what is held, and a log: before the first arrival, what was given
 --   Carrying               a delivery under way with all that it is carried out on
 --   carrying, underwayIn   the same from what code has under way, and back
---   withMessages           with other messages and another log
+--   withMessages           with other messages, counts and another log
 --   answered               the same when the answer of a step has gone out
 --   Holds                  it is the model's delivery, written over what was given
 --   Fits                   what was given has room for the settings' network
@@ -15,7 +15,7 @@
 use mathlib.Core.Path.{_≡_}
 use mathlib.Core.Bool.{Bool, not, _||_}
 use mathlib.Core.List.{List, [], _++_}
-use Prim.Native.Nat.{ℕ, _+_, _≤_}
+use Prim.Native.Nat.{ℕ, _+_, _≤_, _<_}
 use lib.ListN.{length}
 use Rattle.model.specs.declared.Settings.{Settings}
 use Rattle.model.specs.declared.Arrival.{Arrival}
@@ -29,6 +29,7 @@ use Rattle.model.specs.SiteMemory.{overwrite}
 use Rattle.model.specs.Coordinator.{isAnnouncing}
 use Rattle.model.specs.CoordinatorMemory.{coordinatorRecord, coordinatorMemory, coordinatorWords}
 use Rattle.model.specs.Network.{Network, Delivered, afterArrival}
+use Rattle.model.specs.MessageCounts.{countAt, countedUp}
 use Rattle.model.specs.NetworkMemory.{siteRecords, sitesMemory, sitesWords}
 use Rattle.model.specs.Held.{Held, heldBy}
 use Rattle.model.specs.Runs.{refusalIn}
@@ -40,7 +41,7 @@ use Rattle.tracker_queue.specs.declared.Queue.{Queue}
 use Rattle.tracker_queue.specs.declared.Traffic.{Traffic}
 use Rattle.tracker_delivery.specs.declared.Underway.{Underway}
 use Rattle.tracker_queue.specs.Log.{logRoom, messageNumbers}
-use Rattle.tracker_queue.specs.Sending.{queueOf, sentIf, loggedIf}
+use Rattle.tracker_queue.specs.Sending.{queueOf, sentIf, loggedIf, countedIf}
 use Rattle.tracker_delivery.specs.UnderwayParts.{trafficOf, withTraffic}
 
 -- ---- What is held
@@ -74,16 +75,17 @@ underwayIn carry = record {
   waiting = carry .waiting;
 }
 
--- The messages and the log as they are then.
-abbrev pub withMessages : Carrying → Traffic → List ℕ → Carrying
-withMessages carry traffic =
-    carrying (withTraffic (underwayIn carry) traffic) (carry .held .siteMemory)
+-- The messages, their counts and the log as they are then.
+abbrev pub withMessages : Carrying → Traffic → List ℕ → List ℕ → Carrying
+withMessages carry traffic counts =
+    carrying (withTraffic (underwayIn carry) counts traffic) (carry .held .siteMemory)
     (carry .held .coordinatorMemory)
 
 -- The answer of a step has gone out, if there is one.
 abbrev pub answered : ℕ → Message → Carrying → Carrying
 answered count m carry =
     withMessages carry (sentIf count (trafficOf (underwayIn carry)) m)
+    (countedIf count (carry .held .sites .messages) m)
     (loggedIf count (carry .log) (carry .written) m)
 
 -- The messages since the call began: those of earlier arrivals, then the delivery's own.
@@ -96,7 +98,7 @@ pub record Holds
   pub records : carry .held .sites .records
       ≡ siteRecords (d .network .sites) (given .held .sites .records)
   pub counted : carry .held .sites .messages
-      ≡ given .held .sites .messages + length (earlier ++ d .log)
+      ≡ countedUp (given .held .sites .messages) (earlier ++ d .log)
   pub coordinator : carry .held .coordinator ≡ coordinatorRecord (d .network .coordinator)
   pub written : carry .written ≡ length (earlier ++ d .log)
   pub waiting : carry .waiting ≡ queueOf (d .waiting)
@@ -113,7 +115,8 @@ pub record Fits (settings : Settings) (given : WithLog) : Type 0 where
   pub all-records : settings .sites ≤ length (given .held .sites .records)
   pub site-memory-long : sitesWords settings ≤ length (given .held .siteMemory)
   pub coordinator-memory-long : coordinatorWords settings ≤ length (given .held .coordinatorMemory)
-  pub count-within : given .held .sites .messages ≤ messageLimit
+  pub few-counted : (j : ℕ) → j < settings .sites
+      → countAt (given .held .sites .messages) j ≤ messageLimit
 
 -- An arrival that a network at rest accepts, with a log that has place for all its messages.
 pub record Accepting

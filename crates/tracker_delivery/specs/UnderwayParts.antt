@@ -1,8 +1,8 @@
--- What is under way, in parts: the records, and the messages that crate `tracker_queue` writes and
--- counts.
+-- What is under way, in parts: the records, the counts of messages, and the messages that crate
+-- `tracker_queue` writes and counts.
 --
 --   resting ..                    a network at rest: nothing waits
---   trafficOf underway            the messages of what is under way
+--   trafficOf underway            the messages of what is under way, but for their counts
 --   underwayOf, withTraffic       what is under way, put together from its parts
 use mathlib.Core.List.{List}
 use Prim.Native.Nat.{ℕ}
@@ -23,18 +23,18 @@ resting sites coordinator written = record {
 
 abbrev pub trafficOf : Underway → Traffic
 trafficOf underway = record {
-  messages = underway .sites .messages;
   written = underway .written;
   waiting = underway .waiting;
 }
 
-abbrev pub underwayOf : List SiteRecord → CoordinatorRecord → Traffic → Underway
-underwayOf records coordinator traffic = record {
-  sites = record { records = records; messages = traffic .messages };
+abbrev pub underwayOf : List SiteRecord → List ℕ → CoordinatorRecord → Traffic → Underway
+underwayOf records counts coordinator traffic = record {
+  sites = record { records = records; messages = counts };
   coordinator = coordinator;
   written = traffic .written;
   waiting = traffic .waiting;
 }
 
-abbrev pub withTraffic : Underway → Traffic → Underway
-withTraffic underway = underwayOf (underway .sites .records) (underway .coordinator)
+abbrev pub withTraffic : Underway → List ℕ → Traffic → Underway
+withTraffic underway counts =
+    underwayOf (underway .sites .records) counts (underway .coordinator)

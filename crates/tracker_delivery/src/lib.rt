@@ -87,10 +87,12 @@ pub fn at_rest(sites: Sites, coordinator: CoordinatorRecord, written: u64) -> Un
 }
 
 // A delivery to its end. The records of the sites are changed in their places here, and handed to
-// no function: 32 of them would be copied for each message.
+// no function: 32 of them would be copied for each message. So are the counts of messages, which
+// are lent to what counts.
 fn deliver(
     settings: Settings,
     mut records: [SiteRecord; SITE_RECORDS],
+    mut counts: [u64; SITE_RECORDS],
     mut coordinator: CoordinatorRecord,
     mut traffic: Traffic,
     site_memory: &[Word],
@@ -98,10 +100,10 @@ fn deliver(
     log: &mut [u64],
 ) -> Underway
     requires { ⌜ Delivering settings
-        (carrying (underwayOf records coordinator traffic)
+        (carrying (underwayOf records counts coordinator traffic)
         (now «site_memory») (now «coordinator_memory») (now log)) ⌝ }
     ensures { λ r. ⌜ EndSays settings
-        (carrying (underwayOf records coordinator traffic) (before «site_memory»)
+        (carrying (underwayOf records counts coordinator traffic) (before «site_memory»)
         (before «coordinator_memory») (before log))
         (carrying r (before «site_memory»)
         (after «coordinator_memory») (after log)) ⌝ }
@@ -123,11 +125,11 @@ fn deliver(
         records[which] = site_then;
         coordinator = coordinator_then;
         traffic.waiting = waiting_then;
-        traffic = send_answer(traffic, by.count, by.out, log);
+        traffic = send_answer(traffic, by.count, by.out, &mut counts, log);
     }
     let sites = Sites {
         records: records,
-        messages: traffic.messages,
+        messages: counts,
     };
     let waiting = traffic.waiting;
     Underway {
@@ -177,15 +179,16 @@ pub fn deliver_messages(
 {
     let waiting = underway.waiting;
     let traffic = Traffic {
-        messages: underway.sites.messages,
         written: underway.written,
         waiting: waiting,
     };
-    let begun = send_two(traffic, out.count, out.first, out.second, log);
+    let mut counts = underway.sites.messages;
+    let begun = send_two(traffic, out.count, out.first, out.second, &mut counts, log);
     let records = underway.sites.records;
     deliver(
         settings,
         records,
+        counts,
         underway.coordinator,
         begun,
         site_memory,

@@ -10,12 +10,12 @@ use Rattle.model.specs.declared.Settings.{Settings}
 use Rattle.model.specs.declared.Sites.{Sites}
 use Rattle.model.specs.declared.CoordinatorRecord.{CoordinatorRecord}
 use Rattle.model.specs.Refusals.{noRefusal}
-use Rattle.model.specs.Limits.{messageLimit}
 use Rattle.model.specs.NetworkMemory.{networkIn, networkRefusal}
 use Rattle.model.specs.SoundNetwork.{Sound}
 use Rattle.model.specs.NumberClaims.{Bounded}
 use Rattle.model.proofs.Thresholds.SettingsLaws.{settled}
 use Rattle.mid_delivery.proofs.Numbers.NumberBounds.{bounded-start}
+use Rattle.model.proofs.MessageCount.Counts.{FewCounted}
 use Rattle.model.proofs.Soundness.ConsistentNetwork.{passes-of}
 use Rattle.site_memory.proofs.SitesReading.{enough-records, used-within}
 use Rattle.model.specs.Held.{noRecord}
@@ -30,7 +30,7 @@ pub record Passing (settings : Settings) (sites : Sites) (coordinator : Coordina
   pub sound : Sound settings
       (networkIn settings sites coordinator siteMemory coordinatorMemory)
   pub bounded : Bounded (networkIn settings sites coordinator siteMemory coordinatorMemory)
-  pub count-within : sites .messages ≤ messageLimit
+  pub few-counted : FewCounted (settings .sites) (sites .messages)
 
 pub passing : (settings : Settings) (sites : Sites) (coordinator : CoordinatorRecord)
     (siteMemory coordinatorMemory : List ℕ)
@@ -58,5 +58,5 @@ passing settings sites coordinator siteMemory coordinatorMemory none =
             estimates-within = passes .within .estimates-within;
             values-within = passes .within .values-within;
           });
-      count-within = passes .count-within;
+      few-counted = passes .few-counted;
     }

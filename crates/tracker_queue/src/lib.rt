@@ -1,5 +1,5 @@
-// Messages that go out: each is written to the log, counted, and waits last, until it is handed
-// over. The functions are internal: the deliveries of crates `tracker_delivery` and
+// Messages that go out: each is written to the log, counted for the site that it names, and waits
+// last, until it is handed over. The functions are internal: the deliveries of crates `tracker_delivery` and
 // `single_delivery`, and the parts of the batch call, call them, and what they require follows from
 // what these require.
 ghost use Rattle.model.specs.Lent.{before, after};
@@ -12,6 +12,7 @@ ghost use Rattle.tracker_queue.specs.Sending.{nothingWaits, joined, with
 use messages::no_message;
 use model::MESSAGE_WIDTH;
 use model::Message;
+use model::SITE_RECORDS;
 
 // The messages that wait to be handed over, or are to go out: two at most, since an arrival sends
 // two at most, and every hand-over is answered by one at most. An absent one is all zeros.
@@ -21,10 +22,8 @@ pub struct Queue {
     pub second: Message,
 }
 
-// The messages of a delivery under way: how many the network has counted, how many stand in the
-// log, and those that wait.
+// The messages of a delivery under way: how many stand in the log, and those that wait.
 pub struct Traffic {
-    pub messages: u64,
     pub written: u64,
     pub waiting: Queue,
 }
@@ -87,30 +86,45 @@ fn write_record(log: &mut [u64], place: u64, message: Message)
     log[at + 3] = message.b;
 }
 
-// A message goes out: it is written to the log, counted, and waits last. No other place writes a
-// record of the log, or counts one.
-fn send(traffic: Traffic, message: Message, log: &mut [u64]) -> Traffic
-    requires { ⌜ SendAsks traffic (now log) ⌝ }
-    ensures { λ r. ⌜ SendSays traffic message (before log) r (after log) ⌝ }
+// A message goes out: it is written to the log, counted for the site that it names, and waits last.
+// No other place writes a record of the log, or counts one.
+fn send(
+    traffic: Traffic,
+    message: Message,
+    counts: &mut [u64; SITE_RECORDS],
+    log: &mut [u64],
+) -> Traffic
+    requires { ⌜ SendAsks traffic message (now counts) (now log) ⌝ }
+    ensures { λ r. ⌜ SendSays traffic message (before counts) (before log) r
+        (after counts) (after log) ⌝ }
 {
     write_record(log, traffic.written, message);
+    let written = traffic.written + 1;
+    let which = message.site as usize;
+    counts[which] = counts[which] + 1;
     let waiting = join(traffic.waiting, message);
     Traffic {
-        messages: traffic.messages + 1,
-        written: traffic.written + 1,
+        written: written,
         waiting: waiting,
     }
 }
 
 // The answer of a step goes out, if it has one. Internal: the log has room by the test for 14.
-pub fn send_answer(traffic: Traffic, count: u32, message: Message, log: &mut [u64]) -> Traffic
-    requires { ⌜ ((count ≡ 0 → ⊥) → SendAsks traffic (now log)) ⌝ }
-    ensures { λ r. ⌜ AnswerSays count traffic message (before log) r (after log) ⌝ }
+pub fn send_answer(
+    traffic: Traffic,
+    count: u32,
+    message: Message,
+    counts: &mut [u64; SITE_RECORDS],
+    log: &mut [u64],
+) -> Traffic
+    requires { ⌜ ((count ≡ 0 → ⊥) → SendAsks traffic message (now counts) (now log)) ⌝ }
+    ensures { λ r. ⌜ AnswerSays count traffic message (before counts) (before log) r
+        (after counts) (after log) ⌝ }
 {
     if count == 0 {
         return traffic;
     }
-    send(traffic, message, log)
+    send(traffic, message, counts, log)
 }
 
 // The messages of an arrival go out, of which there are `count`. Internal, as `send_answer`.
@@ -119,14 +133,16 @@ pub fn send_two(
     count: u32,
     first: Message,
     second: Message,
+    counts: &mut [u64; SITE_RECORDS],
     log: &mut [u64],
 ) -> Traffic
-    requires { ⌜ SendTwoAsks count traffic (now log) ⌝ }
-    ensures { λ r. ⌜ SendTwoSays count traffic first second (before log) r (after log) ⌝ }
+    requires { ⌜ SendTwoAsks count traffic first second (now counts) (now log) ⌝ }
+    ensures { λ r. ⌜ SendTwoSays count traffic first second (before counts) (before log) r
+        (after counts) (after log) ⌝ }
 {
-    let next = send_answer(traffic, count, first, log);
+    let next = send_answer(traffic, count, first, counts, log);
     if count == 2 {
-        return send(next, second, log);
+        return send(next, second, counts, log);
     }
     next
 }

@@ -33,6 +33,8 @@ use Rattle.mid_delivery.proofs.Stages.Stages.{Stage}
 use Rattle.mid_delivery.proofs.Stages.MidDelivery.{hand-on, ask-on, Finishes, MidDelivery, mid-handed, mid-asked}
 use Rattle.mid_delivery.proofs.Stages.SoundStages.{together-of-sound, start-stage, sound-at-rest}
 use Rattle.mid_delivery.proofs.Stages.StageFacts.{stage-sites, stage-coordinator, stage-total, stage-sum}
+use Rattle.mid_delivery.proofs.Stages.StageNames.{stage-names, joined-names}
+use Rattle.model.proofs.MessageCount.CountLaws.{NamesBelow, names-append}
 use Rattle.model.proofs.Soundness.NeverFalls.{NoLess, steps-no-less}
 
 -- ---- Started fresh
@@ -69,10 +71,11 @@ fresh-sound settings no-refusal =
 -- ---- The steps of a delivery
 
 module _ (settings : Settings) (final : Network) (all : List Message) (fit : Settled settings) where
-  -- A delivery in mid-way, with some steps left.
+  -- A delivery in mid-way, with some steps left; all that went out names sites of the network.
   record Somewhere (d : Delivery) : Type 0 where
     left : ℕ
     mid : MidDelivery settings final all left d
+    named : NamesBelow (settings .sites) (d .log)
 
   somewhere-step : (d : Delivery) → Somewhere d → Somewhere (deliveryStep settings d)
   somewhere-step d there =
@@ -86,13 +89,20 @@ module _ (settings : Settings) (final : Network) (all : List Message) (fit : Set
           by-phase : (announces : Bool) → isAnnouncing (network .coordinator .phase) ≡ announces
               → Somewhere (deliveryStep settings (delivery network [] log))
           by-phase true announces =
+              let asked-on = mid-asked (there′ .mid) announces in
               rw announces (record {
                 left = there′ .left - 1;
-                mid = mid-asked (there′ .mid) announces;
+                mid = asked-on;
+                named = names-append (there′ .named) (joined-names [] (asked-on .stage));
               })
           by-phase false silent = rw silent there′
       by-queue network (m ∷ waiting) log there′ =
-          record { left = there′ .left - 1; mid = mid-handed fit (there′ .mid) }
+          let handed-on = mid-handed fit (there′ .mid) in
+          record {
+            left = there′ .left - 1;
+            mid = handed-on;
+            named = names-append (there′ .named) (joined-names waiting (handed-on .stage));
+          }
 
   somewhere-steps : (fuel : ℕ) (d : Delivery)
       → Somewhere d
@@ -129,13 +139,29 @@ module _ (settings : Settings) (network : Network) (arrival : Arrival)
   mid-start : MidDelivery settings final all (mostSteps settings) start
   mid-start = record { stage = start-stage fit sound taken; finishes = start-finishes }
 
+  -- The model's delivery, at its end.
+  at-the-end : Somewhere settings final all fit
+      (deliverySteps (deliveryFuel settings) settings start)
+  at-the-end =
+      somewhere-steps settings final all fit (deliveryFuel settings) start
+      (record {
+        left = mostSteps settings;
+        mid = mid-start;
+        named = stage-names (mid-start .stage);
+      })
+
+  ended : deliverySteps (deliveryFuel settings) settings start ≡ delivery final [] all
+  ended = start-finishes .ends (deliveryFuel settings) (omega arith)
+
+  -- All its messages name sites of the network.
+  pub names-after : NamesBelow (settings .sites) all
+  names-after =
+      subst (λ (d : Delivery). NamesBelow (settings .sites) (d .log)) ended (at-the-end .named)
+
   -- The network that the model's delivery comes to is sound.
   sound-after : Sound settings final
   sound-after =
-      let there = somewhere-steps settings final all fit (deliveryFuel settings) start
-      (record { left = mostSteps settings; mid = mid-start }) in
-      let ended : deliverySteps (deliveryFuel settings) settings start ≡ delivery final [] all =
-      start-finishes .ends (deliveryFuel settings) (omega arith) in
+      let there = at-the-end in
       let stage : Stage settings final [] (there .left) = rw ended at (there .mid .stage) in
       let idle : final .coordinator .phase ≡ Idle =
       rw ended at (delivery-claims .comes-to-rest settings network arrival (sound .idle) .idle) in
@@ -166,6 +192,20 @@ module _ (settings : Settings) (network : Network) (arrival : Arrival)
         in-all = omega (arith, there .in-all);
         mid = mid-asked (there .mid) announces;
       }
+
+  -- All that went out of a delivery that was reached names sites of the network.
+  pub reached-names : (n : ℕ) (d : Delivery)
+      → Reached settings start n d
+      → NamesBelow (settings .sites) (d .log)
+  reached-names n d begun = stage-names (mid-start .stage)
+  reached-names n d (handed before now m waiting log earlier) =
+      let there = reached-left before (delivery now (m ∷ waiting) log) earlier in
+      names-append (reached-names before (delivery now (m ∷ waiting) log) earlier)
+      (joined-names waiting (mid-handed fit (there .mid) .stage))
+  reached-names n d (asked before now waiting log earlier announces) =
+      let there = reached-left before (delivery now waiting log) earlier in
+      names-append (reached-names before (delivery now waiting log) earlier)
+      (joined-names waiting (mid-asked (there .mid) announces .stage))
 
   -- Where nothing waits and nothing is to be asked for, more steps change nothing.
   ends-there : (left : ℕ) (d : Delivery)

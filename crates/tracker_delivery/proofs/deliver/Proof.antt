@@ -17,16 +17,18 @@ use Rattle.tracker_delivery.proofs.deliver.Statement.{statement}
 use Rattle.tracker_delivery.proofs.deliver.Tie as tie
 
 abbrev Inv-loop : tie.InvT-loop
-Inv-loop settings coordinator₀ traffic₀ site-memory coordinator-memory₀ log₀ records₀ coordinator
-    traffic coordinator-memory log records =
+Inv-loop settings coordinator₀ traffic₀ site-memory coordinator-memory₀ log₀ records₀ counts₀
+    coordinator traffic coordinator-memory log records counts =
     (u : Delivering settings
-    (carrying (underwayOf records₀ coordinator₀ traffic₀) site-memory coordinator-memory₀ log₀))
-    → After u (carrying (underwayOf records coordinator traffic) site-memory coordinator-memory log)
+    (carrying (underwayOf records₀ counts₀ coordinator₀ traffic₀) site-memory coordinator-memory₀
+    log₀))
+    → After u
+    (carrying (underwayOf records counts coordinator traffic) site-memory coordinator-memory log)
 
 abbrev μ-loop : tie.MeasureT-loop
-μ-loop settings coordinator₀ traffic₀ site-memory coordinator-memory₀ log₀ records₀ coordinator
-    traffic coordinator-memory log records =
-    leftToDo (underwayOf records coordinator traffic) (length log)
+μ-loop settings coordinator₀ traffic₀ site-memory coordinator-memory₀ log₀ records₀ counts₀
+    coordinator traffic coordinator-memory log records counts =
+    leftToDo (underwayOf records counts coordinator traffic) (length log)
 
 loop-holds : tie.Need-loop-holds Inv-loop μ-loop
 loop-holds c = λ u. after-start u
@@ -53,6 +55,7 @@ hand-over-requires c κs =
     let u = looped .before .before .before .before .pre in
     record {
       records = looped .loop .records;
+      counts = looped .loop .counts;
       traffic = looped .loop .traffic;
       log = looped .loop .log;
       own-is = ap (λ (j : ℕ). getD (looped .loop .records) j noRecord)
@@ -71,24 +74,26 @@ array-set-from-records c =
 
 send-answer-requires : tie.Need-send-answer-requires Inv-loop μ-loop
 send-answer-requires c κs =
-    let handed = c .before .before .before .before .before .before in
+    let handed = c .before .before .before .before .before .before .before in
     let found = handed .before .before .before in
     let looped = found .before .before .before in
     let u = looped .before .before .before .before .pre in
-    send-asks (looped .loop .records) (looped .loop .traffic) (looped .loop .log) _
+    send-asks (looped .loop .records) (looped .loop .counts) (looped .loop .traffic)
+    (looped .loop .log) _
     (found .site-of-head .ensures) (handed .hand-over .ensures)
     (delivering-after u (looped .loop .inv u))
 
 loop-less : tie.Need-loop-less Inv-loop μ-loop
 loop-less c =
     let sent = c .before .before in
-    let handed = sent .before .before .before .before .before .before .before in
+    let handed = sent .before .before .before .before .before .before .before .before in
     let found = handed .before .before .before in
     let looped = found .before .before .before in
     let goes = sym (found .before .before .goes-on .ensures)
     ∙ found .before .if1 .taken in
     let says =
-    answered-step (looped .loop .records) (looped .loop .traffic) (looped .loop .log) _
+    answered-step (looped .loop .records) (looped .loop .counts) (looped .loop .traffic)
+    (looped .loop .log) _
     (found .site-of-head .ensures) (handed .hand-over .ensures) (sent .send-answer .ensures) in
     let u = looped .before .before .before .before .pre in
     let now = delivering-after u (looped .loop .inv u) in
@@ -97,13 +102,14 @@ loop-less c =
 loop-again : tie.Need-loop-again Inv-loop μ-loop
 loop-again c =
     let sent = c .before .before in
-    let handed = sent .before .before .before .before .before .before .before in
+    let handed = sent .before .before .before .before .before .before .before .before in
     let found = handed .before .before .before in
     let looped = found .before .before .before in
     let goes = sym (found .before .before .goes-on .ensures)
     ∙ found .before .if1 .taken in
     let says =
-    answered-step (looped .loop .records) (looped .loop .traffic) (looped .loop .log) _
+    answered-step (looped .loop .records) (looped .loop .counts) (looped .loop .traffic)
+    (looped .loop .log) _
     (found .site-of-head .ensures) (handed .hand-over .ensures) (sent .send-answer .ensures) in
     λ u. after-step u (looped .loop .inv u) goes says
 

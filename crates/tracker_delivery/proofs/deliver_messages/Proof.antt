@@ -6,12 +6,12 @@ use Rattle.tracker_delivery.proofs.deliver_messages.Statement.{statemen
 use Rattle.tracker_delivery.proofs.deliver_messages.Tie as tie
 
 send-two-requires : tie.Need-send-two-requires
-send-two-requires c κs = two-ask (c .before .before .before .before .before .pre .taken)
+send-two-requires c κs = two-ask (c .before .before .before .before .before .before .before .pre .taken)
 
 deliver-requires : tie.Need-deliver-requires
 deliver-requires c κs =
     let sent = c .before .before .before .before .before in
-    let u = sent .before .before .before .before .before .before .pre in
+    let u = sent .before .before .before .before .before .before .before .before .pre in
     delivering-begun u (begun-holds (u .taken) (sent .send-two .ensures))
 
 same-length : tie.Need-same-length

@@ -7,20 +7,24 @@ use Rattle.tracker_queue.proofs.send_answer.Tie as tie
 returns : tie.Need-returns
 returns c =
     let none = eq-eqb (c .before .before .args .count) 0 (c .if1 .taken) in
-    record { goes-out = rw none; logged = rw none }
+    record { goes-out = rw none; counted = rw none; logged = rw none }
 
 send-requires : tie.Need-send-requires
-send-requires c κs = c .before .before .before .pre (c .before .if1 .left)
+send-requires c κs = c .before .before .before .before .pre (c .before .before .if1 .left)
 
 same-length : tie.Need-same-length
 same-length c = search needs
 
 returns-2 : tie.Need-returns-2
 returns-2 c =
-    let start = c .before .before .before .before .before .before in
-    let some = ne-eqb (start .args .count) 0 (c .before .before .before .before .if1 .left) in
+    let left = c .before .before .before .before .before in
+    let some = ne-eqb (left .before .before .args .count) 0 (left .if1 .left) in
     let says = c .before .before .send .ensures in
-    record { goes-out = rw some (says .goes-out); logged = rw some (says .logged) }
+    record {
+      goes-out = rw some (says .goes-out);
+      counted = rw some (says .counted);
+      logged = rw some (says .logged);
+    }
 
 pub send-answer-spec : {M : Type 1} → statement M
 send-answer-spec = tie.close (tie.spec returns send-requires same-length returns-2)

@@ -8,38 +8,45 @@ use Rattle.tracker_queue.proofs.send_two.Tie as tie
 
 send-answer-requires : tie.Need-send-answer-requires
 send-answer-requires c κs =
-    let start = c .before .before in
-    some-asks (start .args .count) (start .args .traffic) (start .args .log .now) (start .pre)
+    let start = c .before .before .before in
+    let a = start .args in
+    some-asks (a .count) (a .traffic) (a .first) (a .second) (a .counts .now) (a .log .now)
+    (start .pre)
 
 send-requires : tie.Need-send-requires
 send-requires c κs =
-    let called = c .before .before .before .before in
-    let start = called .before .before .before in
+    let called = c .before .before .before .before .before in
+    let start = called .before .before .before .before in
     let a = start .args in
-    second-asks (a .count) (a .traffic) (a .first) (a .second) (a .log .now)
-    (c .before .if1 .taken)
-    _ _ (called .send-answer .ensures) (start .pre)
+    second-asks (a .count) (a .traffic) (a .first) (a .second) (a .counts .now) (a .log .now)
+    (c .before .before .if1 .taken)
+    _ _ _ (called .send-answer .ensures) (start .pre)
 
 same-length : tie.Need-same-length
 same-length c = search needs
 
 returns : tie.Need-returns
 returns c =
-    let tested = c .before .before .before .before in
+    let tested = c .before .before .before .before .before in
     let called = tested .before .before .before in
-    let a = called .before .before .before .args in
-    two-said (a .count) (a .traffic) (a .first) (a .second) (a .log .now) (tested .if1 .taken)
-    _ _ (called .send-answer .ensures) (c .before .before .send .ensures)
+    let a = called .before .before .before .before .args in
+    two-said (a .count) (a .traffic) (a .first) (a .second) (a .counts .now) (a .log .now)
+    (tested .if1 .taken)
+    _ _ _ (called .send-answer .ensures) (c .before .before .send .ensures)
 
 same-length-2 : tie.Need-same-length-2
 same-length-2 c = search needs
 
 returns-2 : tie.Need-returns-2
 returns-2 c =
-    let start = c .before .before .before .before .before .before in
+    let start = c .before .before .before .before .before .before .before in
     let once = c .before .before .before .send-answer in
     let one = ne-eqb (start .args .count) 2 (c .if1 .left) in
-    record { go-out = rw one (once .ensures .goes-out); logged = rw one (once .ensures .logged) }
+    record {
+      go-out = rw one (once .ensures .goes-out);
+      counted = rw one (once .ensures .counted);
+      logged = rw one (once .ensures .logged);
+    }
 
 pub send-two-spec : {M : Type 1} → statement M
 send-two-spec =

@@ -4,6 +4,7 @@
 --   counts   from where the turn was taken to where it was counted
 -- Numbers behind `move` count the context's items, as `cell` of Locals does.
 use Rattle.walks.proofs.Kit.{_≡_, refl, sym, _∙_, subst, ℕ, _<_, _*_, _^_, _+_, arith, List, [], _∷_, length, fullShare, tyPtr, w32, w64, Val, vint, vptr, vstruct, vnil, vcons, SProp, fat, afterTurn, ‵, anyQ, Sq, runs, _$_, !, rewrite, whole, sub, look-in, store-in, look, init, forget, stop, hop, fld, from, load, addr, lit, of-opd, bin, assigns, arrayVal, place-is}
+use mathlib.Core.List.{map}
 use Rattle.model.specs.declared.Arrival.{Arrival}
 use Rattle.model.specs.Limits.{mostSites}
 use Rattle.model.specs.Held.{noRecord}
@@ -24,12 +25,17 @@ use Rattle.tracker.proofs.run_batch.Proof.Sending.{taken, sending}
 pub record-fits : (k : ℕ) → k < mostSites → k * recordSize < 2 ^ 64
 record-fits k within = omega (arith, within)
 
+-- The values of the counts of messages, as the machine has them.
+abbrev countsValue : List ℕ → Val
+countsValue counts = arrayVal (map (vint w64) (map (λ (count : ℕ). count) counts))
+
 -- The answer's value, with other values of its records.
 abbrev holding : BatchAnswer → List Val → Val
 holding next us =
     vstruct (vcons (vint w32 (next .refusal)) (vcons (vint w64 (next .accepted))
     (vcons (vint w64 (next .written))
-    (vcons (vstruct (vcons (arrayVal us) (vcons (vint w64 (next .sites .messages)) vnil)))
+    (vcons (vstruct (vcons (arrayVal us)
+    (vcons (countsValue (next .sites .messages)) vnil)))
     (vcons (VD (next .coordinator)) vnil)))))
 
 module _ {M : Type 1} (logic : Logic M) (f : Called) (l : Places) (i : ℕ) (turn : Turn)

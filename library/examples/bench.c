@@ -84,6 +84,8 @@ int main(void) {
     } while (refusal == TRACKER_LOG_TOO_SHORT && counts.accepted);
     must(refusal, "run");
     printf("in batches: %zu draws, %zu messages in %zu logs\n", taken, written, emptied);
+    for (i = 0; i < DECKS; i++)
+        printf("deck %zu: %" PRIu64 " messages\n", i, batch.decks.messages[i]);
     n = !memcmp(sent, logged, sizeof sent) && !memcmp(&single.desk, &batch.desk, sizeof batch.desk);
     printf("the same messages and desk: %s\n", n ? "yes" : "no");
     must(tracker_desk_list(&settings, &batch.desk, batch.desk_memory, IN_DESK, codes,

@@ -110,7 +110,15 @@ fn a_full_bench() {
 /// The files of tests/files: the sum that they end in.
 #[test]
 fn saved_files() {
-    for name in ["a_fresh", "a_after_p3", "a_announcing"] {
+    for name in [
+        "a_fresh",
+        "a_after_p3",
+        "a_announcing",
+        "two_decks",
+        "two_decks_older",
+        "three_probing",
+        "three_probing_older",
+    ] {
         let path = format!("{}/../files/{name}.bench", env!("CARGO_MANIFEST_DIR"));
         let file = std::fs::read(path).expect("the file is there");
         let (summed, sum) = file.split_at(file.len() - 2);

@@ -8,6 +8,7 @@ pub mod account;
 pub mod causes;
 pub mod counts;
 pub mod defects;
+pub mod files;
 pub mod firm;
 pub mod full;
 pub mod never_arose;

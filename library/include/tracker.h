@@ -109,11 +109,11 @@ typedef struct {
     uint64_t draws, pending, threshold, slots_in_use, forgotten;
 } tracker_deck;
 
-/* All decks of a bench, those from k on unused. messages[d] counts the messages since the start that
- * name deck d, to the desk and from it. tracker_run alone adds to it, one for each message that it
- * writes to the log. One of the first k above 100,000,000,000,000 is inconsistent (11); their sum,
- * the bench's total, has no limit. Those from k on are neither tested nor changed: a start and a
- * reading set them 0. */
+/* All decks of a bench, those from k on unused. messages[d] counts the messages since the start
+ * that name deck d, to the desk and from it. tracker_run alone adds to it, one for each message
+ * that it writes to the log. One of the first k above 100,000,000,000,000 is inconsistent (11);
+ * their sum, the bench's total, has no limit. Those from k on are neither tested nor changed: a
+ * start and a reading set them 0. */
 typedef struct {
     tracker_deck deck[TRACKER_MOST_DECKS];
     uint64_t messages[TRACKER_MOST_DECKS];
@@ -283,10 +283,10 @@ uint32_t tracker_desk_class(const tracker_settings *settings, const tracker_desk
  *
  * All numbers are little-endian: the settings and the desk part (the desk's memory, its record, the
  * first k of decks->messages) have 8 bytes, each deck's (memory, record) 4; then offset of the desk
- * part and of the first deck (4 bytes each), 4 for the width of a deck's numbers (2), the sum of all
- * bytes before modulo 65,536 (2). The sum finds every change of one byte; it does not find bytes
- * that changed places. An older file, with one count of messages for the bench, has the same bytes
- * where the bench has one deck, and is read; of two or more decks it is 15. */
+ * part and of the first deck (4 bytes each), 4 for the width of a deck's numbers (2), the sum of
+ * all bytes before modulo 65,536 (2). The sum finds every change of one byte; it does not find
+ * bytes that changed places. An older file, with one count of messages for the bench, has the same
+ * bytes where the bench has one deck, and is read; of two or more decks it is 15. */
 #define TRACKER_FILE_BYTES(decks, slots, codes)            \
     (48 + 8 * ((size_t)(codes) + 1034 + (size_t)(decks)) + \
      4 * (size_t)(decks) * (4 * (size_t)(slots) + 1029) + 12)
@@ -301,11 +301,12 @@ uint32_t tracker_save(const tracker_settings *settings, const tracker_decks *dec
                       const uint64_t *desk_memory, size_t desk_numbers, uint8_t *bytes, size_t room,
                       size_t *length);
 
-/* The `length` bytes at `file` are the whole file: with a byte more it is 15. Settings, both records
- * and the counts of messages become the file's; those of decks from k on are as started. Every test
- * comes before the first change. An accepted file that is read and saved again has the same bytes.
- * Writes: *settings, *decks, *desk, of both memories what these settings ask for. Refuses: 15 (too
- * short, or the width unknown), 16, 1, 2, 3, 15 (offset, length or phase), 4, 11. */
+/* The `length` bytes at `file` are the whole file: with a byte more it is 15. Settings, both
+ * records and the counts of messages become the file's; those of decks from k on are as started.
+ * Every test comes before the first change. An accepted file that is read and saved again has the
+ * same bytes. Writes: *settings, *decks, *desk, of both memories what these settings ask for.
+ * Refuses: 15 (too short, or the width unknown), 16, 1, 2, 3, 15 (offset, length or phase), 4,
+ * 11. */
 uint32_t tracker_load(const uint8_t *file, size_t length, tracker_settings *settings,
                       tracker_decks *decks, tracker_desk *desk, uint32_t *deck_memory,
                       size_t deck_numbers, uint64_t *desk_memory, size_t desk_numbers);

@@ -100,8 +100,8 @@ fn long_ones() {
     }
 }
 
-/// A full bench, and the length that request N4's page names: "2,200,338 bytes, 275,042 rounds and 2
-/// single bytes".
+/// A full bench, and the length that request N4's page names: "2,200,338 bytes, 275,042 rounds and
+/// 2 single bytes".
 #[test]
 fn a_full_bench() {
     for (length, expected) in [(FULL, 275_073), (2_200_338, 275_042)] {

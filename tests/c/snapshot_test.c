@@ -244,21 +244,21 @@ static uint64_t number_at(size_t place, size_t bytes) {
 
 static void count_checks(void) {
     static const tracker_settings settings = {2, 1000, 1000, 500, SLOTS, CODES};
-    static const tracker_draw draws[2] = {{0, 7, 3}, {1, 7, 3}};
-    static tracker_message log[2 * TRACKER_MOST_MESSAGES(2)];
+    static const tracker_draw draws[3] = {{0, 7, 3}, {1, 7, 3}, {1, 7, 3}};
+    static tracker_message log[3 * TRACKER_MOST_MESSAGES(2)];
     tracker_counts counts;
     size_t i;
     memset(&two, 0, sizeof two);
     two.settings = settings;
     check(tracker_start_decks(&settings, &two.decks, two.deck_memory, IN_DECKS) == 0 &&
               tracker_start_desk(&settings, &two.desk, two.desk_memory, IN_DESK) == 0 &&
-              tracker_run(&settings, &two.decks, &two.desk, draws, 2, two.deck_memory, IN_DECKS,
-                          two.desk_memory, IN_DESK, log, 2 * TRACKER_LOG_NUMBERS(2), &counts) == 0,
-          "two decks with a draw each");
+              tracker_run(&settings, &two.decks, &two.desk, draws, 3, two.deck_memory, IN_DECKS,
+                          two.desk_memory, IN_DESK, log, 3 * TRACKER_LOG_NUMBERS(2), &counts) == 0,
+          "two decks that have drawn");
     /* Those of decks that the bench has not are neither tested nor saved, and come back 0. */
     for (i = 2; i < TRACKER_MOST_DECKS; i++) two.decks.messages[i] = UINT64_MAX;
     check(save_two() == 0 && TWO_BYTES == 16852 && number_at(COUNTS, 8) == 5 &&
-              number_at(COUNTS + 8, 8) == 5 && number_at(TWO_BYTES - 8, 4) == FIRST_DECK,
+              number_at(COUNTS + 8, 8) == 7 && number_at(TWO_BYTES - 8, 4) == FIRST_DECK,
           "the counts end the desk part");
     for (i = 2; i < TRACKER_MOST_DECKS; i++) two.decks.messages[i] = 0;
     check(load_two(TWO_BYTES) == 0 && memcmp(&again, &two, sizeof two) == 0, "read back");
@@ -274,9 +274,10 @@ static void count_checks(void) {
         check(save_two() == 11, "saving: one above the limit is 11");
     }
     /* The older layout: one count, so that the first deck stands 8 bytes before its place. */
-    two.decks.messages[0] = two.decks.messages[1] = 5;
+    two.decks.messages[0] = 5;
+    two.decks.messages[1] = 7;
     check(save_two() == 0, "saved");
-    file[COUNTS] = 10;
+    file[COUNTS] = 12;
     memmove(file + COUNTS + 8, file + FIRST_DECK, TWO_BYTES - FIRST_DECK);
     mend_of(file, TWO_BYTES - 8);
     check(load_two(TWO_BYTES - 8) == 15, "another length than the settings give is 15");

@@ -34,7 +34,8 @@ place() { text "$1" "$2" "$3" "$MIDDLE $QUIET font-size=\"12\""; }
 open_svg 960 812 "Memory and records of decks and desk" \
   "The decks' memory stands deck after deck; a deck's part is its slots of four numbers each, then \
 1024 class counts, 4 bytes a number. The desk's memory is a number for each code, then 1024 class \
-counts, 8 bytes a number. A deck's record is five numbers, the desk's ten."
+counts, 8 bytes a number. A deck's record is five numbers, the desk's ten; after the decks' \
+records stands a message count for each."
 
 text 30 32 "Sizes for k $k decks, c $c slots, u $(thousands $u) codes; places counted from 0" \
   "$QUIET"
@@ -105,15 +106,15 @@ place 900 490 "$(thousands $desk)"
 
 # records
 heading 540 "Records: single numbers, 8 bytes each, in this order" \
-  "tracker_deck 5 numbers, 40 bytes; tracker_decks 32 × 5 + 1 = 161 numbers, 1,288 bytes; \
+  "tracker_deck 5 numbers, 40 bytes; tracker_decks 32 × 5 + 32 = 192 numbers, 1,536 bytes; \
 tracker_desk 10 numbers, 80 bytes"
 text 60 596 "a deck"
 cells 140 574 100 "$DECK_FILL" draws pending threshold "slots in use" forgotten
 text 60 650 "all decks"
 cells 140 628 100 "$DECK_FILL" "deck 0" "deck 1" ... "deck 31"
 cells 540 628 100 white messages
-text 656 640 "five numbers for each of 32 decks, those" "$QUIET"
-text 656 658 "from k on unused; last the message count" "$QUIET"
+text 656 640 "five numbers for each of 32 decks, then a" "$QUIET"
+text 656 658 "message count for each; from k on unused" "$QUIET"
 text 60 704 "the desk"
 cells 140 682 100 "$DESK_FILL" total base threshold signals class
 cells 640 682 52 "#eef3fa" phase deck low high sum

@@ -109,11 +109,14 @@ typedef struct {
     uint64_t draws, pending, threshold, slots_in_use, forgotten;
 } tracker_deck;
 
-/* All decks of a bench, those from k on unused, and the count of messages since the start, to which
- * tracker_run alone adds what it writes: no other call changes it. */
+/* All decks of a bench, those from k on unused. messages[d] counts the messages since the start
+ * that name deck d, to the desk and from it. tracker_run alone adds to it, one for each message
+ * that it writes to the log. One of the first k above 100,000,000,000,000 is inconsistent (11);
+ * their sum, the bench's total, has no limit. Those from k on are neither tested nor changed: a
+ * start and a reading set them 0. */
 typedef struct {
     tracker_deck deck[TRACKER_MOST_DECKS];
-    uint64_t messages;
+    uint64_t messages[TRACKER_MOST_DECKS];
 } tracker_decks;
 
 /* The desk. Its phase: which of the four, then deck, low, high and sum, those not in use 0. */
@@ -239,13 +242,14 @@ typedef struct {
 } tracker_counts;
 
 /* Takes draws in their order, delivers everything after each, and writes each message to the log;
- * decks->messages grows by as many. Stops at the first draw that is refused: `counts`, records,
- * memory and log then have what the draws before it brought. `counts` is always written; 1, 2, 3, 4
- * and 11 come before the first draw, with 0 and 0. `log_numbers` is 4 for each message that the log
- * has a place for. On 14 take the messages out of the log and go on at draws + accepted; a log of
- * TRACKER_LOG_NUMBERS(k) numbers always takes a draw, a shorter one may take none, however often it
- * is tried. Writes: *decks, *desk, both memories, the first `written` of the log, *counts.
- * Refuses: 1, 2, 3, 4, 11, 5, 6, 7, 8, 14. */
+ * decks->messages[d] grows by those that name deck d. Stops at the first draw that is refused:
+ * `counts`, records, memory and log then have what the draws before it brought. `counts` is always
+ * written; 1, 2, 3, 4 and 11 come before the first draw, with 0 and 0. `log_numbers` is 4 for each
+ * message that the log has a place for. On 14 take the messages out of the log and go on at
+ * draws + accepted; a log of TRACKER_LOG_NUMBERS(k) numbers always takes a draw, a shorter one may
+ * take none, however often it is tried. A count of messages may pass its limit within the call: the
+ * next one says 11. Writes: *decks but for those from k on, *desk, both memories, the first
+ * `written` of the log, *counts. Refuses: 1, 2, 3, 4, 11, 5, 6, 7, 8, 14. */
 uint32_t tracker_run(const tracker_settings *settings, tracker_decks *decks, tracker_desk *desk,
                      const tracker_draw *draws, size_t count, uint32_t *deck_memory,
                      size_t deck_numbers, uint64_t *desk_memory, size_t desk_numbers,
@@ -277,12 +281,15 @@ uint32_t tracker_desk_class(const tracker_settings *settings, const tracker_desk
  * exactly as one never closed, draw by draw and in the midst of a delivery too. The file has no
  * messages: what was on its way is the caller's to keep and to hand over afterwards.
  *
- * All numbers are little-endian: the settings and the desk's (memory, record, decks->messages) have
- * 8 bytes, each deck's (memory, record) 4; then offset of the desk part and of the first deck (4
- * bytes each), 4 for the width of a deck's numbers (2), the sum of all bytes before modulo 65,536
- * (2). The sum finds every change of one byte; it does not find bytes that changed places. */
-#define TRACKER_FILE_BYTES(decks, slots, codes) \
-    (48 + 8 * ((size_t)(codes) + 1035) + 4 * (size_t)(decks) * (4 * (size_t)(slots) + 1029) + 12)
+ * All numbers are little-endian: the settings and the desk part (the desk's memory, its record, the
+ * first k of decks->messages) have 8 bytes, each deck's (memory, record) 4; then offset of the desk
+ * part and of the first deck (4 bytes each), 4 for the width of a deck's numbers (2), the sum of
+ * all bytes before modulo 65,536 (2). The sum finds every change of one byte; it does not find
+ * bytes that changed places. An older file, with one count of messages for the bench, has the same
+ * bytes where the bench has one deck, and is read; of two or more decks it is 15. */
+#define TRACKER_FILE_BYTES(decks, slots, codes)            \
+    (48 + 8 * ((size_t)(codes) + 1034 + (size_t)(decks)) + \
+     4 * (size_t)(decks) * (4 * (size_t)(slots) + 1029) + 12)
 
 /* The same as a call. Writes: *length. Refuses: 1, 2, 3. */
 uint32_t tracker_file_length(const tracker_settings *settings, size_t *length);
@@ -294,11 +301,12 @@ uint32_t tracker_save(const tracker_settings *settings, const tracker_decks *dec
                       const uint64_t *desk_memory, size_t desk_numbers, uint8_t *bytes, size_t room,
                       size_t *length);
 
-/* The `length` bytes at `file` are the whole file: with a byte more it is 15. Settings and both
- * records become the file's; those of decks from k on are as started. Every test comes before the
- * first change. An accepted file that is read and saved again has the same bytes. Writes:
- * *settings, *decks, *desk, of both memories what these settings ask for. Refuses: 15 (too short,
- * or the width unknown), 16, 1, 2, 3, 15 (offset, length or phase), 4, 11. */
+/* The `length` bytes at `file` are the whole file: with a byte more it is 15. Settings, both
+ * records and the counts of messages become the file's; those of decks from k on are as started.
+ * Every test comes before the first change. An accepted file that is read and saved again has the
+ * same bytes. Writes: *settings, *decks, *desk, of both memories what these settings ask for.
+ * Refuses: 15 (too short, or the width unknown), 16, 1, 2, 3, 15 (offset, length or phase), 4,
+ * 11. */
 uint32_t tracker_load(const uint8_t *file, size_t length, tracker_settings *settings,
                       tracker_decks *decks, tracker_desk *desk, uint32_t *deck_memory,
                       size_t deck_numbers, uint64_t *desk_memory, size_t desk_numbers);
@@ -317,7 +325,7 @@ TRACKER_HOLDS(tracker_settings, uint32_t, 6);
 TRACKER_HOLDS(tracker_draw, uint32_t, 3);
 TRACKER_HOLDS(tracker_message, uint64_t, 4);
 TRACKER_HOLDS(tracker_deck, uint64_t, 5);
-TRACKER_HOLDS(tracker_decks, uint64_t, 161);
+TRACKER_HOLDS(tracker_decks, uint64_t, 192);
 TRACKER_HOLDS(tracker_desk, uint64_t, 10);
 TRACKER_HOLDS(tracker_lengths, uint64_t, 5);
 TRACKER_HOLDS(tracker_delivery, uint64_t, 2);

@@ -1,6 +1,7 @@
 /* Links libtracker.a and tries the calls that save a bench and read it back, from C: request N3's
- * instances, each refusal in its order, and that a refused call changes nothing. Everything lent
- * has sentinels after it. Its last line counts the checks; it exits non-zero if one failed. */
+ * instances with request N5's counts of messages, each refusal in its order, files of the older
+ * layout, and that a refused call changes nothing. Everything lent has sentinels after it. Its last
+ * line counts the checks; it exits non-zero if one failed. */
 #include "tracker.h"
 
 #include <stdio.h>
@@ -78,13 +79,14 @@ static void fresh(void) {
 }
 
 /* The sum of all bytes but its own two, put there: what was changed is then refused by no 16. */
-static void mend(void) {
+static void mend_of(uint8_t *bytes, size_t length) {
     uint32_t sum = 0;
     size_t i;
-    for (i = 0; i < FILE_BYTES - 2; i++) sum += now.bytes[i];
-    now.bytes[FILE_BYTES - 2] = (uint8_t)(sum & 255);
-    now.bytes[FILE_BYTES - 1] = (uint8_t)(sum >> 8 & 255);
+    for (i = 0; i < length - 2; i++) sum += bytes[i];
+    bytes[length - 2] = (uint8_t)(sum & 255);
+    bytes[length - 1] = (uint8_t)(sum >> 8 & 255);
 }
+static void mend(void) { mend_of(now.bytes, FILE_BYTES); }
 
 /* Changes a byte of the saved file, mends the sum, reads, and puts the file back. */
 static uint32_t patched(size_t place, uint8_t byte) {
@@ -196,10 +198,100 @@ static void closing_checks(void) {
           "the desk goes on");
 }
 
+/* Two decks, and the bytes of their file. */
+enum { TWO_BYTES = TRACKER_FILE_BYTES(2, SLOTS, CODES), IN_DECKS = 2 * IN_DECK };
+
+typedef struct {
+    tracker_settings settings;
+    tracker_decks decks;
+    tracker_desk desk;
+    uint32_t deck_memory[IN_DECKS];
+    uint64_t desk_memory[IN_DESK];
+} two_decks;
+
+static two_decks two, again, before;
+static uint8_t file[TWO_BYTES];
+
+static uint32_t save_two(void) {
+    size_t length = 0;
+    uint32_t answer = tracker_save(&two.settings, &two.decks, &two.desk, two.deck_memory, IN_DECKS,
+                                   two.desk_memory, IN_DESK, file, TWO_BYTES, &length);
+    check(answer != 0 || length == TWO_BYTES, "the length of a file of two decks");
+    return answer;
+}
+
+/* Reads so many bytes of the file, which changes nothing if it is refused. */
+static uint32_t load_two(size_t length) {
+    uint32_t answer;
+    memset(&again, SENTINEL, sizeof again);
+    before = again;
+    answer = tracker_load(file, length, &again.settings, &again.decks, &again.desk,
+                          again.deck_memory, IN_DECKS, again.desk_memory, IN_DESK);
+    check(answer == 0 || memcmp(&again, &before, sizeof again) == 0,
+          "a refused file of two decks changes nothing");
+    return answer;
+}
+
+/* Where the counts of messages stand, the last numbers of the desk part, and the first deck. */
+enum { COUNTS = 48 + 8 * (IN_DESK + 10), FIRST_DECK = COUNTS + 16 };
+#define MOST_COUNTED UINT64_C(100000000000000)
+
+static uint64_t number_at(size_t place, size_t bytes) {
+    uint64_t number = 0;
+    while (bytes > 0) number = number << 8 | file[place + --bytes];
+    return number;
+}
+
+static void count_checks(void) {
+    static const tracker_settings settings = {2, 1000, 1000, 500, SLOTS, CODES};
+    static const tracker_draw draws[3] = {{0, 7, 3}, {1, 7, 3}, {1, 7, 3}};
+    static tracker_message log[3 * TRACKER_MOST_MESSAGES(2)];
+    tracker_counts counts;
+    size_t i;
+    memset(&two, 0, sizeof two);
+    two.settings = settings;
+    check(tracker_start_decks(&settings, &two.decks, two.deck_memory, IN_DECKS) == 0 &&
+              tracker_start_desk(&settings, &two.desk, two.desk_memory, IN_DESK) == 0 &&
+              tracker_run(&settings, &two.decks, &two.desk, draws, 3, two.deck_memory, IN_DECKS,
+                          two.desk_memory, IN_DESK, log, 3 * TRACKER_LOG_NUMBERS(2), &counts) == 0,
+          "two decks that have drawn");
+    /* Those of decks that the bench has not are neither tested nor saved, and come back 0. */
+    for (i = 2; i < TRACKER_MOST_DECKS; i++) two.decks.messages[i] = UINT64_MAX;
+    check(save_two() == 0 && TWO_BYTES == 16852 && number_at(COUNTS, 8) == 5 &&
+              number_at(COUNTS + 8, 8) == 7 && number_at(TWO_BYTES - 8, 4) == FIRST_DECK,
+          "the counts end the desk part");
+    for (i = 2; i < TRACKER_MOST_DECKS; i++) two.decks.messages[i] = 0;
+    check(load_two(TWO_BYTES) == 0 && memcmp(&again, &two, sizeof two) == 0, "read back");
+    for (i = 0; i < 2; i++) {
+        two.decks.messages[0] = two.decks.messages[1] = MOST_COUNTED;
+        check(save_two() == 0 && load_two(TWO_BYTES) == 0 &&
+                  again.decks.messages[i] == MOST_COUNTED,
+              "all counts at the limit");
+        file[COUNTS + 8 * i]++;
+        mend_of(file, TWO_BYTES);
+        check(load_two(TWO_BYTES) == 11, "reading: one above the limit is 11");
+        two.decks.messages[i]++;
+        check(save_two() == 11, "saving: one above the limit is 11");
+    }
+    /* The older layout: one count, so that the first deck stands 8 bytes before its place. */
+    two.decks.messages[0] = 5;
+    two.decks.messages[1] = 7;
+    check(save_two() == 0, "saved");
+    file[COUNTS] = 12;
+    memmove(file + COUNTS + 8, file + FIRST_DECK, TWO_BYTES - FIRST_DECK);
+    mend_of(file, TWO_BYTES - 8);
+    check(load_two(TWO_BYTES - 8) == 15, "another length than the settings give is 15");
+    file[TWO_BYTES - 16] = (uint8_t)((FIRST_DECK - 8) & 255);
+    file[TWO_BYTES - 15] = (uint8_t)((FIRST_DECK - 8) >> 8);
+    mend_of(file, TWO_BYTES - 8);
+    check(load_two(TWO_BYTES - 8) == 15, "an older file of two decks is 15");
+}
+
 int main(void) {
     saving_checks();
     reading_checks();
     closing_checks();
+    count_checks();
     printf("%d passed, %d failed\n", passed, failed);
     return failed != 0;
 }

@@ -92,6 +92,11 @@ static int all_zero(const void *from, size_t length) {
     return 1;
 }
 
+/* The largest count of messages that passes. */
+#define MOST_COUNTED UINT64_C(100000000000000)
+
+static int no_messages(void) { return all_zero(now.decks.messages, sizeof now.decks.messages); }
+
 static int is_message(const tracker_message *m, uint64_t kind, uint64_t deck, uint64_t a,
                       uint64_t b) {
     return m->kind == kind && m->deck == deck && m->a == a && m->b == b;
@@ -219,7 +224,7 @@ static void start_checks(void) {
         right = right && deck->draws == 0 && deck->pending == 0 && deck->threshold == 1 &&
                 deck->slots_in_use == 0 && deck->forgotten == 0;
     }
-    check(right && now.decks.messages == 0, "all 32 records are fresh");
+    check(right && no_messages(), "all 32 records are fresh, and no message is counted");
     check(now.desk.total == 0 && now.desk.base == 0 && now.desk.threshold == 1 &&
               now.desk.signals == 0 && now.desk.volume_class == 0 &&
               all_zero(&now.desk.phase, 5 * sizeof(uint64_t)),
@@ -495,14 +500,14 @@ static void deliver_checks(void) {
               sentinels(),
           "a draw is delivered");
     check(deliver(draw(1, 7, 3)) == 0 && now.delivery.carried == 2 + 2 * 2 + 2 && sentinels() &&
-              now.desk.total == 2 && now.desk.phase == TRACKER_IDLE && now.decks.messages == 0,
+              now.desk.total == 2 && now.desk.phase == TRACKER_IDLE && no_messages(),
           "the second closes the round");
     check(deliver(draw(0, 7, 0)) == 0 && now.delivery.carried == 0 && now.delivery.stopped == 0,
           "class 0 is delivered");
     REFUSED(5, deliver(draw(2, 10, 1024)), "deliver: 5 before 6 and 7");
     REFUSED(6, deliver(draw(0, 10, 1024)), "deliver: 6 before 7");
     REFUSED(7, deliver(draw(0, 7, 1024)), "deliver: 7");
-    now.decks.messages = UINT64_C(100000000000001);
+    now.decks.messages[DECKS - 1] = MOST_COUNTED + 1;
     REFUSED(11, deliver(draw(2, 10, 1024)), "deliver: 11 before 5");
     in_decks--;
     REFUSED(4, deliver(draw(2, 10, 1024)), "deliver: 4 before 11");
@@ -532,8 +537,10 @@ static void run_checks(void) {
         taken += now.counts.accepted;
         logs++;
     } while (refusal == 14 && logs < 100);
-    check(taken == 20 && logs > 1 && now.decks.messages == total, "going on after 14");
-    now.decks.messages = 0;
+    check(taken == 20 && logs > 1 && now.decks.messages[0] + now.decks.messages[1] == total &&
+              now.decks.messages[0] > 0 && now.decks.messages[1] > 0,
+          "going on after 14");
+    memset(now.decks.messages, 0, sizeof now.decks.messages);
     check(memcmp(&now.decks, &singles.decks, sizeof now.decks) == 0 &&
               memcmp(&now.desk, &singles.desk, sizeof now.desk) == 0 &&
               memcmp(now.deck_memory, singles.deck_memory, sizeof now.deck_memory) == 0 &&
@@ -572,6 +579,72 @@ static void run_checks(void) {
     check(run(draws, 1) == 4 && unchanged(), "run: 4 before 11");
 }
 
+/* ---- Counts of messages, one for each deck --------------------------------------------------- */
+
+/* Two decks of which the second has drawn: the next draw at deck 0 closes the round, with five
+ * messages of deck 0 and three of deck 1. Decks that the bench has not count whatever they held. */
+static void before_a_close(void) {
+    tracker_draw one = draw(1, 7, 3);
+    fresh(&two_decks);
+    memset(&now.decks.messages[DECKS], 0xff, sizeof now.decks.messages - DECKS * 8);
+    check(run(&one, 1) == 0 && now.decks.messages[0] == 0 && now.decks.messages[1] == 2,
+          "two messages of deck 1");
+}
+
+/* Whether the counts of decks that the bench has not still hold what they held. */
+static int others_stay(void) {
+    size_t i;
+    for (i = DECKS; i < TRACKER_MOST_DECKS; i++) {
+        if (now.decks.messages[i] != UINT64_MAX) return 0;
+    }
+    return 1;
+}
+
+static void count_checks(void) {
+    tracker_draw close = draw(0, 7, 3), refused[2];
+    uint64_t counted[DECKS] = {0, 2};
+    size_t i, deck;
+    before_a_close();
+    check(run(&close, 1) == 0 && now.counts.written == 8 && sentinels(), "a close");
+    for (i = 0; i < now.counts.written; i++) counted[now.log[i].deck]++;
+    check(now.decks.messages[0] == 5 && now.decks.messages[1] == 5 && counted[0] == 5 &&
+              counted[1] == 5 && others_stay(),
+          "each message counts at the deck that it names");
+    check(deliver(close) == 0 && now.delivery.carried == 2 && now.decks.messages[0] == 5 &&
+              others_stay(),
+          "no other call adds");
+    before_a_close();
+    refused[0] = close;
+    refused[1] = draw(2, 7, 3);
+    check(run(refused, 2) == 5 && now.counts.written == 8 && now.decks.messages[0] == 5 &&
+              now.decks.messages[1] == 5,
+          "what was written before a refusal counts");
+    for (deck = 0; deck < DECKS; deck++) {
+        const uint64_t more = deck == 0 ? 5 : 3;
+        before_a_close();
+        now.decks.messages[0] = now.decks.messages[1] = MOST_COUNTED;
+        check(run(NULL, 0) == 0 && others_stay(), "all at the limit pass: their sum has none");
+        now.decks.messages[deck]++;
+        kept = now;
+        kept.counts.accepted = kept.counts.written = 0;
+        check(run(&close, 1) == 11 && unchanged(), "one above the limit is 11");
+        REFUSED(11, deliver(close), "deliver: one above the limit is 11");
+        before_a_close();
+        now.decks.messages[deck] = MOST_COUNTED - more;
+        check(run(&close, 1) == 0 && now.decks.messages[deck] == MOST_COUNTED &&
+                  run(NULL, 0) == 0,
+              "a run up to the limit");
+        before_a_close();
+        now.decks.messages[deck] = MOST_COUNTED - more + 1;
+        check(run(&close, 1) == 0 && now.counts.accepted == 1 &&
+                  now.decks.messages[deck] == MOST_COUNTED + 1,
+              "a run that passes it is accepted");
+        kept = now;
+        kept.counts.accepted = kept.counts.written = 0;
+        check(run(&close, 1) == 11 && unchanged(), "the next call is 11");
+    }
+}
+
 /* Lent memory may be longer than asked for. */
 static void longer_checks(void) {
     fresh(&settings_a);
@@ -595,6 +668,7 @@ int main(void) {
     instance_checks();
     deliver_checks();
     run_checks();
+    count_checks();
     longer_checks();
     printf("%d passed, %d failed\n", passed, failed);
     return failed != 0;

@@ -78,7 +78,7 @@ fn count(settings: &Settings, stream: &str) -> Vec<(u64, u64)> {
         assert_eq!(answer.refusal, 0);
         n += BATCH;
         if n >= next_point || MARKS.contains(&n) {
-            points.push((n, sites.messages));
+            points.push((n, sites.all_messages(settings)));
             next_point = (n as f64 * 1.25) as u64;
         }
     }

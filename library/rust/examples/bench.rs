@@ -68,6 +68,12 @@ fn main() -> Result<(), Refusal> {
     let mut batch = Bench::start(SETTINGS)?;
     let (logged, logs) = take_in_batches(&mut batch, &draws)?;
     println!("in batches: {} draws, {} messages in {logs} logs", draws.len(), logged.len());
+    // Each deck's own, and the bench's.
+    for deck in 0..SETTINGS.decks {
+        println!("deck {deck}: {} messages", batch.messages_of(deck).unwrap_or(0));
+    }
+    let allowance = SETTINGS.allowance(draws.len() as u64)?;
+    println!("all decks: {} messages, allowance {allowance}", batch.messages());
     let same = sent == logged && single.desk() == batch.desk();
     println!("the same messages and desk: {}", if same { "yes" } else { "no" });
     for code in batch.listed()? {

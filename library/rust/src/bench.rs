@@ -167,9 +167,37 @@ impl Bench {
         &self.parts.desk_memory
     }
 
-    /// Messages that runs have written since the start. What single draws send doesn't count here.
+    /// Messages that runs have written since the start, at all decks: the planner's total, to be
+    /// compared with [`Settings::allowance`]. What single draws send doesn't count here. (A sum
+    /// beyond `u64::MAX` is given as that; no call takes a bench of such parts.)
     pub fn messages(&self) -> u64 {
-        self.parts.decks.messages
+        self.message_counts().fold(0, u64::saturating_add)
+    }
+
+    /// Of these messages the ones of a deck, if there is such a deck: those that name it, to the
+    /// desk and from it.
+    ///
+    /// ```
+    /// use draw_tracker::{Bench, Draw, Settings};
+    ///
+    /// # let settings =
+    /// #     Settings { decks: 2, leeway: 1000, share: 1000, rank: 500, slots: 6, codes: 10 };
+    /// let mut bench = Bench::start(settings)?;
+    /// let draws = [Draw { deck: 0, code: 7, class: 3 }, Draw { deck: 1, code: 7, class: 3 }];
+    /// bench.run_all(&draws, |_message| ()).whole()?;
+    /// assert_eq!((bench.messages_of(0), bench.messages_of(1)), (Some(5), Some(5)));
+    /// assert_eq!(bench.messages_of(2), None);
+    /// assert_eq!(bench.messages(), 10);
+    /// # Ok::<(), draw_tracker::Refusal>(())
+    /// ```
+    pub fn messages_of(&self, deck: u32) -> Option<u64> {
+        self.message_counts().nth(deck as usize)
+    }
+
+    /// The counts of the decks that the bench has.
+    fn message_counts(&self) -> impl Iterator<Item = u64> + '_ {
+        let decks = self.parts.settings.decks as usize;
+        self.parts.decks.messages.iter().copied().take(decks)
     }
 
     /// A draw; the messages to hand over, two at most. Deliver them all before the next draw.

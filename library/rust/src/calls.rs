@@ -273,8 +273,8 @@ pub fn deliver(
 /// Takes draws in their order, delivers everything after each, and writes each message to the log.
 /// Stops at the first draw that is refused; what the draws before it brought stays. On 14 take the
 /// messages out of the log and go on at `accepted`; a log of
-/// [`most_messages`](crate::most_messages) places always takes a draw.
-/// 1, 2, 3, 4, 11, 5, 6, 7, 8, 14.
+/// [`most_messages`](crate::most_messages) places always takes a draw. Each message is counted in
+/// `decks`, at the deck that it names. 1, 2, 3, 4, 11, 5, 6, 7, 8, 14.
 #[must_use = "a run may stop before its last draw"]
 pub fn run(
     settings: &Settings,
@@ -398,7 +398,7 @@ pub fn save(
 pub struct Loaded {
     /// The settings that it was started with.
     pub settings: Settings,
-    /// The decks' records, and the count of messages.
+    /// The decks' records, and their counts of messages.
     pub decks: DecksRecord,
     /// The desk's record.
     pub desk: DeskRecord,

@@ -33,13 +33,14 @@ pub struct DeckRecord {
 pub struct DecksRecord {
     /// One record for each deck.
     pub deck: [DeckRecord; MOST_DECKS],
-    /// Messages since the start, to which the run over many draws alone adds what it writes.
-    pub messages: u64,
+    /// For each deck the messages since the start that name it, to the desk and from it; the run
+    /// over many draws alone adds what it writes. Those from k on are neither tested nor changed.
+    pub messages: [u64; MOST_DECKS],
 }
 
 impl Default for DecksRecord {
     fn default() -> DecksRecord {
-        DecksRecord { deck: [DeckRecord::default(); MOST_DECKS], messages: 0 }
+        DecksRecord { deck: [DeckRecord::default(); MOST_DECKS], messages: [0; MOST_DECKS] }
     }
 }
 
@@ -120,7 +121,7 @@ pub struct Counts {
 }
 
 const _: () = assert!(size_of::<DeckRecord>() == 5 * size_of::<u64>());
-const _: () = assert!(size_of::<DecksRecord>() == 161 * size_of::<u64>());
+const _: () = assert!(size_of::<DecksRecord>() == 192 * size_of::<u64>());
 const _: () = assert!(size_of::<DeskRecord>() == 10 * size_of::<u64>());
 const _: () = assert!(size_of::<Delivery>() == 2 * size_of::<u64>());
 const _: () = assert!(size_of::<Counts>() == 2 * size_of::<u64>());

@@ -129,7 +129,7 @@ pub const fn desk_numbers(codes: u32) -> usize {
 
 /// The bytes of a saved bench of so many decks, slots and codes.
 pub const fn file_bytes(decks: u32, slots: u32, codes: u32) -> usize {
-    let desk = 8 * (desk_numbers(codes) + 11);
+    let desk = 8 * (desk_numbers(codes) + 10 + decks as usize);
     let deck = 4 * (deck_numbers(slots) + 5);
     48 + desk + decks as usize * deck + 12
 }

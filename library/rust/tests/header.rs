@@ -107,7 +107,7 @@ fn fields_of_crate(text: &str, name: &str) -> Vec<String> {
     let names = fields.map(|field| match field.split_once(':').expect("a type").0 {
         // A word of C++.
         "class" => "volume_class".to_string(),
-        "deck" if field.contains("MOST_DECKS") => "deck[TRACKER_MOST_DECKS]".to_string(),
+        name if field.contains("MOST_DECKS") => format!("{name}[TRACKER_MOST_DECKS]"),
         other => other.to_string(),
     });
     names.collect()
@@ -179,5 +179,6 @@ fn numbers_are_the_headers() {
     // The header's formulas for constant settings, with numbers put in by hand.
     assert_eq!((deck_numbers(100), decks_numbers(3, 100)), (1424, 4272));
     assert_eq!((desk_numbers(1000), most_messages(32)), (2024, 738));
-    assert_eq!((file_bytes(1, 6, 10), file_bytes(32, 3000, 65536)), (12_632, 2_200_340));
+    assert_eq!((file_bytes(1, 6, 10), file_bytes(32, 3000, 65536)), (12_632, 2_200_588));
+    assert_eq!(file_bytes(2, 6, 10), 16_852);
 }

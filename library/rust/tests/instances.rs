@@ -43,6 +43,7 @@ fn one_draw_is_p2() {
     assert_eq!(log[5..], [message(9, 9, 9, 9); 22]);
     // The run alone counts its messages.
     assert_eq!((batch.messages(), single.messages()), (5, 0));
+    assert_eq!((batch.messages_of(0), batch.messages_of(1)), (Some(5), None));
     for bench in [&single, &batch] {
         assert_eq!(bench.listed(), Ok(vec![7]));
         assert_eq!(bench.class(), Ok(Some(3)));

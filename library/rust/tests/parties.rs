@@ -7,7 +7,9 @@ mod common;
 use std::collections::VecDeque;
 
 use common::{some_draws, take, SOME_SETTINGS};
-use draw_tracker::{most_messages, Bench, Deck, Desk, Draw, Message, Refusal, Settings};
+use draw_tracker::{
+    most_messages, Bench, Deck, Desk, Draw, Message, Refusal, Settings, MOST_DECKS,
+};
 
 /// The parties, each with memory of its own. What goes between them goes as bytes.
 struct Parties {
@@ -66,10 +68,10 @@ impl Parties {
     }
 }
 
-/// The bench without the count that runs keep.
+/// The bench without the counts that runs keep.
 fn uncounted(bench: &Bench) -> Bench {
     let mut parts = bench.clone().into_parts();
-    parts.decks.messages = 0;
+    parts.decks.messages = [0; MOST_DECKS];
     Bench::from_parts(parts)
 }
 
@@ -98,6 +100,12 @@ fn all_ways_come_to_the_same() {
         assert_eq!((run.accepted, run.written), (draws.len(), sent.len()));
         assert!(logged == sent);
         assert_eq!((small.messages(), uncounted(&small)), (sent.len() as u64, single.clone()));
+        for deck in 0..settings.decks {
+            let of_deck = sent.iter().filter(|message| message.deck == u64::from(deck)).count();
+            assert_eq!(small.messages_of(deck), Some(of_deck as u64), "deck {deck}");
+            assert_eq!(single.messages_of(deck), Some(0), "deck {deck}");
+        }
+        assert_eq!(small.messages_of(settings.decks), None);
         let mut logged = Vec::new();
         let run = at_once.run_all(&draws, |message| logged.push(message));
         assert_eq!((run.accepted, run.stopped), (draws.len(), None));

@@ -262,9 +262,9 @@ fn inconsistent_decks() {
         let [draw, to_deck, .., deliver, run, _, _, _] = refused(&changed);
         assert_eq!([draw, to_deck, deliver, run], [inconsistent; 4]);
     }
-    // The count of messages is tested by the two calls with full delivery.
+    // A deck's count of messages is tested by the two calls with full delivery.
     let mut changed = parts.clone();
-    changed.decks.messages = 100_000_000_000_001;
+    changed.decks.messages[0] = 100_000_000_000_001;
     let [draw, _, _, _, deliver, run, ..] = refused(&changed);
     assert_eq!((draw, deliver, run), (None, INCONSISTENT, INCONSISTENT));
 }

@@ -10,6 +10,7 @@ use std::path::Path;
 use common::{message, some_draws, take, A, P2, SOME_SETTINGS};
 use draw_tracker::{
     calls, raw, Bench, BenchParts, DecksRecord, DeskRecord, Draw, Message, Refusal, Settings,
+    MOST_DECKS,
 };
 
 /// The file of a bench. Longer bytes keep what they held.
@@ -47,7 +48,7 @@ fn instances() {
     bench.run_all(&[P2], |_| ()).whole().unwrap();
     assert_eq!(file(&bench)[12_620..], [48, 0, 0, 0, 216, 32, 0, 0, 4, 0, 31, 4]);
     let full = Settings { decks: 32, leeway: 2, share: 2, rank: 500, slots: 3000, codes: 65536 };
-    assert_eq!(full.file_length(), Ok(2_200_340));
+    assert_eq!(full.file_length(), Ok(2_200_588));
     let full = Bench::start(full).unwrap();
     assert!(reopened(&full) == full);
 }
@@ -76,6 +77,7 @@ fn it_goes_on() {
             assert_eq!(closing.class(), open.class());
             assert_eq!(closing.margin(1), open.margin(1));
             assert_eq!(closing.messages(), open.messages());
+            assert_eq!(closing.parts().decks.messages, open.parts().decks.messages);
             closing = reopened(&closing);
             assert!(closing == open);
         }
@@ -114,7 +116,8 @@ fn in_mid_delivery() {
     assert!(phases.iter().all(|&times| times > 10), "{phases:?}");
 }
 
-/// Decks that the bench hasn't come back fresh, and memory as long as the settings ask.
+/// Decks that the bench hasn't come back fresh, with no message counted, and memory as long as the
+/// settings ask.
 #[test]
 fn what_is_not_saved() {
     let mut bench = Bench::start(A).unwrap();
@@ -122,6 +125,7 @@ fn what_is_not_saved() {
     let mut parts = bench.clone().into_parts();
     parts.decks.deck[1].threshold = 0;
     parts.decks.deck[31].draws = 5;
+    parts.decks.messages[1..].fill(u64::MAX);
     parts.deck_memory.push(u32::MAX);
     parts.desk_memory.push(u64::MAX);
     let longer = Bench::from_parts(parts);
@@ -145,16 +149,50 @@ fn files_of_the_repository() {
     let poll = announcing.hand_over(reports[1]).unwrap().unwrap();
     let answer = announcing.hand_over(poll).unwrap().unwrap();
     assert_eq!(announcing.hand_over(answer), Ok(None));
+    let mut two = Bench::start(Settings { decks: 2, ..A }).unwrap();
+    two.run_all(&[P2, Draw { deck: 1, ..P2 }], |_| ()).whole().unwrap();
+    let three = probing();
     for (name, bench) in [
         ("a_fresh.bench", &fresh),
         ("a_after_p3.bench", &after_p3),
         ("a_announcing.bench", &announcing),
+        ("two_decks.bench", &two),
+        ("three_probing.bench", &three),
     ] {
         let bytes = fs::read(folder.join(name)).expect(name);
         assert_eq!(Bench::open(&bytes).as_ref(), Ok(bench), "{name}");
         assert!(file(bench) == bytes, "{name}");
     }
     assert_eq!(reopened(&announcing).announcement(), Ok(Some(message(7, 0, 1, 1))));
+    assert_eq!((two.messages_of(0), two.messages_of(1)), (Some(5), Some(5)));
+    // The last two in the layout with one count of messages.
+    for (name, decks) in [("two_decks_older.bench", 2), ("three_probing_older.bench", 3)] {
+        let bytes = fs::read(folder.join(name)).expect(name);
+        let settings = Settings { decks, ..A };
+        assert_eq!(bytes.len() + 8 * (decks as usize - 1), settings.file_length().unwrap());
+        assert_eq!(Bench::open(&bytes), Err(Refusal::FileUnreadable), "{name}");
+        let lengths = settings.lengths().unwrap();
+        let mut deck_memory = vec![77; lengths.decks_numbers as usize];
+        let mut desk_memory = vec![78; lengths.desk_numbers as usize];
+        let answer = calls::load(&bytes, &mut deck_memory, &mut desk_memory);
+        assert_eq!(answer, Err(Refusal::FileUnreadable), "{name}");
+        assert!(deck_memory.iter().all(|&number| number == 77), "{name}");
+        assert!(desk_memory.iter().all(|&number| number == 78), "{name}");
+    }
+}
+
+/// Three decks, settings A otherwise, after 17 draws by a run; the 18th closes the round, and is
+/// delivered up to deck 0's answer to the first probe.
+fn probing() -> Bench {
+    let mut bench = Bench::start(Settings { decks: 3, ..A }).unwrap();
+    let draw = |place: u32| Draw { deck: place % 3, code: 1, class: 5 };
+    bench.run_all(&(0..17).map(draw).collect::<Vec<_>>(), |_| ()).whole().unwrap();
+    let mut waiting: VecDeque<Message> = bench.draw(draw(17)).unwrap().into_iter().collect();
+    while waiting[0] != message(5, 1, 511, 0) {
+        let next = waiting.pop_front().unwrap();
+        waiting.extend(bench.hand_over(next).unwrap());
+    }
+    bench
 }
 
 #[test]
@@ -184,7 +222,7 @@ fn saving_refused() {
     let inconsistent = Refusal::MemoryInconsistent;
     assert_eq!(refusal(|parts| parts.desk.signals = 2, room), inconsistent);
     assert_eq!(refusal(|parts| parts.decks.deck[0].draws = 2, room), inconsistent);
-    assert_eq!(refusal(|parts| parts.decks.messages = 100_000_000_000_001, room), inconsistent);
+    assert_eq!(refusal(|parts| parts.decks.messages[0] = 100_000_000_000_001, room), inconsistent);
     assert_eq!(refusal(|parts| parts.desk.signals = 2, room - 1), Refusal::MemoryTooShort);
 }
 
@@ -255,7 +293,7 @@ fn short_memory() {
 fn nothing_is_handed_out() {
     let wrong = Settings { decks: 33, ..A };
     let (mut decks, mut desk) = (DecksRecord::default(), DeskRecord::default());
-    decks.messages = 70;
+    decks.messages = [70; MOST_DECKS];
     desk.total = 71;
     let before = (decks, desk);
     let (mut few, mut desk_few) = ([77; 4], [78; 4]);

@@ -7,8 +7,8 @@ const A: [u32; 6] = [1, 1000, 1000, 500, 6, 10];
 const SITE_WORDS: usize = 4 * 6 + 1024;
 const COORDINATOR_WORDS: usize = 10 + 1024;
 const P2: Arrival = Arrival { site: 0, item: 7, value: 3 };
-/// The place of the message count in the numbers of all sites.
-const MESSAGES: usize = SITES_NUMBERS - 1;
+/// The place of site 0's message count in the numbers of all sites.
+const MESSAGES: usize = 32 * SITE_NUMBERS;
 
 /// A network under settings A with a log for eight arrivals.
 #[derive(Clone, Debug, PartialEq)]

@@ -25,6 +25,11 @@ fn more<const FEW: usize>(numbers: [u64; FEW]) -> Vec<u64> {
     numbers.into_iter().chain([JUNK; 3]).collect()
 }
 
+/// All sites as a start leaves them, their counts of messages too, and some numbers more.
+fn fresh_sites() -> Vec<u64> {
+    [&[FRESH_SITE; 32].concat()[..], &[0; 32], &[JUNK; 3]].concat()
+}
+
 /// Memory of a call, so long and three numbers more, of which so many are lent.
 struct Lent<T> {
     numbers: Vec<T>,
@@ -70,7 +75,7 @@ fn lengths_of_starts() {
         let answer = start_sites(&A, &mut memory[..lent], &mut sites);
         if answer == 0 {
             assert_eq!(memory, [&[0; SITE_WORDS][..], &[77; 3]].concat());
-            assert_eq!(sites, [&[FRESH_SITE; 32].concat()[..], &[0, JUNK, JUNK, JUNK]].concat());
+            assert_eq!(sites, fresh_sites());
         } else {
             assert_eq!(memory, [77; SITE_WORDS + 3]);
             assert_eq!(sites, [JUNK; SITES_NUMBERS + 3]);
@@ -136,7 +141,7 @@ fn lengths_at_sites() {
 #[test]
 fn lengths_of_all_sites() {
     let two = [2, 1000, 1000, 500, 6, 10];
-    let fresh = [&[FRESH_SITE; 32].concat()[..], &[0, JUNK, JUNK, JUNK]].concat();
+    let fresh = fresh_sites();
     for_lengths(2 * SITE_WORDS, |lent| {
         let mut memory = Lent::<u32>::fresh(2 * SITE_WORDS, lent);
         let (mut sites, mut out) = (fresh.clone(), more([JUNK; 9]));
@@ -214,7 +219,7 @@ fn lengths_at_the_coordinator() {
 /// A delivery and a batch of one arrival: both memories have their lengths.
 #[test]
 fn lengths_of_whole_networks() {
-    let fresh_sites = [&[FRESH_SITE; 32].concat()[..], &[0, JUNK, JUNK, JUNK]].concat();
+    let fresh_sites = fresh_sites();
     let call = |in_batch: bool, site_words: usize, coordinator_words: usize| {
         let mut site_memory = Lent::<u32>::fresh(SITE_WORDS, site_words);
         let mut coordinator_memory = Lent::<u64>::fresh(COORDINATOR_WORDS, coordinator_words);
@@ -311,7 +316,7 @@ fn refused_everywhere(numbers: [u64; COORDINATOR_NUMBERS]) {
             read_quantile(&settings, &record, &memory, &mut out),
         ];
         assert_eq!(answers, [answer; 5], "{numbers:?}");
-        let mut sites = [&[FRESH_SITE; 32].concat()[..], &[0]].concat();
+        let mut sites = fresh_sites();
         let mut site_memory = vec![0; SITE_WORDS];
         let delivery = Delivery {
             sites: &mut sites,

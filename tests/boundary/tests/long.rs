@@ -69,7 +69,7 @@ fn run(both: &mut Both, settings: [u32; 6], source: &mut Source, arrivals: u64, 
     }
     truth.check(&network);
     account.check(&network);
-    assert_eq!(network.sites.messages, truth.messages);
+    assert_eq!(network.all_messages(), truth.messages);
     truth.messages
 }
 

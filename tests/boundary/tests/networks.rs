@@ -135,8 +135,12 @@ const ONLY_FOR_A_BATCH: [(&str, Change); 9] = [
         network.site_memory[histogram + 1023] += 1;
         network.sites.records[site].arrivals <= MAX_ARRIVALS
     }),
-    ("too many messages", |network, random| {
-        network.sites.messages = random.pick(&[MAX_MESSAGES + 1, MAX_MESSAGES + 2, u64::MAX]);
+    ("too many messages of a site", |network, random| {
+        let last = network.settings.sites - 1;
+        let some = random.below32(last + 1);
+        let site = random.pick(&[0, some, last]) as usize;
+        let above = random.pick(&[MAX_MESSAGES + 1, MAX_MESSAGES + 2, u64::MAX]);
+        network.sites.messages[site] = above;
         true
     }),
 ];
@@ -166,8 +170,9 @@ fn inconsistent_for_a_batch_alone() {
     let mut made = [0; ONLY_FOR_A_BATCH.len()];
     for _ in 0..600 {
         let mut network = some_network(&mut random);
-        // As many messages as may be are no cause.
-        network.sites.messages = MAX_MESSAGES;
+        // As many messages of every site as may be are no cause, nor is any number from k on.
+        network.sites.messages = [MAX_MESSAGES; 32];
+        network.fill_unused_counts(&mut random);
         let arrivals = some_run(&network, &mut random);
         let log_numbers = some_log(&network, &arrivals, &mut random);
         for (place, (name, change)) in ONLY_FOR_A_BATCH.iter().enumerate() {

@@ -77,10 +77,10 @@ impl Trial {
         assert_eq!((answer.accepted, answer.refusal), (arrivals.len() - refused, refusal));
         assert_eq!(written, std::mem::take(&mut self.sent));
         // Batches alone count their messages in the network.
-        assert_eq!(self.batches.sites.messages, self.messages as u64);
-        assert_eq!(self.singles.sites.messages, 0);
+        assert_eq!(self.batches.all_messages(), self.messages as u64);
+        assert_eq!(self.singles.sites.messages, [0; 32]);
         let mut uncounted = self.batches.clone();
-        uncounted.sites.messages = 0;
+        uncounted.sites.messages = [0; 32];
         assert!(uncounted == self.singles, "{arrivals:?}");
     }
 }

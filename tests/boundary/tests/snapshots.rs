@@ -1,6 +1,7 @@
-//! Request N3 on the proved code and on the separate implementation: the same bytes wherever in a
-//! history a network is saved, the same records and memory from every file, and the same refusal of
-//! every file that is none. A network that is closed and read goes on as one that never was.
+//! Request N3, with request N5's counts of messages, on the proved code and on the separate
+//! implementation: the same bytes wherever in a history a network is saved, the same records and
+//! memory from every file, and the same refusal of every file that is none. A network that is
+//! closed and read goes on as one that never was.
 
 mod both;
 #[path = "../../reference/tests/support/mod.rs"]
@@ -8,7 +9,6 @@ mod support;
 
 use std::collections::VecDeque;
 use std::fs;
-use std::path::Path;
 
 use both::batch::numbers_of;
 use both::Both;
@@ -17,7 +17,9 @@ use reference::message::{Arrival, Message};
 use reference::refusal::*;
 use reference::site::SiteRecord;
 use support::causes::in_phase;
+use support::counts::LIMIT;
 use support::defects::{for_all_sets, Defect};
+use support::files::{files, older_files, path};
 use support::never_arose::{any_network, spoil};
 use support::saved::{announcing, enough, mend, patched, Places};
 use support::streams::{Source, ALL};
@@ -218,7 +220,7 @@ fn a_full_network() {
             .collect();
         network.take(&draws);
     }
-    assert_eq!(both.save(&network).map(|file| file.len()), Ok(2_200_340));
+    assert_eq!(both.save(&network).map(|file| file.len()), Ok(2_200_588));
     assert!(both.reopened(&network) == network);
     both.enough(4, &[], 0);
 }
@@ -365,7 +367,7 @@ fn saving_in_order() {
         (SHORT_MEMORY, |call| call.room = LENGTH - 1),
         (INCONSISTENT, |call| call.network.coordinator.signals = 2),
         (INCONSISTENT, |call| call.network.sites.records[0].dropped = 1 << 32),
-        (INCONSISTENT, |call| call.network.sites.messages = 100_000_000_000_001),
+        (INCONSISTENT, |call| call.network.sites.messages[0] = 100_000_000_000_001),
     ];
     let mut both = Both::new();
     for network in small_networks() {
@@ -389,7 +391,8 @@ fn numbers_patched() {
         let desk = (0..11).map(|number| RECORD + 8 * number);
         for place in [0, E, P, Q, C, U, 48].into_iter().chain(desk) {
             let now = u64::from_le_bytes(file[place..place + 8].try_into().unwrap());
-            let most = [1 << 32, (1 << 32) + now, 1 << 63, u64::MAX, 100_000_000_001];
+            let most =
+                [1 << 32, (1 << 32) + now, 1 << 63, u64::MAX, 100_000_000_001, LIMIT, LIMIT + 1];
             for number in most.into_iter().chain(now.saturating_sub(1)..now + 3) {
                 let _ = read(&mut both, &patched(&file, place, number, 8), SPARE);
             }
@@ -425,10 +428,12 @@ fn networks_that_never_arose() {
             network.coordinator.phase = phase;
             network.coordinator.signals = sites;
         }
-        network.sites.messages = random.pick(&[0, 1 << 32, 100_000_000_000_000]);
+        for count in &mut network.sites.messages[..sites as usize] {
+            *count = random.pick(&[0, 1 << 32, LIMIT]);
+        }
         let unused = network.sites.records[0].used as usize;
         network.site_memory[4 * unused..40].fill(random.next() as u32);
-        assert!(both.reopened(&network) == network);
+        assert!(both.reopened(&network) == network.without_unused_counts());
     }
     let mut start = TestNetwork::start([3, 1000, 1000, 400, 6, 8]);
     for round in 0..30 {
@@ -438,7 +443,7 @@ fn networks_that_never_arose() {
             if both.save(&network).is_ok() {
                 let reopened = both.reopened(&network);
                 network.sites.records[3..].fill(SiteRecord::FRESH);
-                assert!(reopened == network);
+                assert!(reopened == network.clone().without_unused_counts());
             }
             // What saving refuses may stand in a file all the same.
             let _ = both.load(&network.plain_file(), enough(&network.settings));
@@ -449,34 +454,32 @@ fn networks_that_never_arose() {
     assert!(both.wide > 10);
 }
 
-/// The files that the separate implementation made: read by the proved code, and saved again.
+/// The files that the separate implementation made: read by the proved code, and saved again. Those
+/// of one site are of requests N3 and N4 too.
 #[test]
 fn files_of_the_repository() {
     let mut both = Both::new();
-    let mut after_p3 = TestNetwork::start(A);
-    after_p3.take(&[arrival(0, 7, 3); 6]);
-    for (name, network) in [
-        ("a_fresh.bench", TestNetwork::start(A)),
-        ("a_after_p3.bench", after_p3),
-        ("a_announcing.bench", announcing()),
-    ] {
-        let path = Path::new(env!("CARGO_MANIFEST_DIR")).join("../files").join(name);
-        let bytes = fs::read(path).expect(name);
-        assert!(read(&mut both, &bytes, SPARE) == Ok(network.clone()), "{name}");
+    for (name, network) in files() {
+        let bytes = fs::read(path(name)).expect(name);
+        let settings = network.settings;
+        assert!(read(&mut both, &bytes, enough(&settings)) == Ok(network.clone()), "{name}");
         // The least memory and the least bytes are enough; less is 4.
-        let least = (SITE_PLACES, COORDINATOR_PLACES);
+        let least = (settings.sites_memory_len(), settings.coordinator_memory_len());
         assert!(both.load(&bytes, least) == Ok(network.clone()), "{name}");
-        for places in [
-            (SITE_PLACES - 1, COORDINATOR_PLACES),
-            (SITE_PLACES, COORDINATOR_PLACES - 1),
-            (SITE_PLACES, 0),
-            (0, 0),
-        ] {
+        for places in [(least.0 - 1, least.1), (least.0, least.1 - 1), (least.0, 0), (0, 0)] {
             assert_eq!(both.load(&bytes, places), Err(SHORT_MEMORY), "{name} {places:?}");
         }
-        assert!(both.save_to(&network, LENGTH) == Ok(bytes), "{name}");
-        assert_eq!(both.save_to(&network, LENGTH - 1), Err(SHORT_MEMORY), "{name}");
+        let length = bytes.len();
+        assert!(both.save_to(&network, length) == Ok(bytes), "{name}");
+        assert_eq!(both.save_to(&network, length - 1), Err(SHORT_MEMORY), "{name}");
     }
     let mut reopened = both.reopened(&announcing());
     assert_eq!(next_announcement(&mut both, &mut reopened), [message(7, 0, 1, 1)]);
+    // Those of two and more sites with one count of messages.
+    for (name, network) in older_files() {
+        let bytes = fs::read(path(name)).expect(name);
+        for places in [enough(&network.settings), (0, 0)] {
+            assert_eq!(both.load(&bytes, places), Err(MALFORMED_FILE), "{name}");
+        }
+    }
 }

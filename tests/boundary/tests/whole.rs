@@ -111,7 +111,7 @@ fn another_site_inconsistent() {
     let mut both = Both::new();
     let mut network = TestNetwork::start([3, 1000, 1000, 500, 6, 10]);
     network.sites.records[2].pending = 9;
-    network.sites.messages = u64::MAX;
+    network.sites.messages = [u64::MAX; 32];
     assert_eq!(both.observe_in(&mut network, arrival(1, 7, 3)).refusal, ACCEPTED);
     assert_eq!(both.observe_in(&mut network, arrival(2, 7, 3)).refusal, INCONSISTENT);
     assert_eq!(both.receive_in(&mut network, message(POLL, 0, 0, 0)).refusal, ACCEPTED);
@@ -136,7 +136,7 @@ fn runs_agree() {
                 let next = source.next(&network);
                 let sent = deliver(&mut both, &mut network, next);
                 assert_eq!(sent, batches.take(&[next]));
-                batches.sites.messages = 0;
+                batches.sites.messages = [0; 32];
                 assert!(network == batches);
             }
         }

@@ -7,7 +7,7 @@
 mod touches;
 mod trial;
 
-use draw_tracker::{Bench, Draw};
+use draw_tracker::{Bench, Draw, Message};
 use pipes::{coordinator_numbers, read_numbers_of, site_numbers, MessageBytes};
 use reference::message::TOUCH;
 use touches::value_or_touch;
@@ -32,6 +32,11 @@ fn batched(settings: [u32; 6], worklist: &[[u32; 3]]) -> Batched {
     let run = bench.run_all(&draws, |message| messages.push(message.to_bytes()));
     assert_eq!((run.accepted, run.written, run.stopped), (draws.len(), messages.len(), None));
     assert_eq!(bench.messages(), messages.len() as u64);
+    for deck in 0..settings[0] {
+        let names = |bytes: &&MessageBytes| Message::from_bytes(bytes).deck == u64::from(deck);
+        let of_deck = messages.iter().filter(names).count() as u64;
+        assert_eq!(bench.messages_of(deck), Some(of_deck), "deck {deck}");
+    }
     let site = |number: u32| {
         let record = bench.deck(number).expect("a site");
         site_numbers(record, bench.deck_memory(number).expect("a site"))

@@ -33,6 +33,26 @@ fn instance_p2() {
     assert_eq!(run_program(b"1;1000;1000;500;6;10\n0;7;3\n"), expected.as_bytes());
 }
 
+/// Request N5: the line `messages` is the sum over the decks, each of which has its own count.
+#[test]
+fn messages_of_all_decks() {
+    for decks in 1..=4 {
+        let worklist: String = (0..9).map(|place| format!("{};7;3\n", place % decks)).collect();
+        let input = format!("{decks};1000;1000;500;6;10\n{worklist}");
+        let text = String::from_utf8(run_program(input.as_bytes())).expect("it writes text");
+        let lines: Vec<&str> = text.lines().collect();
+        let (last, before) = lines.split_last().expect("lines");
+        // All lines but the list, the class and this one are messages.
+        assert_eq!(*last, format!("messages {}", before.len() - 2), "{decks} decks");
+        let names = |deck: u32| {
+            let named = format!(" {deck} ");
+            before.iter().filter(|line| line[1..].starts_with(&named)).count()
+        };
+        assert!((0..decks).all(|deck| names(deck) > 0), "{decks} decks");
+        assert_eq!((0..decks).map(names).sum::<usize>(), before.len() - 2, "{decks} decks");
+    }
+}
+
 /// Request N2: a touch writes nothing, but is tested for 5 and 6.
 #[test]
 fn touches() {

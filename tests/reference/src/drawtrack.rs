@@ -96,7 +96,7 @@ impl Tracker {
         refusal::check(answer.refusal)
     }
 
-    /// Writes the heavy hitters, the quantile and the message count.
+    /// Writes the heavy hitters, the quantile and the network's message count.
     fn write_answers(&self, text: &mut String) -> Result<(), u8> {
         let (settings, record) = (&self.settings, &self.coordinator);
         let memory = &self.coordinator_memory;
@@ -110,7 +110,7 @@ impl Tracker {
             Some(value) => write_text(text, format_args!("\nclass {value}\n")),
             None => text.push_str("\nclass none\n"),
         }
-        write_text(text, format_args!("messages {}\n", self.sites.messages));
+        write_text(text, format_args!("messages {}\n", self.sites.all_messages(settings)));
         Ok(())
     }
 }

@@ -9,7 +9,7 @@ use crate::site;
 
 pub use crate::site::Sites;
 
-/// Largest message count of a consistent network.
+/// Largest message count of a site in a consistent network.
 pub const MAX_MESSAGES: u64 = 100_000_000_000_000;
 
 /// What the batch call answers: document 01's draws accepted, messages written
@@ -33,7 +33,8 @@ struct Network<'a> {
 }
 
 /// Takes the arrivals in order until one is refused, and delivers everything
-/// between them. Each message is written to the log and counted in `sites`.
+/// between them. Each message is written to the log and counted in `sites`, at
+/// the site that it names.
 pub fn run_batch(
     settings: &Settings,
     sites: &mut Sites,
@@ -50,9 +51,7 @@ pub fn run_batch(
     let mut network =
         Network { settings, sites, site_memory, coordinator, coordinator_memory, log, written: 0 };
     let (accepted, refusal) = network.run(arrivals);
-    let written = network.written;
-    network.sites.messages += written as u64;
-    BatchAnswer { accepted, written, refusal }
+    BatchAnswer { accepted, written: network.written, refusal }
 }
 
 /// What the batch call tests first: refusals 1, 2, 3, 4 and 11, or 0.
@@ -86,7 +85,7 @@ pub(crate) fn memory_short(settings: &Settings, of_sites: usize, of_coordinator:
 }
 
 /// Whether a network is inconsistent wherever its messages stand: each part by
-/// itself, and the count. The settings pass and the memory is long enough.
+/// itself, and the counts. The settings pass and the memory is long enough.
 pub(crate) fn inconsistent(
     settings: &Settings,
     sites: &Sites,
@@ -94,14 +93,15 @@ pub(crate) fn inconsistent(
     coordinator: &CoordinatorRecord,
     coordinator_memory: &[u64],
 ) -> bool {
-    count_inconsistent(sites.messages)
+    counts_inconsistent(settings, sites)
         || coordinator::inconsistent(settings, coordinator, coordinator_memory)
         || sites_inconsistent(settings, sites, site_memory)
 }
 
-/// Whether a network cannot have counted so many messages.
-pub(crate) fn count_inconsistent(messages: u64) -> bool {
-    messages > MAX_MESSAGES
+/// Whether one of the first k sites cannot have counted so many messages. Their
+/// sum has no limit.
+pub(crate) fn counts_inconsistent(settings: &Settings, sites: &Sites) -> bool {
+    sites.messages[..settings.sites as usize].iter().any(|&count| count > MAX_MESSAGES)
 }
 
 /// Whether one of the first k sites is inconsistent by itself.
@@ -212,9 +212,12 @@ impl Network<'_> {
         (&mut self.sites.records[site as usize], memory)
     }
 
-    /// Writes a message to the log, which had places enough before the arrival.
+    /// Writes a message to the log, which had places enough before the arrival,
+    /// and counts it at the site that it comes from or goes to. A count may pass
+    /// its limit here: then the next call that looks at it is refused.
     fn write(&mut self, message: Message) {
         self.log[self.written] = message;
         self.written += 1;
+        self.sites.messages[message.site as usize] += 1;
     }
 }

@@ -58,34 +58,51 @@ impl SiteRecord {
 #[derive(Clone, Copy, Debug, PartialEq, Eq)]
 pub struct Sites {
     pub records: [SiteRecord; MAX_SITES as usize],
-    /// Messages since the start, to which the batch call alone adds.
-    pub messages: u64,
+    /// For each site the messages since the start that name it, either way, to
+    /// which the batch call alone adds.
+    pub messages: [u64; MAX_SITES as usize],
 }
 
-/// Numbers of all sites: their records, then the count of messages.
-pub const SITES_NUMBERS: usize = SITE_NUMBERS * MAX_SITES as usize + 1;
+/// Numbers of the records of all sites.
+const RECORDS_NUMBERS: usize = SITE_NUMBERS * MAX_SITES as usize;
+
+/// Numbers of all sites: their records, then their counts of messages.
+pub const SITES_NUMBERS: usize = RECORDS_NUMBERS + MAX_SITES as usize;
 
 impl Sites {
     /// All records fresh and no message counted.
-    pub const FRESH: Sites =
-        Sites { records: [SiteRecord::FRESH; MAX_SITES as usize], messages: 0 };
+    pub const FRESH: Sites = Sites {
+        records: [SiteRecord::FRESH; MAX_SITES as usize],
+        messages: [0; MAX_SITES as usize],
+    };
 
-    /// All records one after another, then the count of messages.
+    /// All records one after another, then the counts of messages.
     pub fn to_numbers(&self) -> [u64; SITES_NUMBERS] {
-        let mut numbers = [self.messages; SITES_NUMBERS];
-        for (place, record) in numbers.chunks_exact_mut(SITE_NUMBERS).zip(&self.records) {
+        let mut numbers = [0; SITES_NUMBERS];
+        let (records, messages) = numbers.split_at_mut(RECORDS_NUMBERS);
+        for (place, record) in records.chunks_exact_mut(SITE_NUMBERS).zip(&self.records) {
             place.copy_from_slice(&record.to_numbers());
         }
+        messages.copy_from_slice(&self.messages);
         numbers
     }
 
-    /// The records and the count of these plain numbers.
+    /// The records and the counts of these plain numbers.
     pub fn from_numbers(numbers: &[u64; SITES_NUMBERS]) -> Sites {
-        let mut sites = Sites { messages: numbers[SITES_NUMBERS - 1], ..Sites::FRESH };
-        for (record, place) in sites.records.iter_mut().zip(numbers.chunks_exact(SITE_NUMBERS)) {
+        let (records, messages) = numbers.split_at(RECORDS_NUMBERS);
+        let mut sites = Sites::FRESH;
+        for (record, place) in sites.records.iter_mut().zip(records.chunks_exact(SITE_NUMBERS)) {
             *record = SiteRecord::from_numbers(place.try_into().expect("a record's numbers"));
         }
+        sites.messages.copy_from_slice(messages);
         sites
+    }
+
+    /// Messages of the network: request N5's bench total, the sum over the first
+    /// k sites. It has no limit of its own. In a network that any call accepts it
+    /// is far from the largest number.
+    pub fn all_messages(&self, settings: &Settings) -> u64 {
+        self.messages[..settings.sites as usize].iter().sum()
     }
 }
 

@@ -1,8 +1,9 @@
-//! Saving a network overnight and reading it back: request N3's file.
+//! Saving a network overnight and reading it back: request N3's file, with
+//! request N5's message counts.
 //!
 //! Its numbers are little-endian. First the settings k, e, p, q, c, u, then the
-//! coordinator's part (memory, record, the network's message count), 8 bytes a
-//! number; then each site's memory and record, 4 bytes a number; last the
+//! coordinator's part (memory, record, the message counts of the k sites), 8
+//! bytes a number; then each site's memory and record, 4 bytes a number; last the
 //! trailer, which says where the two parts begin, the width of a site's numbers
 //! and the sum of all bytes before the sum. Messages on their way are not in the
 //! file: whoever saves in mid-delivery keeps them.
@@ -40,8 +41,10 @@ impl Layout {
     /// The layout that settings give. Where they do not pass their test, numbers
     /// beyond the largest become the largest.
     fn of(settings: &Settings) -> Layout {
-        let coordinator_numbers =
-            settings.coordinator_memory_len().saturating_add(COORDINATOR_NUMBERS + 1);
+        let coordinator_numbers = settings
+            .coordinator_memory_len()
+            .saturating_add(COORDINATOR_NUMBERS)
+            .saturating_add(settings.sites as usize);
         let site_numbers = settings.site_memory_len().saturating_add(SITE_NUMBERS);
         let coordinator = SETTINGS;
         let sites = coordinator.saturating_add(WIDE.saturating_mul(coordinator_numbers));
@@ -80,7 +83,7 @@ pub fn save(
     let rest = write_wide(file, &settings.to_numbers().map(u64::from));
     let rest = write_wide(rest, &coordinator_memory[..settings.coordinator_memory_len()]);
     let rest = write_wide(rest, &coordinator.to_numbers());
-    let mut rest = write_wide(rest, &[sites.messages]);
+    let mut rest = write_wide(rest, &sites.messages[..settings.sites as usize]);
     let memories = site_memory.chunks_exact(settings.site_memory_len());
     for (record, memory) in sites.records[..settings.sites as usize].iter().zip(memories) {
         rest = write_narrow(rest, memory);
@@ -126,7 +129,7 @@ pub fn byte_sum(bytes: &[u8]) -> u16 {
 }
 
 /// What reading a file answers. The settings are 0 and the records fresh where
-/// it was refused; the records from k on are always fresh.
+/// it was refused; the records from k on are always fresh, and their counts 0.
 #[derive(Clone, Copy, Debug, PartialEq, Eq)]
 pub struct Loaded {
     pub refusal: u8,
@@ -178,16 +181,17 @@ fn read(bytes: &[u8], site_places: usize, coordinator_places: usize) -> Result<L
     }
     let mut coordinator_memory = vec![0; settings.coordinator_memory_len()];
     let rest = read_wide(&bytes[layout.coordinator..], &mut coordinator_memory);
-    let (coordinator, messages) = read_record(rest)?;
+    let (coordinator, rest) = read_record(rest)?;
     if network::memory_short(&settings, site_places, coordinator_places) {
         return Err(refusal::SHORT_MEMORY);
     }
-    if network::count_inconsistent(messages)
+    let mut sites = Sites::FRESH;
+    read_wide(rest, &mut sites.messages[..settings.sites as usize]);
+    if network::counts_inconsistent(&settings, &sites)
         || coordinator::inconsistent(&settings, &coordinator, &coordinator_memory)
     {
         return Err(refusal::INCONSISTENT);
     }
-    let mut sites = Sites { messages, ..Sites::FRESH };
     let mut memory = vec![0; settings.site_memory_len()];
     for (record, site) in sites.records.iter_mut().zip(site_parts(bytes, &layout)) {
         *record = read_site(site, &mut memory);
@@ -229,15 +233,13 @@ fn read_settings(bytes: &[u8]) -> Result<Settings, u8> {
     Ok(settings)
 }
 
-/// The coordinator's record and the message count, or refusal 15 where the phase
+/// The coordinator's record and the bytes after it, or refusal 15 where the phase
 /// is no phase or a number that it has not is not 0.
-fn read_record(bytes: &[u8]) -> Result<(CoordinatorRecord, u64), u8> {
+fn read_record(bytes: &[u8]) -> Result<(CoordinatorRecord, &[u8]), u8> {
     let mut numbers = [0; COORDINATOR_NUMBERS];
-    let mut messages = [0];
     let rest = read_wide(bytes, &mut numbers);
-    read_wide(rest, &mut messages);
     match CoordinatorRecord::from_numbers(numbers) {
-        Some(record) if record.to_numbers() == numbers => Ok((record, messages[0])),
+        Some(record) if record.to_numbers() == numbers => Ok((record, rest)),
         _ => Err(refusal::MALFORMED_FILE),
     }
 }

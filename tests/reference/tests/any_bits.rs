@@ -9,6 +9,7 @@ use reference::network::Sites;
 use reference::refusal::*;
 use reference::settings::{allowance, settings_refusal, Settings};
 use reference::site::{self, SiteRecord, SITES_NUMBERS, SITE_NUMBERS};
+use support::counts::counted_up;
 use support::never_arose::{any, any_network, any_phase, spoil};
 use support::{arrival, message, Random, TestNetwork};
 
@@ -110,7 +111,7 @@ fn networks_that_never_arose() {
             if network.refusal() == ACCEPTED {
                 let sent = single.observe_and_deliver(next, &mut random, |_, _| {});
                 assert_eq!(sent, log[..answer.written]);
-                single.sites.messages = network.sites.messages;
+                single.sites.messages = counted_up(single.sites.messages, &sent);
                 assert_eq!(single, network);
             }
         }
@@ -142,5 +143,9 @@ fn records_as_plain_numbers() {
     assert_eq!(Phase::from_numbers([4, 0, 0, 0, 0]), None);
     assert_eq!(Phase::Collecting { site: 3 }.to_numbers(), [1, 3, 0, 0, 0]);
     assert_eq!(Sites::FRESH.records[31].to_numbers(), [0, 0, 1, 0, 0]);
+    // All records, then one count for each site.
+    let sites = Sites::from_numbers(&std::array::from_fn(|place| place as u64));
+    assert_eq!(sites.records[31].to_numbers(), [155, 156, 157, 158, 159]);
+    assert_eq!((sites.messages[0], sites.messages[31], SITES_NUMBERS), (160, 191, 192));
     assert_eq!(CoordinatorRecord::FRESH.to_numbers(), [0, 0, 1, 0, 0, 0, 0, 0, 0, 0]);
 }

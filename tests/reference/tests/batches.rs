@@ -6,6 +6,7 @@ mod support;
 use reference::message::{Arrival, Message};
 use reference::refusal::*;
 use support::account::Account;
+use support::counts::counted_up;
 use support::streams::{Source, ALL};
 use support::truth::Truth;
 use support::{arrival, message, Random, TestNetwork};
@@ -69,6 +70,7 @@ fn cut_anyhow() {
             let mut truth = Truth::new(&alone.settings);
             let mut account = Account::start(&alone.settings);
             let mut source = Source::new(stream, 300 + round);
+            let mut counts = [0; 32];
             for _ in 0..40 {
                 let arrivals = random_run(&mut source, &batched, &mut random);
                 let mut log = vec![UNUSED; random.below(600) as usize];
@@ -82,9 +84,11 @@ fn cut_anyhow() {
                 truth.check(&batched);
                 account.add(&messages);
                 account.check(&batched);
+                counts = counted_up(counts, &messages);
+                assert_eq!(batched.sites.messages, counts);
                 stopped[usize::from(refusal)] += 1;
             }
-            assert_eq!(batched.sites.messages, truth.messages);
+            assert_eq!(batched.all_messages(), truth.messages);
         }
     }
     for number in [ACCEPTED, UNKNOWN_SITE, UNKNOWN_ITEM, UNKNOWN_VALUE, SHORT_LOG] {

@@ -7,15 +7,16 @@ use reference::coordinator::Phase;
 use reference::message::Message;
 use reference::refusal::*;
 use support::account::Account;
+use support::counts::counted_up;
 use support::streams::{Source, ALL};
 use support::truth::Truth;
 use support::{arrival, message, Random, TestNetwork};
 
-/// What the network looks like, the count of messages aside, which the batch
+/// What the network looks like, the counts of messages aside, which the batch
 /// call alone adds to.
-fn without_count(network: &TestNetwork) -> TestNetwork {
+fn without_counts(network: &TestNetwork) -> TestNetwork {
     let mut network = network.clone();
-    network.sites.messages = 0;
+    network.sites.messages = [0; 32];
     network
 }
 
@@ -40,24 +41,27 @@ fn single_arrivals_do_what_batches_do() {
             let mut truth = Truth::new(&single.settings);
             let mut account = Account::start(&single.settings);
             let mut source = Source::new(stream, 500 + round);
+            let mut counts = [0; 32];
             for _ in 0..400 {
                 let next = source.next(&single);
                 let sent = single.observe_and_deliver(next, &mut random, |network, sent| {
                     account.with(sent).check(network);
                 });
                 account.add(&sent);
+                counts = counted_up(counts, &sent);
                 assert_eq!(sent, batched.take(&[next]));
-                assert_eq!(single, without_count(&batched));
+                assert_eq!(single, without_counts(&batched));
                 truth.count(&single.settings, &next, sent.len());
                 truth.check(&single);
             }
-            assert_eq!(batched.sites.messages, truth.messages);
+            assert_eq!(batched.sites.messages, counts);
+            assert_eq!(batched.all_messages(), truth.messages);
         }
     }
 }
 
-/// A history of both: batches and single arrivals in any order. The network
-/// counts the messages of its batches alone.
+/// A history of both: batches and single arrivals in any order. The sites'
+/// counts are of the messages of batches alone.
 #[test]
 fn batches_and_single_arrivals_mixed() {
     let mut random = Random::new(402);
@@ -65,14 +69,14 @@ fn batches_and_single_arrivals_mixed() {
         let mut network = TestNetwork::start(random_settings(&mut random));
         let mut truth = Truth::new(&network.settings);
         let mut source = Source::new(stream, 600);
-        let mut of_batches = 0;
+        let mut of_batches = [0; 32];
         for _ in 0..400 {
             let next = source.next(&network);
             let sent = if random.one_in(2) {
                 network.observe_and_deliver(next, &mut random, |_, _| {})
             } else {
                 let sent = network.take(&[next]);
-                of_batches += sent.len() as u64;
+                of_batches = counted_up(of_batches, &sent);
                 sent
             };
             truth.count(&network.settings, &next, sent.len());
@@ -195,7 +199,7 @@ fn refused_calls_in_mid_delivery() {
                 refused_calls(network);
             });
             assert_eq!(sent, batched.take(&[next]));
-            assert_eq!(network, without_count(&batched));
+            assert_eq!(network, without_counts(&batched));
         }
     }
     assert!(phases.iter().all(|&times| times > 100), "{phases:?}");

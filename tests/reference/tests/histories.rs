@@ -40,7 +40,7 @@ fn run_measured(
         account.add(&log[..answer.written]);
         account.check(&network);
     }
-    assert_eq!(network.sites.messages, truth.messages);
+    assert_eq!(network.all_messages(), truth.messages);
     (network, truth.leeway_used)
 }
 
@@ -60,6 +60,7 @@ fn run_batches(numbers: [u32; 6], seed: u64, batches: u64) -> TestNetwork {
             truth.count(&network.settings, next, 0);
         }
         truth.messages += answer.written as u64;
+        assert_eq!(network.all_messages(), truth.messages);
         truth.check(&network);
         account.add(&log[..answer.written]);
         account.check(&network);

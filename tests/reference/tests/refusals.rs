@@ -97,13 +97,14 @@ fn good_batch() -> BatchCall {
 
 #[test]
 fn a_batch_refused_when_it_starts() {
-    let defects: [Defect<BatchCall>; 8] = [
+    let defects: [Defect<BatchCall>; 9] = [
         (SETTING_RANGE, |call| call.network.settings.universe = 65_537),
         (PHI_BELOW_EPSILON, |call| call.network.settings.phi = 599),
         (TOO_FEW_COUNTERS, |call| call.network.settings.capacity = 9),
         (SHORT_MEMORY, |call| call.network.site_memory.truncate(2 * 1064 - 1)),
         (SHORT_MEMORY, |call| call.network.coordinator_memory.truncate(1033)),
-        (INCONSISTENT, |call| call.network.sites.messages = 100_000_000_000_001),
+        (INCONSISTENT, |call| call.network.sites.messages[0] = 100_000_000_000_001),
+        (INCONSISTENT, |call| call.network.sites.messages[1] = 100_000_000_000_001),
         (UNKNOWN_SITE, |call| call.arrivals[0].site = u32::MAX),
         (SHORT_LOG, |call| call.log.truncate(47)),
     ];
@@ -144,7 +145,9 @@ fn a_log_with_just_the_places() {
     assert_eq!((answer.accepted, answer.refusal), (2, ACCEPTED));
     // Places after the last one written keep what they held.
     assert!(call.log[answer.written..].iter().all(|place| place.kind == 77));
-    assert_eq!(call.network.sites.messages, 12 + 10);
+    // Of the 22 messages before and now, the two closes have three for each site; the others are
+    // the draws' own two.
+    assert_eq!(call.network.sites.messages[..3], [3 * 2 + 4, 3 * 2 + 6, 0]);
 }
 
 #[test]

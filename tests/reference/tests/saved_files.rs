@@ -1,28 +1,14 @@
 //! The files of `tests/files`, which the separate implementation made: each is what it makes now,
-//! and reading it gives the network it was made of.
+//! and reading it gives the network it was made of. Those of the older layout are read if they are
+//! of one site, and refused if they are of more.
 
 mod support;
 
 use std::fs;
-use std::path::PathBuf;
 
-use support::saved::{announcing, enough, load_beside_plain};
-use support::{arrival, TestNetwork, A};
-
-/// The files' names, and the networks in them.
-fn files() -> [(&'static str, TestNetwork); 3] {
-    let mut after_p3 = TestNetwork::start(A);
-    after_p3.take(&[arrival(0, 7, 3); 6]);
-    [
-        ("a_fresh.bench", TestNetwork::start(A)),
-        ("a_after_p3.bench", after_p3),
-        ("a_announcing.bench", announcing()),
-    ]
-}
-
-fn path(name: &str) -> PathBuf {
-    PathBuf::from(env!("CARGO_MANIFEST_DIR")).join("../files").join(name)
-}
+use reference::refusal::MALFORMED_FILE;
+use support::files::{files, older_files, path};
+use support::saved::{enough, load, load_beside_plain};
 
 #[test]
 fn files_are_what_is_made_now() {
@@ -33,7 +19,23 @@ fn files_are_what_is_made_now() {
     }
 }
 
-/// Makes the files anew: tests/files/README.md says when.
+/// The older layout has the sum of the counts alone.
+#[test]
+fn files_of_the_older_layout() {
+    for (name, network) in files() {
+        let older = network.older_file(network.all_messages());
+        assert_eq!(older == network.file(), network.settings.sites == 1, "{name}");
+    }
+    for (name, network) in older_files() {
+        let bytes = fs::read(path(name)).expect(name);
+        assert!(bytes == network.older_file(network.all_messages()), "{name}");
+        let places = enough(&network.settings);
+        assert_eq!(load_beside_plain(&bytes, places), Err(MALFORMED_FILE), "{name}");
+        assert_eq!(load(&bytes, (0, 0)), Err(MALFORMED_FILE), "{name}");
+    }
+}
+
+/// Makes the files anew, but for those of the older layout: tests/files/README.md says when.
 #[test]
 #[ignore = "writes to tests/files"]
 fn make_files() {

@@ -1,5 +1,5 @@
-//! Request N3: the instances of the file, and that a network saved and read goes on exactly as one
-//! never closed, wherever in its history it was closed.
+//! Request N3: the instances of the file, with request N5's counts of messages, and that a network
+//! saved and read goes on exactly as one never closed, wherever in its history it was closed.
 
 mod support;
 
@@ -8,13 +8,14 @@ use reference::refusal::*;
 use reference::settings::{threshold_of, Settings};
 use reference::site::SiteRecord;
 use reference::snapshot::{self, file_len, Loaded};
+use support::counts::LIMIT;
 use support::never_arose::{any_network, spoil};
 use support::saved::{announcing, enough, load, load_beside_plain, number_at};
 use support::sha256::sha256;
 use support::streams::{Source, ALL};
 use support::{arrival, message, Random, TestNetwork, A};
 
-/// Where the phase of settings A stands in the file, and the message count.
+/// Where the phase of settings A stands in the file, and the one site's message count.
 const PHASE: usize = 48 + 8 * (10 + 1024 + 5);
 const COUNT: usize = PHASE + 8 * 5;
 
@@ -83,7 +84,7 @@ fn phase_in(file: &[u8]) -> [u64; 5] {
 #[test]
 fn a_full_network() {
     let mut network = TestNetwork::start([32, 2, 2, 500, 3000, 65_536]);
-    assert_eq!(file_len(&network.settings), 2_200_340);
+    assert_eq!(file_len(&network.settings), 2_200_588);
     let mut random = Random::new(901);
     let mut draws = |site| -> Vec<_> {
         (0..3000).map(|item| arrival(site, 20 * item + site, random.between(1, 1023))).collect()
@@ -94,8 +95,8 @@ fn a_full_network() {
     assert!(network.sites.records[..32].iter().all(|record| record.used == 3000));
     assert!(network.coordinator.threshold >= 2);
     let file = network.file();
-    let trailer = &file[2_200_340 - 12..];
-    assert_eq!((number_at(trailer, 0, 4), number_at(trailer, 4, 4)), (48, 532_616));
+    let trailer = &file[2_200_588 - 12..];
+    assert_eq!((number_at(trailer, 0, 4), number_at(trailer, 4, 4)), (48, 532_864));
     let mut reopened = network.reopened();
     assert!(reopened == network);
     let more = draws(31);
@@ -138,7 +139,7 @@ fn limits() {
     let billion = 1_000_000_000;
     let mut network = TestNetwork::start([32, 600, 700, 1000, 3000, 40]);
     let settings = network.settings;
-    network.sites.messages = 100_000_000_000_000;
+    network.sites.messages = [LIMIT; 32];
     let full = SiteRecord {
         arrivals: billion,
         pending: billion - 1,
@@ -171,7 +172,7 @@ fn limits() {
 }
 
 /// Sites from k on are not saved, nor is memory beyond what the settings need: the records come
-/// back fresh.
+/// back fresh, and the counts 0.
 #[test]
 fn what_is_not_saved() {
     let mut network = TestNetwork::start([2, 600, 700, 500, 10, 20]);
@@ -180,6 +181,7 @@ fn what_is_not_saved() {
     let mut longer = network.clone();
     let rubbish = SiteRecord { arrivals: 9, pending: 9, threshold: 0, used: 99, dropped: 99 };
     longer.sites.records[2..].fill(rubbish);
+    longer.sites.messages[2..].fill(u64::MAX);
     longer.site_memory.push(u32::MAX);
     longer.coordinator_memory.push(u64::MAX);
     assert_eq!(longer.saved(), Ok(file.clone()));
@@ -194,7 +196,7 @@ fn refused_answer() {
     assert_eq!(answer.refusal, 15);
     assert_eq!(answer.settings.to_numbers(), [0; 6]);
     assert!(answer.sites.records.iter().all(|record| record.to_numbers() == [0, 0, 1, 0, 0]));
-    assert_eq!(answer.sites.messages, 0);
+    assert_eq!(answer.sites.messages, [0; 32]);
     assert_eq!(answer.coordinator.to_numbers(), [0, 0, 1, 0, 0, 0, 0, 0, 0, 0]);
 }
 
@@ -204,7 +206,8 @@ fn lengths() {
     let of = |numbers| file_len(&Settings::from_numbers(numbers));
     assert_eq!(of(A), 12_632);
     assert_eq!(of([1, 1000, 1000, 500, 6, 1]), 12_560);
-    assert_eq!(of([32, 2, 2, 500, 3000, 65_536]), 2_200_340);
+    assert_eq!(of([2, 1000, 1000, 500, 6, 10]), 16_852);
+    assert_eq!(of([32, 2, 2, 500, 3000, 65_536]), 2_200_588);
     assert_eq!(of([u32::MAX; 6]), usize::MAX);
 }
 
@@ -283,11 +286,15 @@ fn networks_that_never_arose() {
         if random.one_in(2) {
             network.sites.records[site as usize].threshold = 1_000_000_000;
         }
-        network.sites.messages = random.pick(&[0, 1 << 32, 100_000_000_000_000]);
+        for count in &mut network.sites.messages[..sites as usize] {
+            *count = random.pick(&[0, 1 << 32, LIMIT]);
+        }
         let unused = network.sites.records[0].used as usize;
         network.site_memory[4 * unused..40].fill(random.next() as u32);
-        assert!(network.reopened() == network);
-        assert!(load_beside_plain(&network.file(), enough(&network.settings)) == Ok(network));
+        let file = network.file();
+        let network = network.without_unused_counts();
+        assert!(network.file() == file && network.reopened() == network);
+        assert!(load_beside_plain(&file, enough(&network.settings)) == Ok(network));
     }
 }
 
@@ -307,7 +314,7 @@ fn spoilt_networks() {
             if rules.is_ok() {
                 let reopened = network.reopened();
                 network.sites.records[3..].fill(SiteRecord::FRESH);
-                assert!(reopened == network);
+                assert!(reopened == network.clone().without_unused_counts());
             }
             // A number too wide for its field is refused on saving, but the file keeps its lowest
             // bytes alone: reading sees these.

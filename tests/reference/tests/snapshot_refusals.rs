@@ -6,7 +6,7 @@ mod support;
 use reference::coordinator::Phase;
 use reference::refusal::*;
 use support::causes::{above_threshold_1, at_threshold_1, in_phase, COORDINATOR_CAUSES};
-use support::causes::{NETWORK_CAUSES, SITE, SITE_CAUSES, THRESHOLD_1_CAUSES};
+use support::causes::{COUNT_CAUSES, NETWORK_CAUSES, SITE, SITE_CAUSES, THRESHOLD_1_CAUSES};
 use support::defects::{for_all_sets, Defect};
 use support::saved::{announcing, enough, load, load_beside_plain};
 use support::saved::{mend, number_at, patched, Places};
@@ -294,7 +294,7 @@ fn wide_numbers() {
         assert_eq!(wide(PHASE + 8 * place), Err(15), "phase number {place}");
     }
     // Where so much is allowed, it comes back whole.
-    assert_eq!(wide(COUNT).expect("a count").sites.messages, WIDE + 50);
+    assert_eq!(wide(COUNT).expect("a count").sites.messages[0], WIDE + 50);
     assert_eq!(wide(DESK).expect("an estimate").coordinator_memory[0], WIDE);
     assert_eq!(wide(RECORD).expect("a total").coordinator.total, WIDE + 6);
     assert_eq!(with(&file, COUNT, 100_000_000_000_001), Err(11));
@@ -363,7 +363,7 @@ fn saving_in_order() {
         (SHORT_MEMORY, |call| call.bytes.truncate(LENGTH - 1)),
         (INCONSISTENT, |call| call.network.coordinator.signals = 2),
         (INCONSISTENT, |call| call.network.sites.records[0].dropped = 1 << 32),
-        (INCONSISTENT, |call| call.network.sites.messages = 100_000_000_000_001),
+        (INCONSISTENT, |call| call.network.sites.messages[0] = 100_000_000_000_001),
     ];
     for network in [TestNetwork::start(A), at_rest(), announcing()] {
         let good = SaveCall { network, bytes: vec![77; LENGTH] };
@@ -395,7 +395,7 @@ fn nothing_lent() {
 }
 
 /// Every cause of refusal 11, on saving and on reading. The network's own causes are for the batch
-/// call, but for the last, which is the limit of the message count.
+/// call; the limits of the message counts are for all three.
 #[test]
 fn inconsistencies() {
     for start in [at_threshold_1(), above_threshold_1()] {
@@ -409,18 +409,19 @@ fn inconsistencies() {
             cause(&mut network);
             check_inconsistent(&network, place);
         }
+        for (place, cause) in COUNT_CAUSES.iter().enumerate() {
+            let mut network = start.clone();
+            cause(&mut network);
+            check_inconsistent(&network, place);
+        }
         for (place, cause) in NETWORK_CAUSES.iter().enumerate() {
             let mut network = start.clone();
             cause(&mut network);
-            if place + 1 == NETWORK_CAUSES.len() {
-                check_inconsistent(&network, place);
-            } else {
-                // Sites from k on may have been changed too: they are not saved.
-                let records = &start.sites.records[2..];
-                network.sites.records[2..].copy_from_slice(records);
-                assert_eq!(network.refusal(), INCONSISTENT, "cause {place}");
-                assert!(network.reopened() == network, "cause {place}");
-            }
+            // Sites from k on may have been changed too: they are not saved.
+            let records = &start.sites.records[2..];
+            network.sites.records[2..].copy_from_slice(records);
+            assert_eq!(network.refusal(), INCONSISTENT, "cause {place}");
+            assert!(network.reopened() == network, "cause {place}");
         }
     }
     for (place, cause) in THRESHOLD_1_CAUSES.iter().enumerate() {

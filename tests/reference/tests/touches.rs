@@ -37,7 +37,7 @@ fn after_a_draw() {
     // One batch of the two accepts both.
     assert_eq!(both.take(&[DRAW, TOUCHED]), messages);
     assert_eq!(both, before);
-    assert_eq!((both.sites.messages, both.heavy_hitters()), (5, vec![7]));
+    assert_eq!((both.all_messages(), both.heavy_hitters()), (5, vec![7]));
     assert_eq!(both.quantile(), Some(3));
 }
 
@@ -160,7 +160,7 @@ fn in_mid_delivery() {
                 touch_everywhere(network);
             });
             assert_eq!(sent, batched.take(&[next]));
-            batched.sites.messages = 0;
+            batched.sites.messages = [0; 32];
             assert_eq!(network, batched);
         }
     }

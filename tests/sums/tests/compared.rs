@@ -4,7 +4,7 @@ use reference::snapshot::byte_sum;
 use sums::{agree, by_words, by_words_held, singly, singly_held, taken, Taken};
 
 /// The bytes that a full bench's file sums.
-const FULL: usize = 2_200_338;
+const FULL: usize = 2_200_586;
 
 /// Numbers that look random and are the same in every run.
 struct Random(u64);
@@ -100,17 +100,28 @@ fn long_ones() {
     }
 }
 
-/// "A full bench: 2,200,338 bytes, 275,042 rounds and 2 single bytes."
+/// A full bench, and the length that request N4's page names: "2,200,338 bytes, 275,042 rounds and
+/// 2 single bytes".
 #[test]
 fn a_full_bench() {
-    let Taken { rounds, singles, .. } = taken(&Random(5).bytes(FULL));
-    assert_eq!((rounds, singles), (275_042, 2));
+    for (length, expected) in [(FULL, 275_073), (2_200_338, 275_042)] {
+        let Taken { rounds, singles, .. } = taken(&Random(5).bytes(length));
+        assert_eq!((rounds, singles), (expected, 2));
+    }
 }
 
 /// The files of tests/files: the sum that they end in.
 #[test]
 fn saved_files() {
-    for name in ["a_fresh", "a_after_p3", "a_announcing"] {
+    for name in [
+        "a_fresh",
+        "a_after_p3",
+        "a_announcing",
+        "two_decks",
+        "two_decks_older",
+        "three_probing",
+        "three_probing_older",
+    ] {
         let path = format!("{}/../files/{name}.bench", env!("CARGO_MANIFEST_DIR"));
         let file = std::fs::read(path).expect("the file is there");
         let (summed, sum) = file.split_at(file.len() - 2);

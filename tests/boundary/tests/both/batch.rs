@@ -56,7 +56,8 @@ impl Records {
 impl Both {
     /// The batch call with a log of so many numbers, which need not be a whole number of records.
     /// Records, both memories, the answer and every place of the log are the same on both sides;
-    /// a call that accepts no draw changes nothing. Answers what was written as well.
+    /// on each, the counts of messages grow by what its log says, those from k on not at all; a
+    /// call that accepts no draw changes nothing. Answers what was written as well.
     pub fn run_batch(
         &mut self,
         network: &mut TestNetwork,
@@ -75,6 +76,8 @@ impl Both {
         let call = || format!("run_batch {:?} {arrivals:?}", before.settings);
         // The counts are written whatever the answer.
         assert_eq!(out, [answer.accepted as u64, answer.written as u64, JUNK], "{}", call());
+        let logged = log.chunks_exact(4).take(out[1] as usize).map(|message| message[1]);
+        assert_eq!(proved.sites.messages, counted_up(before.sites.messages, logged), "{}", call());
         assert!(proved == *network, "{}", call());
         let numbers: Vec<u64> =
             written[..answer.written].iter().flat_map(|message| message.to_numbers()).collect();
@@ -90,6 +93,13 @@ impl Both {
         written.truncate(answer.written);
         (answer, written)
     }
+}
+
+/// The counts with one more for each message, given the site that it names: request N5's, from the
+/// log alone.
+fn counted_up(mut counts: [u64; 32], sites: impl Iterator<Item = u64>) -> [u64; 32] {
+    sites.for_each(|site| counts[site as usize] += 1);
+    counts
 }
 
 /// Whether a refusal is tested once, when a batch starts.

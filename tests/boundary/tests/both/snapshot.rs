@@ -126,7 +126,7 @@ impl Both {
     }
 
     /// The network closed and read from its file, into other memory with some numbers to spare. It
-    /// has the same records of its own sites, the same memory, and again the same file.
+    /// has the same records and counts of its own sites, the same memory, and again the same file.
     pub fn reopened(&mut self, network: &TestNetwork) -> TestNetwork {
         let file = self.save(network).expect("the network can be saved");
         let reopened = self.load(&file, enough(&network.settings)).expect("the file can be read");

@@ -37,12 +37,19 @@ pub fn some_network(random: &mut Random) -> TestNetwork {
         let dropped = if forgetful { some_dropped(arrivals, random) } else { 0 };
         *record = SiteRecord { arrivals, pending, threshold, used, dropped };
     }
+    let full = random.one_in(8);
+    for count in &mut records.messages[..sites] {
+        let some = random.below(MAX_MESSAGES + 1);
+        *count = if full || random.one_in(8) { MAX_MESSAGES } else { some };
+    }
     // Sites from k on are not looked at.
     for record in &mut records.records[sites..] {
         *record = SiteRecord::from_numbers([(); SITE_NUMBERS].map(|()| any(random)));
     }
-    let some = random.below(MAX_MESSAGES + 1);
-    records.messages = if random.one_in(8) { MAX_MESSAGES } else { some };
+    for count in &mut records.messages[sites..] {
+        let some = any(random);
+        *count = random.pick(&[some, MAX_MESSAGES + 1, u64::MAX]);
+    }
     let signals = u64::from(random.below32(settings.sites));
     let signals = random.pick(&[0, signals, u64::from(settings.sites) - 1]);
     let quantile = random.pick(&[0, 511, 1023]);
@@ -80,7 +87,11 @@ pub fn damage_network(network: &mut TestNetwork, random: &mut Random) {
         0 => network.settings = Settings::from_numbers(damaged(&settings, random)),
         1 => cut(&mut network.site_memory, settings.sites_memory_len(), random),
         2 => cut(&mut network.coordinator_memory, settings.coordinator_memory_len(), random),
-        3 => network.sites.messages = any(random),
+        3 => {
+            let site = random.below32(settings.sites) as usize;
+            let some = any(random);
+            network.sites.messages[site] = random.pick(&[some, some, MAX_MESSAGES + 1]);
+        }
         4..=6 => {
             let mut coordinator = Coordinator {
                 settings: numbers_of(&settings),

@@ -18,6 +18,7 @@ use reference::settings::Settings;
 use crate::both::batch::numbers_of;
 use crate::both::Both;
 use crate::support::account::Account;
+use crate::support::counts::{counted_up, Counts};
 use crate::support::plain::PlainNetwork;
 use crate::support::truth::Truth;
 use crate::support::{arrival, Random, TestNetwork};
@@ -39,12 +40,13 @@ pub struct History {
     pub plain: PlainNetwork,
     account: Account,
     random: Random,
-    /// Messages that batches wrote: the network's own count.
-    written: u64,
+    /// Messages that batches wrote, by the site that they name: the network's own counts.
+    written: Counts,
 }
 
 impl History {
-    /// A network started fresh over memory that held something else.
+    /// A network started fresh over memory that held something else. The counts of sites from k on
+    /// are filled with anything.
     pub fn start(both: &mut Both, numbers: [u32; 6], seed: u64) -> History {
         println!("settings {numbers:?}");
         let mut network = TestNetwork::start(numbers);
@@ -55,7 +57,10 @@ impl History {
         let truth = Truth::new(&network.settings);
         let plain = PlainNetwork::start(network.settings);
         let account = Account::start(&network.settings);
-        History { network, truth, plain, account, random: Random::new(seed), written: 0 }
+        let mut random = Random::new(seed);
+        network.fill_unused_counts(&mut random);
+        let written = network.sites.messages;
+        History { network, truth, plain, account, random, written }
     }
 
     /// A batch with a log of so many numbers: what it must do follows from the arrivals alone.
@@ -64,7 +69,7 @@ impl History {
         let (answer, written) = both.run_batch(&mut self.network, arrivals, log_numbers);
         assert_eq!((answer.accepted, answer.refusal), (accepted, refusal));
         assert_eq!(written, messages);
-        self.written += messages.len() as u64;
+        self.written = counted_up(self.written, &messages);
         assert_eq!(self.network.sites.messages, self.written);
         self.check_forgotten(&messages);
     }
@@ -147,7 +152,7 @@ impl History {
             waiting.extend(more);
         }
         assert_eq!(sent, expected);
-        // Single arrivals don't count in the network's own count.
+        // Single arrivals don't count in the network's own counts.
         assert_eq!(self.network.sites.messages, self.written);
     }
 

@@ -103,7 +103,7 @@ pub fn in_phase(network: &mut TestNetwork, phase: Phase, signals: u64) {
 }
 
 /// Each of these parts passes alone, but they do not fit together.
-pub const NETWORK_CAUSES: [fn(&mut TestNetwork); 7] = [
+pub const NETWORK_CAUSES: [fn(&mut TestNetwork); 6] = [
     |network| in_phase(network, Phase::Collecting { site: 0 }, 2),
     |network| in_phase(network, Phase::Probing { site: 0, low: 0, high: 1, sum: 0 }, 2),
     |network| in_phase(network, Phase::Announcing { site: 1 }, 2),
@@ -117,5 +117,14 @@ pub const NETWORK_CAUSES: [fn(&mut TestNetwork); 7] = [
         network.sites.records[0].arrivals += 1;
         network.site_memory[40] += 1;
     },
-    |network| network.sites.messages = 100_000_000_000_001,
+];
+
+/// Each of these makes a site's count of messages too large: inconsistent for the batch call, and
+/// on saving and reading.
+pub const COUNT_CAUSES: [fn(&mut TestNetwork); 5] = [
+    |network| network.sites.messages[0] = 100_000_000_000_001,
+    |network| network.sites.messages[1] = 100_000_000_000_001,
+    |network| network.sites.messages[0] = u64::MAX,
+    |network| network.sites.messages[1] = u64::MAX,
+    |network| network.sites.messages[..2].fill(1 << 63),
 ];

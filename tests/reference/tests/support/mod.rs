@@ -6,7 +6,9 @@
 
 pub mod account;
 pub mod causes;
+pub mod counts;
 pub mod defects;
+pub mod files;
 pub mod firm;
 pub mod full;
 pub mod never_arose;
@@ -110,9 +112,11 @@ impl TestNetwork {
         TestNetwork { settings, sites, site_memory, coordinator, coordinator_memory }
     }
 
-    /// The batch call with a log of the caller's.
+    /// The batch call with a log of the caller's. Each site's count grows by the
+    /// messages in the log that name it, and by nothing else.
     pub fn run_batch(&mut self, arrivals: &[Arrival], log: &mut [Message]) -> BatchAnswer {
-        network::run_batch(
+        let counts = self.sites.messages;
+        let answer = network::run_batch(
             &self.settings,
             &mut self.sites,
             &mut self.site_memory,
@@ -120,7 +124,9 @@ impl TestNetwork {
             &mut self.coordinator_memory,
             arrivals,
             log,
-        )
+        );
+        assert_eq!(self.sites.messages, counts::counted_up(counts, &log[..answer.written]));
+        answer
     }
 
     /// The messages of a batch that must be accepted whole.

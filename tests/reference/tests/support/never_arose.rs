@@ -4,6 +4,7 @@ use reference::coordinator::{CoordinatorRecord, Phase};
 use reference::settings::{threshold_of, Settings};
 use reference::site::SiteRecord;
 
+use super::counts::LIMIT;
 use super::{Random, TestNetwork};
 
 /// Numbers at which something changes.
@@ -57,7 +58,7 @@ pub fn spoil(network: &mut TestNetwork, random: &mut Random) {
             7 => coordinator.signals = number,
             8 => coordinator.quantile = number,
             9 => coordinator.phase = any_phase(random),
-            10 => network.sites.messages = number,
+            10 => network.sites.messages[site] = random.pick(&[number, LIMIT, LIMIT + 1]),
             11 => record.dropped = random.pick(&[number, record.arrivals.saturating_add(1)]),
             12 => {
                 let place = random.below(network.site_memory.len() as u64) as usize;
@@ -127,5 +128,6 @@ pub fn any_network(random: &mut Random) -> TestNetwork {
         CoordinatorRecord { total, base, threshold, signals, quantile, phase: Phase::Idle };
     network.coordinator_memory[8 + random.below(1024) as usize] = total;
     network.coordinator_memory[random.below(8) as usize] = random.pick(&[0, 100_000_000_000]);
+    network.fill_unused_counts(random);
     network
 }

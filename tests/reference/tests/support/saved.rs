@@ -1,5 +1,6 @@
-//! Request N3's files: saving and reading with places to spare, which keep what they held; and a
-//! writer and a reader written out number by number, to hold the others against.
+//! Request N3's files with request N5's counts: saving and reading with places to spare, which keep
+//! what they held; and a writer and a reader written out number by number, to hold the others
+//! against. The writer also makes the older layout, with one count of messages.
 
 use reference::coordinator::{self, CoordinatorRecord, Phase};
 use reference::network::Sites;
@@ -76,8 +77,20 @@ impl TestNetwork {
         load(&self.file(), enough(&self.settings)).expect("the file can be read")
     }
 
-    /// The file of a network, whatever is in it: request N3's table number by number.
+    /// The file of a network, whatever is in it: request N3's table number by number, and request
+    /// N5's counts of the k sites.
     pub fn plain_file(&self) -> Vec<u8> {
+        self.file_with_counts(&self.sites.messages[..self.settings.sites as usize])
+    }
+
+    /// The file of the layout before request N5, which has one count of messages for the network.
+    pub fn older_file(&self, messages: u64) -> Vec<u8> {
+        self.file_with_counts(&[messages])
+    }
+
+    /// The file with these counts of messages at the end of its desk part; offsets, length and sum
+    /// follow from it.
+    fn file_with_counts(&self, counts: &[u64]) -> Vec<u8> {
         let (settings, record) = (&self.settings, &self.coordinator);
         let mut file = PlainFile(vec![]);
         for setting in [settings.sites, settings.epsilon, settings.phi, settings.rank] {
@@ -100,7 +113,7 @@ impl TestNetwork {
             Phase::Announcing { site } => [3, site, 0, 0, 0],
         };
         phase.into_iter().for_each(|number| file.push(number, 8));
-        file.push(self.sites.messages, 8);
+        counts.iter().for_each(|&count| file.push(count, 8));
         let first_deck = file.0.len();
         for site in 0..settings.sites {
             for &number in self.memory_of(site) {
@@ -177,6 +190,7 @@ pub fn load(bytes: &[u8], places: Places) -> Result<TestNetwork, u8> {
     assert!(rest.1.iter().all(|&place| place == WIDE), "refusal {refusal}");
     let records = &sites.records[settings.sites as usize..];
     assert!(records.iter().all(|record| record.to_numbers() == [0, 0, 1, 0, 0]));
+    assert!(sites.messages[settings.sites as usize..].iter().all(|&count| count == 0));
     if refusal == ACCEPTED {
         Ok(TestNetwork { settings, sites, site_memory, coordinator, coordinator_memory })
     } else {
@@ -211,7 +225,7 @@ fn plain_load(bytes: &[u8], places: Places) -> Result<TestNetwork, u8> {
     let settings = plain_settings([0, 1, 2, 3, 4, 5].map(|place| at(8 * place, 8)))?;
     let [k, c, u] =
         [settings.sites, settings.capacity, settings.universe].map(|setting| setting as usize);
-    let decks = 48 + 8 * (u + 1035);
+    let decks = 48 + 8 * (u + 1034 + k);
     let deck = 4 * (4 * c + 1029);
     let laid_out = at(length - 12, 4) == 48 && at(length - 8, 4) == decks as u64;
     if !laid_out || length != decks + k * deck + 12 {
@@ -236,8 +250,8 @@ fn plain_load(bytes: &[u8], places: Places) -> Result<TestNetwork, u8> {
         },
         coordinator_memory: (0..u + 1024).map(|place| at(48 + 8 * place, 8)).collect(),
     };
-    network.sites.messages = at(decks - 8, 8);
     for place in 0..k {
+        network.sites.messages[place] = at(decks - 8 * (k - place), 8);
         let start = decks + place * deck;
         let memory = (0..4 * c + 1024).map(|number| at(start + 4 * number, 4) as u32);
         network.site_memory.extend(memory);
@@ -285,7 +299,7 @@ fn plain_phase(numbers: [u64; 5]) -> Result<Phase, u8> {
 
 impl TestNetwork {
     /// Refusal 11 of a network whose settings and memory's lengths pass: what each part's own
-    /// calls say of it, and the limit of the message count.
+    /// calls say of it, and the limit of each site's message count.
     pub fn memory_rules(&self) -> Result<(), u8> {
         let settings = &self.settings;
         let mut refusals =
@@ -294,7 +308,7 @@ impl TestNetwork {
             let record = &self.sites.records[site as usize];
             refusals.push(site::call_refusal(settings, record, self.memory_of(site)));
         }
-        if self.sites.messages > 100_000_000_000_000 {
+        if self.counts_too_much() {
             refusals.push(INCONSISTENT);
         }
         match refusals.into_iter().find(|&refusal| refusal != ACCEPTED) {

@@ -1,6 +1,6 @@
 -- `bench_memory::counts_within` meets its contract. The invariant: no count before j is above the
 -- limit.
-use Prim.Native.Nat.{ℕ, _-_}
+use Prim.Native.Nat.{ℕ, _-_, _<_}
 use native.Mathlib.Omega.{arith}
 use Rattle.model.proofs.Thresholds.SettingsLaws.{settled}
 use Rattle.site_memory.proofs.SitePart.{few-sites}
@@ -18,17 +18,22 @@ abbrev μ-loop : tie.MeasureT-loop
 loop-holds : tie.Need-loop-holds Inv-loop μ-loop
 loop-holds c = counts-start _ _
 
+-- The count looked at is that of a site.
+inside : (c : tie.In-loop Inv-loop μ-loop)
+    → c .before .loop .j < c .before .before .before .args .settings .sites
+inside c = omega (arith, c .loop-test .taken)
+
 -- There are no more sites than counts.
 array-read-if1 : tie.Need-array-read-if1 Inv-loop μ-loop
 array-read-if1 c =
     let start = c .before .before .before in
-    omega (arith, few-sites (settled (start .args .settings) (start .pre)) (c .loop-test .taken))
+    omega (arith, few-sites (settled (start .args .settings) (start .pre)) (inside c))
 
 returns : tie.Need-returns Inv-loop μ-loop
 returns c =
     let tested = c .before in
     let a = tested .before .before .before .args in
-    counts-fail (a .settings .sites) (a .t2) (tested .before .loop .j) (tested .loop-test .taken)
+    counts-fail (a .settings .sites) (a .t2) (tested .before .loop .j) (inside tested)
     (c .if1 .taken)
 
 loop-again : tie.Need-loop-again Inv-loop μ-loop
@@ -36,7 +41,7 @@ loop-again c =
     let tested = c .before in
     let at-loop = tested .before in
     let a = at-loop .before .before .args in
-    counts-on (a .settings .sites) (a .t2) (at-loop .loop .j) (tested .loop-test .taken)
+    counts-on (a .settings .sites) (a .t2) (at-loop .loop .j) (inside tested)
     (at-loop .loop .inv) (c .if1 .left)
 
 returns-2 : tie.Need-returns-2 Inv-loop μ-loop

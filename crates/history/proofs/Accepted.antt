@@ -23,6 +23,7 @@ use Rattle.model.specs.Network.{Network, siteAt}
 use Rattle.model.specs.NetworkMemory.{sitesWords}
 use Rattle.model.specs.Runs.{batchOf}
 use Rattle.model.specs.SoundNetwork.{DroppedWithin, Sound}
+use Rattle.model.proofs.MessageCount.Counts.{FewCounted}
 use Rattle.model.proofs.Soundness.ConsistentCoordinator.{CoordinatorWithin}
 use Rattle.model.proofs.Soundness.ConsistentNetwork.{network-consistent-of}
 use Rattle.tracker.specs.Batch.{BatchHeld, BatchSays, logRoom}
@@ -30,6 +31,7 @@ use Rattle.history.specs.State.{Held, heldBy, State, AtRest, networkOf, 
 use Rattle.history.specs.Steps.{batchCall}
 use Rattle.history.proofs.SiteParts.{front-long}
 use Rattle.history.proofs.RunSound.{sound-run, messages-within}
+use Rattle.history.proofs.LoggedCounts.{few-of-log}
 use Rattle.history.proofs.Underway.{SoundRest}
 use Rattle.history.proofs.Accounts.{few-dropped}
 use Rattle.history.proofs.SoundMemory as Parts
@@ -66,15 +68,19 @@ module _ {settings : Settings} (passes : settingsRefusal settings ≡ noRefusal)
   coordinator-accepted = Parts.coordinator-accepted passes (state .held) (ok .lengths) held-sound
 
   -- The messages counted are among those of the run.
-  few-counted : Resting settings state → state .held .sites .messages ≤ messageLimit
+  few-counted : Resting settings state
+      → FewCounted (settings .sites) (state .held .sites .messages)
   few-counted rest =
+      let few : length (state .log) ≤ messageLimit =
       omega (
         arith,
-        ok .count-is-sum,
+        ok .log-length,
         ok .logged-within,
         ap length (rest .messages-are),
         messages-within settings passes (state .accepted),
-      )
+      ) in
+      subst (FewCounted (settings .sites)) (sym (ok .counts-are))
+      (few-of-log (settings .sites) (state .log) few)
 
   -- The records that are held, with other memories.
   abbrev memories : List ℕ → List ℕ → Held

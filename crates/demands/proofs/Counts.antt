@@ -7,19 +7,17 @@ use mathlib.Core.List.{List}
 use Prim.Native.Nat.{ℕ, _+_, _-_, _*_, _≤_, _<_}
 use native.Mathlib.Nat.{mul-le-mul-left}
 use native.Mathlib.Omega.{arith}
-use lib.ListN.{length, take, drop, length-replicate}
-use lib.Seq.{getD-drop}
+use lib.ListN.{length, take}
 use Rattle.model.specs.declared.Settings.{Settings}
 use Rattle.model.specs.Refusals.{noRefusal}
 use Rattle.model.specs.Limits.{mostSites, messagesPerArrival, allowanceFactor, firmMessages, firmMessagesPerDigit}
 use Rattle.model.specs.Settings.{settingsRefusal, digits, allowance}
 use Rattle.model.specs.SiteMemory.{sum}
-use Rattle.model.specs.MessageCounts.{noneCounted, countAt, countedUp, naming, totalCount}
+use Rattle.model.specs.MessageCounts.{countAt, naming, totalCount}
 use Rattle.model.specs.Claims.{counted}
 use Rattle.model.proofs.Thresholds.SettingsLaws.{settled}
-use Rattle.model.proofs.MessageCount.CountLaws.{count-naming, total-counted, none-counted, none-in-all}
 use Rattle.history.specs.State.{State}
-use Rattle.history.proofs.LoggedCounts.{counted-behind}
+use Rattle.history.proofs.LoggedCounts.{naming-of-log, past-of-log, total-of-log}
 use Rattle.history.proofs.Invariant.{StateOk}
 use Rattle.demands.specs.Counts.{Counted}
 
@@ -29,44 +27,24 @@ module _ {settings : Settings} (passes : settingsRefusal settings ≡ noRefusal)
   abbrev k : ℕ
   k = settings .sites
 
-  abbrev counts : List ℕ
-  counts = countedUp noneCounted (state .log)
-
-  few-sites : k ≤ length noneCounted
-  few-sites =
-      omega (
-        arith,
-        settled settings passes .sites .at-most,
-        length-replicate {A = ℕ} mostSites 0,
-      )
+  few-sites : k ≤ mostSites
+  few-sites = settled settings passes .sites .at-most
 
   counts-are : (j : ℕ) → j < k → countAt (state .held .sites .messages) j ≡ naming j (state .log)
   counts-are j below =
-      let inside : j < length noneCounted = omega (arith, below, few-sites) in
-      ap (λ (all : List ℕ). countAt all j) (ok .counts-are)
-      ∙ omega (arith, count-naming noneCounted (state .log) j inside, none-counted mostSites j)
+      ap (λ (counts : List ℕ). countAt counts j) (ok .counts-are)
+      ∙ naming-of-log (state .log) j (omega (arith, below, few-sites))
 
-  -- From k on every count is the start's, as no message names such a site.
   counts-past : (j : ℕ) → k ≤ j → countAt (state .held .sites .messages) j ≡ 0
   counts-past j past =
-      let place : k + (j - k) ≡ j = omega (arith, past) in
-      let behind : (all : List ℕ) → countAt (drop k all) (j - k) ≡ countAt all j =
-      λ all. getD-drop k all (j - k) 0 ∙ ap (countAt all) place in
-      ap (λ (all : List ℕ). countAt all j) (ok .counts-are)
-      ∙ sym (behind counts)
-      ∙ ap (λ (tail : List ℕ). countAt tail (j - k)) (counted-behind noneCounted (ok .log-named))
-      ∙ behind noneCounted
-      ∙ none-counted mostSites j
+      ap (λ (counts : List ℕ). countAt counts j) (ok .counts-are)
+      ∙ past-of-log (state .log) k (ok .log-named) j past
 
   total-is : totalCount settings (state .held .sites) ≡ state .logged
   total-is =
-      ap (λ (all : List ℕ). sum (take k all)) (ok .counts-are)
-      ∙ omega (
-        arith,
-        total-counted noneCounted (ok .log-named) few-sites,
-        none-in-all k mostSites,
-        ok .log-length,
-      )
+      ap (λ (counts : List ℕ). sum (take k counts)) (ok .counts-are)
+      ∙ total-of-log (state .log) k (ok .log-named) few-sites
+      ∙ ok .log-length
 
   -- What was logged is among the messages.
   total-few : totalCount settings (state .held .sites) ≤ length (state .messages)

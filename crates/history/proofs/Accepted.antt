@@ -82,7 +82,7 @@ module _ {settings : Settings} (passes : settingsRefusal settings ≡ noRefusal)
         messages-within settings passes (state .accepted),
       ) in
       subst (FewCounted (settings .sites)) (sym (ok .counts-are))
-      (few-of-log (settings .sites) (state .log) few)
+      (few-of-log (state .log) (settings .sites) few)
 
   -- The records that are held, with other memories.
   abbrev memories : List ℕ → List ℕ → Held

@@ -1,5 +1,5 @@
-// A site's record, and the records of all sites with their counts of messages, as rows of numbers in
-// document 01's order (crate `record_numbers` has the definitions), and back.
+// A site's record, and the records of all sites with their counts of messages, as rows of numbers
+// in document 01's order (crate `record_numbers` has the definitions), and back.
 ghost use mathlib.Core.Path.{_≡_};
 ghost use Prim.Native.Nat.{_*_, _<_};
 ghost use lib.Seq.{sets};

@@ -85,13 +85,8 @@ pub fn save_bench(
         };
     }
     write_settings(settings, bytes);
-    write_desk(
-        settings,
-        coordinator,
-        sites.messages,
-        coordinator_memory,
-        bytes,
-    );
+    let counts = sites.messages;
+    write_desk(settings, coordinator, counts, coordinator_memory, bytes);
     write_decks(settings, sites, site_memory, bytes);
     write_trailer(settings, bytes);
     let length = file_length(settings);

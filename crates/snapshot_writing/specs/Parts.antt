@@ -23,8 +23,8 @@ use Rattle.snapshot_file.specs.Reading.{deckSize}
 
 -- ---- The parts
 
--- The numbers of the desk part, from the coordinator's record and memory and the counts of messages,
--- of which the first k are taken.
+-- The numbers of the desk part, from the coordinator's record and memory and the first k counts of
+-- messages.
 abbrev pub deskRow : Settings → CoordinatorRecord → List ℕ → List ℕ → List ℕ
 deskRow settings coordinator counts memory =
     take (coordinatorWords settings) memory

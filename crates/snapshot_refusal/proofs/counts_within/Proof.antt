@@ -21,9 +21,14 @@ abbrev μ-loop : tie.MeasureT-loop
 loop-holds : tie.Need-loop-holds Inv-loop μ-loop
 loop-holds c = counts-start _ _
 
+-- Within the loop j is a deck.
+known : (c : tie.In-loop Inv-loop μ-loop)
+    → c .before .loop .j < c .before .before .before .before .args .settings .sites
+known c = omega (arith, c .loop-test .taken)
+
 messages-in-requires : tie.Need-messages-in-requires Inv-loop μ-loop
 messages-in-requires c κs =
-    record { whole = c .before .before .before .before .pre; known = omega arith }
+    record { whole = c .before .before .before .before .pre; known = omega (arith, known c) }
 
 -- The count that was read is the bench's.
 count-is : (c : tie.After-messages-in Inv-loop μ-loop)
@@ -35,14 +40,14 @@ count-is c =
     let at-loop = c .before .before in
     let a = at-loop .before .before .before .args in
     c .messages-in .ensures
-    ∙ count-held (a .settings) (a .file .now) (at-loop .loop .j) (c .before .loop-test .taken)
+    ∙ count-held (a .settings) (a .file .now) (at-loop .loop .j) (known (c .before))
 
 returns : tie.Need-returns Inv-loop μ-loop
 returns c =
     let inside = c .before .before in
     let a = inside .before .before .before .before .args in
     counts-fail (a .settings .sites) (heldIn (a .settings) (a .file .now) .sites .messages)
-    (inside .before .loop .j) (inside .loop-test .taken)
+    (inside .before .loop .j) (known inside)
     (subst (λ (n : ℕ). messageLimit < n) (count-is (c .before)) (c .if1 .taken))
 
 loop-again : tie.Need-loop-again Inv-loop μ-loop
@@ -51,7 +56,7 @@ loop-again c =
     let at-loop = inside .before in
     let a = at-loop .before .before .before .args in
     counts-on (a .settings .sites) (heldIn (a .settings) (a .file .now) .sites .messages)
-    (at-loop .loop .j) (inside .loop-test .taken) (at-loop .loop .inv)
+    (at-loop .loop .j) (known inside) (at-loop .loop .inv)
     (subst (λ (n : ℕ). n ≤ messageLimit) (count-is (c .before)) (c .if1 .left))
 
 returns-2 : tie.Need-returns-2 Inv-loop μ-loop

@@ -62,10 +62,16 @@ long c =
     let start = c .before .before .before .before .before in
     let all : length (start .args .sites .records) ≡ 32 =
     sym (length-map (start .args .sites .records) _) ∙ start .good .1 .0 .1 .1 .0 .1 .0 .1 in
+    let all-counts : length (start .args .sites .messages) ≡ 32 = search needs in
     record {
       records-enough = omega (
         arith,
         all,
+        settled (start .args .settings) (accepted c .settings-accepted) .sites .at-most,
+      );
+      counts-enough = omega (
+        arith,
+        all-counts,
         settled (start .args .settings) (accepted c .settings-accepted) .sites .at-most,
       );
       sites-long = accepted c .sites-long;
@@ -81,7 +87,7 @@ write-settings-requires c κs =
 
 write-desk-requires : tie.Need-write-desk-requires
 write-desk-requires c κs =
-    let first = c .before .before .before in
+    let first = c .before .before .before .before in
     let passed = first .before .before in
     record {
       file-fits = file-fits passed _ (first .write-settings .kept .1 .0);
@@ -91,7 +97,7 @@ write-desk-requires c κs =
 write-decks-requires : tie.Need-write-decks-requires
 write-decks-requires c κs =
     let second = c .before .before .before in
-    let first = second .before .before .before .before in
+    let first = second .before .before .before .before .before in
     let passed = first .before .before in
     record {
       file-fits = file-fits passed _
@@ -103,7 +109,7 @@ write-trailer-requires : tie.Need-write-trailer-requires
 write-trailer-requires c κs =
     let third = c .before .before .before in
     let second = third .before .before .before .before in
-    let first = second .before .before .before .before in
+    let first = second .before .before .before .before .before in
     file-fits (first .before .before) _
     (third .write-decks .kept .1 .1 .1 .0
     ∙ second .write-desk .kept .1 .1 .1 .1 .0
@@ -112,14 +118,14 @@ write-trailer-requires c κs =
 file-length-requires : tie.Need-file-length-requires
 file-length-requires c κs =
     accepted (c .before .before .before .before .before .before .before .before .before .before
-    .before .before .before .before .before .before) .settings-accepted
+    .before .before .before .before .before .before .before) .settings-accepted
 
 returns-2 : tie.Need-returns-2
 returns-2 c =
     let fourth = c .before .before .before in
     let third = fourth .before .before .before .before in
     let second = third .before .before .before .before in
-    let first = second .before .before .before .before in
+    let first = second .before .before .before .before .before in
     let passed = first .before .before in
     let start = passed .before .before .before .before .before in
     let a = start .args in

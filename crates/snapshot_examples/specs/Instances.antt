@@ -16,6 +16,7 @@ use Rattle.model.specs.declared.Settings.{Settings}
 use Rattle.model.specs.declared.Phase.the-variants.{Idle, Announcing}
 use Rattle.model.specs.Refusals.{noRefusal, settingOutOfRange, memoryTooShort, memoryInconsistent, fileUnreadable, checksumWrong}
 use Rattle.model.specs.Settings.{settingsWith}
+use Rattle.model.specs.MessageCounts.{totalCount}
 use Rattle.model.specs.Instances.{settingsA, draw}
 use Rattle.record_numbers.specs.Numbers.{settingsNumbers}
 use Rattle.little_endian.specs.Sections.{section, sectionsBytes}
@@ -36,6 +37,7 @@ batchState = record {
   waiting = [];
   accepted = draw ∷ [];
   messages = allMessages 1;
+  log = allMessages 1;
   logged = 5;
 }
 
@@ -91,15 +93,15 @@ pub record FileInstances : Type 0 where
   -- "1054"
   pub announcing-reached : Reachable settingsA afterPollAnswer
   pub announcing-phase : afterPollAnswer .held .coordinator .phase ≡ Announcing 0
-  pub announcing-count : afterPollAnswer .held .sites .messages ≡ 0
+  pub announcing-count : totalCount settingsA (afterPollAnswer .held .sites) ≡ 0
   pub announcing-length : length announcingFile ≡ 12632
   pub announcing-desk : deskPointer announcingFile ≡ 48
   pub announcing-decks : decksPointer announcingFile ≡ 8408
   pub announcing-sum : byteSum (unsummed announcingFile) ≡ 1054
-  -- "k 32, c 3000, u 65,536": "2,200,340", "48, 532,616"
-  pub full-length : fileLength fullSettings ≡ 2200340
+  -- "k 32, c 3000, u 65,536": "2,200,340", "48, 532,616", and 31 counts of 8 bytes more (N5)
+  pub full-length : fileLength fullSettings ≡ 2200588
   pub full-desk : deskPlace ≡ 48
-  pub full-decks : decksPlace fullSettings ≡ 532616
+  pub full-decks : decksPlace fullSettings ≡ 532864
   -- saving in mid-delivery is accepted; "4 when .. the lent bytes are too short"
   pub save-exact : saveRefusal settingsA (afterPollAnswer .held) 12632 ≡ noRefusal
   pub save-short : saveRefusal settingsA (afterPollAnswer .held) 12631 ≡ memoryTooShort

@@ -5,7 +5,7 @@
 use mathlib.Core.Path.{_≡_, refl, sym, ap, _∙_, subst⁻¹}
 use mathlib.Core.Bool.{Bool, true, false}
 use mathlib.Core.List.{List}
-use Prim.Native.Nat.{ℕ, _+_}
+use Prim.Native.Nat.{ℕ}
 use lib.ListN.{length, take}
 use borrow.Author.Tests.{eqb-true, eqb-false}
 use Rattle.model.specs.declared.Message.{Message}
@@ -17,6 +17,7 @@ use Rattle.model.specs.CoordinatorMemory.{coordinatorRecord, coordinatorMemory}
 use Rattle.model.specs.NetworkMemory.{siteRecords, sitesMemory}
 use Rattle.model.specs.Network.{Network}
 use Rattle.model.specs.Runs.{Batch}
+use Rattle.model.specs.MessageCounts.{countedUp}
 use Rattle.tracker.specs.Batch.{BatchCall, BatchHeld, BatchSays, startRefusal, batchIn, unlessRefused, logRoom, messageNumbers}
 use Rattle.history.specs.State.{networkOf}
 use Rattle.history.proofs.Answers.{accepted-choice, refused-choice}
@@ -89,7 +90,7 @@ module _ (call : BatchCall) (answer : BatchHeld) (says : BatchSays call answer) 
         handed (answer .held .sites) (answer .held .sites) (call .held .sites)
         (λ (b : Batch). record {
           records = siteRecords (b .network .sites) (call .held .sites .records);
-          messages = call .held .sites .messages + length (b .messages);
+          messages = countedUp (call .held .sites .messages) (b .messages);
         }) (says .sites)
         (λ none done.
         let network = sym (both-batches none .same .same-network) in
@@ -97,7 +98,7 @@ module _ (call : BatchCall) (answer : BatchHeld) (says : BatchSays call answer) 
         done
         ∙ (λ i. record {
           records = siteRecords (network i .sites) (call .held .sites .records);
-          messages = call .held .sites .messages + length (messages i);
+          messages = countedUp (call .held .sites .messages) (messages i);
         }))
         (λ kept. kept);
     coordinator =

@@ -1,20 +1,18 @@
 -- Every state of a history can be saved and read back: its parts are sound and within the limits,
--- in mid-delivery too, and its messages are no more than those of a run.
+-- in mid-delivery too.
 --
---   few-counted     the count of messages is within its limit
 --   saves           saving is accepted
 --   again           what reading hands back
 --   closing         the claim
-use mathlib.Core.Path.{_≡_, sym, ap, subst}
+use mathlib.Core.Path.{_≡_, sym, subst}
 use mathlib.Core.Bool.{true}
 use mathlib.Core.List.{List}
 use Prim.Native.Nat.{ℕ, _≤_}
 use native.Mathlib.Omega.{arith}
-use lib.ListN.{length, take, length-append}
+use lib.ListN.{length, take}
 use borrow.Author.Tests.{le-ltb}
 use Rattle.model.specs.declared.Settings.{Settings}
 use Rattle.model.specs.Refusals.{noRefusal}
-use Rattle.model.specs.Limits.{messageLimit}
 use Rattle.model.specs.Settings.{settingsRefusal}
 use Rattle.model.specs.CoordinatorMemory.{coordinatorWords}
 use Rattle.model.specs.Network.{Network}
@@ -29,12 +27,10 @@ use Rattle.snapshot_file.specs.Calls.{SaveSays, LoadSays}
 use Rattle.snapshot_file.proofs.Theorem.{file-claims}
 use Rattle.history.specs.State.{Held, State, networkOf, fronts, lending}
 use Rattle.history.proofs.SiteParts.{front-long}
-use Rattle.history.proofs.RunSound.{messages-within}
 use Rattle.history.proofs.Underway.{SoundParts}
 use Rattle.history.proofs.Accounts.{few-dropped}
 use Rattle.history.proofs.NetworkFronts.{network-front}
-use Rattle.history.proofs.Invariant.{run-of-standing}
-use Rattle.history.proofs.Accepted.{held-sound}
+use Rattle.history.proofs.Accepted.{held-sound, few-counted}
 use Rattle.history.proofs.Lasting.{Lasting, all-sites}
 use Rattle.history.proofs.MachineNumbers.{of-machine}
 use Rattle.history.proofs.Reopened.{back, held-again}
@@ -42,19 +38,6 @@ use Rattle.demands.specs.Closing.{Again, Closing}
 
 module _ {settings : Settings} (passes : settingsRefusal settings ≡ noRefusal)
     {n : ℕ} (state : State) (start : Held) (now : Lasting settings start n state) where
-  -- What was logged is among the messages, and these are the first of a run's.
-  few-counted : state .held .sites .messages ≤ messageLimit
-  few-counted =
-      let begins = run-of-standing passes (now .ok .standing) in
-      omega (
-        arith,
-        now .ok .count-is-sum,
-        now .ok .logged-within,
-        ap length (begins .messages-are),
-        length-append (state .messages) (begins .later),
-        messages-within settings passes (state .accepted),
-      )
-
   -- What is asked of each part, of the network that is held.
   record Fit (network : Network) : Type 0 where
     read : SitesRead settings (settings .sites) (network .sites)
@@ -97,7 +80,7 @@ module _ {settings : Settings} (passes : settingsRefusal settings ≡ noRefusal)
         fit in
         bench-consistent-of settings (lent .sites) (lent .coordinator) (lent .siteMemory)
         (lent .coordinatorMemory) (there .read) (there .parts .coordinator-sound)
-        (there .parts .within) few-counted
+        (there .parts .within) (few-counted passes (now .ok))
 
     saves : (room : ℕ) → fileLength settings ≤ room → saveRefusal settings lent room ≡ noRefusal
     saves room long =

@@ -146,6 +146,7 @@ state-without before slices arrivals answer =
       waiting = after .waiting;
       accepted = before .accepted ++ draws i;
       messages = after .messages;
+      log = after .log;
       logged = after .logged;
     }
 

@@ -7,6 +7,7 @@ pub mod FirmShares
 pub mod ListReading
 pub mod Readings
 pub mod FewFollow
+pub mod Counts
 pub mod SiteArrivals
 pub mod BatchStops
 pub mod RefusedDraws

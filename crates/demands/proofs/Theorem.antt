@@ -36,7 +36,7 @@ use Rattle.history.proofs.Arisen.{lasting}
 use Rattle.demands.specs.Reading.{FirmShare}
 use Rattle.demands.specs.First.{First}
 use Rattle.demands.specs.Second.{Second}
-use Rattle.demands.specs.Whole.{Whole}
+use Rattle.demands.specs.Whole.{loggedCounts, Whole}
 use Rattle.demands.specs.Third.{Third}
 use Rattle.demands.specs.Dropped.{Dropped}
 use Rattle.demands.specs.Closing.{Closing}
@@ -46,6 +46,7 @@ use Rattle.demands.proofs.GoesOnClaims.{delivery-goes-on}
 use Rattle.demands.proofs.FirmShares.{listed-firm}
 use Rattle.demands.proofs.Readings.{reads-right}
 use Rattle.demands.proofs.FewFollow.{few-follow}
+use Rattle.demands.proofs.Counts.{counted-of}
 use Rattle.demands.proofs.OneTouch.{others-left, touch-or-draw}
 use Rattle.demands.proofs.Closings as Closings
 use Rattle.demands.proofs.GivenDraws.{as-given}
@@ -129,7 +130,7 @@ module _ (settings : Settings) (state : State) (passes : settingsRefusal setting
         whole-at-rest = λ rest.
             now
             ∙ ap (λ (network : Network).
-            networkWritten settings (heldAtStart reachable) network (state .logged))
+            networkWritten settings (heldAtStart reachable) network (loggedCounts state))
             (resting-of passes (there .ok) rest .network-is);
       }
 
@@ -145,39 +146,57 @@ module _ (settings : Settings) (state : State) (passes : settingsRefusal setting
   few : FewMessages settings run
   few = demands-over-runs .few-messages settings (state .accepted) passes
 
-  third : Third settings state
-  third =
-      let over = begins .accepted-are in
-      let digits-bound = subst (λ (arrivals : List Arrival).
+  within-digits : settings .epsilon * length (state .messages)
+      ≤ allowanceFactor settings * (settings .sites * (digits (counted (state .accepted)) + 1))
+  within-digits =
+      let of-run = subst (λ (arrivals : List Arrival).
       settings .epsilon * length (run .messages)
       ≤ allowanceFactor settings * (settings .sites * (digits (counted arrivals) + 1)))
-      over (few .within-digits) in
-      let arrivals-bound = subst (λ (arrivals : List Arrival).
-      length (run .messages) ≤ messagesPerArrival settings * counted arrivals) over
-      (few .per-arrival) in
-      let allowance-bound = subst (λ (arrivals : List Arrival).
-      length (run .messages) ≤ allowance settings (counted arrivals)) over
-      (few .within-allowance) in
-      let firm-bound = subst (λ (arrivals : List Arrival).
+      (begins .accepted-are) (few .within-digits) in
+      omega (arith, mul-le-mul-left (settings .epsilon) no-more, of-run)
+
+  per-arrival : length (state .messages) ≤ messagesPerArrival settings * counted (state .accepted)
+  per-arrival =
+      let of-run = subst (λ (arrivals : List Arrival).
+      length (run .messages) ≤ messagesPerArrival settings * counted arrivals)
+      (begins .accepted-are) (few .per-arrival) in
+      omega (arith, no-more, of-run)
+
+  within-allowance : length (state .messages) ≤ allowance settings (counted (state .accepted))
+  within-allowance =
+      let of-run = subst (λ (arrivals : List Arrival).
+      length (run .messages) ≤ allowance settings (counted arrivals))
+      (begins .accepted-are) (few .within-allowance) in
+      omega (arith, no-more, of-run)
+
+  within-later-digits : settings .epsilon * length (state .messages)
+      ≤ firmMessages settings * settings .sites
+      + firmMessagesPerDigit settings * (settings .sites * (digits (counted (state .accepted)) - 2))
+  within-later-digits =
+      let of-run = subst (λ (arrivals : List Arrival).
       settings .epsilon * length (run .messages)
       ≤ firmMessages settings * settings .sites
       + firmMessagesPerDigit settings * (settings .sites * (digits (counted arrivals) - 2)))
-      over
+      (begins .accepted-are)
       (demands-over-runs .firm-messages settings (state .accepted) passes
       .within-later-digits) in
+      omega (arith, mul-le-mul-left (settings .epsilon) no-more, of-run)
+
+  third : Third settings state
+  third =
       record {
-        within-digits =
-            omega (arith, mul-le-mul-left (settings .epsilon) no-more, digits-bound);
-        per-arrival = omega (arith, no-more, arrivals-bound);
-        within-allowance = omega (arith, no-more, allowance-bound);
-        within-later-digits =
-            omega (arith, mul-le-mul-left (settings .epsilon) no-more, firm-bound);
+        within-digits = within-digits;
+        per-arrival = per-arrival;
+        within-allowance = within-allowance;
+        within-later-digits = within-later-digits;
         few-messages-after-each = λ n.
             demands-over-runs .few-messages settings (take n (state .accepted)) passes;
         firm-messages-after-each = λ n.
             demands-over-runs .firm-messages settings (take n (state .accepted)) passes;
         few-follow = few-follow settings passes (state .accepted);
-        count-is-sum = there .ok .count-is-sum;
+        counts =
+            counted-of passes (there .ok) within-digits per-arrival within-allowance
+            within-later-digits;
       }
 
   -- Every draw is reported, unreported or forgotten.

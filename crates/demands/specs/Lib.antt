@@ -4,6 +4,7 @@ pub mod Given
 pub mod First
 pub mod Second
 pub mod Whole
+pub mod Counts
 pub mod Third
 pub mod Dropped
 pub mod Touches

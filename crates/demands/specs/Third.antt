@@ -13,6 +13,7 @@ use Rattle.model.specs.Settings.{digits, allowance}
 use Rattle.model.specs.Runs.{Run, runOf}
 use Rattle.model.specs.Claims.{counted, FewMessages, FirmMessages}
 use Rattle.history.specs.State.{State}
+use Rattle.demands.specs.Counts.{Counted}
 
 -- "At most 23 × k + 2 messages follow one draw": a run, and the run with one arrival more.
 pub record FewFollow (settings : Settings) (before after : Run) : Type 0 where
@@ -46,5 +47,5 @@ pub record Third (settings : Settings) (state : State) : Type 0 where
       → n < counted (state .accepted)
       → FewFollow settings (runOf settings (take n (state .accepted)))
       (runOf settings (take (suc n) (state .accepted)))
-  -- "the bench's count is the sum of these answers"
-  pub count-is-sum : state .held .sites .messages ≡ state .logged
+  -- the same of what the network counts
+  pub counts : Counted settings state

@@ -1,14 +1,13 @@
 -- A batch of one arrival.
 --
 --   one-refusal, one-taken       with a log long enough: refused as the rules say, or taken
---   length-messagesIn            how many messages a log's first records are
 --   leftOf, says-of              what the batch call answers and leaves, by its contract
 use mathlib.Core.Path.{_≡_, refl, sym, ap, _∙_}
 use mathlib.Core.Bool.{Bool, true, false}
 use mathlib.Core.List.{List, [], _∷_}
-use Prim.Native.Nat.{ℕ, zero, suc, _-_, _≤_}
+use Prim.Native.Nat.{ℕ, _-_, _≤_}
 use native.Mathlib.Omega.{arith}
-use lib.ListN.{length, drop}
+use lib.ListN.{length}
 use borrow.Author.Tests.{eqb-true, le-ltb}
 use Rattle.model.specs.declared.Settings.{Settings}
 use Rattle.model.specs.declared.Arrival.{Arrival}
@@ -21,7 +20,7 @@ use Rattle.model.specs.CoordinatorMemory.{coordinatorRecord, coordinatorMemory}
 use Rattle.model.specs.NetworkMemory.{sitesMemory}
 use Rattle.model.specs.Network.{Network, afterLine}
 use Rattle.model.specs.Runs.{lineRefusalIn, Batch, batchRefusal, batchFrom, batchOf}
-use Rattle.tracker.specs.Batch.{BatchCall, BatchHeld, BatchSays, batchIn, unlessRefused, sitesAfter, messageNumbers, messagesIn}
+use Rattle.tracker.specs.Batch.{BatchCall, BatchHeld, BatchSays, batchIn, unlessRefused, sitesAfter, messageNumbers}
 use Rattle.history.proofs.Answers.{or-accepted}
 use Rattle.drawtrack_steps.specs.Steps.{drawRefusal}
 
@@ -61,10 +60,6 @@ module _ (settings : Settings) (room : ℕ) (network : Network) (arrival : Arriv
     messages-are = rw (test-is, none, batchFrom);
     accepted-is = rw (test-is, none, batchFrom);
   }
-
-pub length-messagesIn : (count : ℕ) (log : List ℕ) → length (messagesIn count log) ≡ count
-length-messagesIn zero log = refl
-length-messagesIn (suc count) log = ap suc (length-messagesIn count (drop 4 log))
 
 -- ---- The batch call's answer, by its contract
 

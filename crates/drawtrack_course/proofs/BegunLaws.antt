@@ -117,7 +117,7 @@ module _ (settings : Settings) (at : ℕ) (siteMemory memory : List ℕ)
     coordinator-long = ok .lengths .coordinator-long;
     network-is = rest .network-is;
     accepted-are = rest .accepted-are;
-    count-is = ok .count-is-sum;
+    counts-are = ok .counts-are;
   }
 
 -- ---- The beginning

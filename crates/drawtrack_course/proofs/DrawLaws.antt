@@ -8,7 +8,7 @@ use mathlib.Core.Bool.{true}
 use mathlib.Core.List.{List, [], _∷_, _++_}
 use Prim.Native.Nat.{ℕ, _≤_}
 use native.Mathlib.Omega.{arith}
-use lib.ListN.{length, take, length-append}
+use lib.ListN.{length, take}
 use borrow.Author.Tests.{eq-eqb}
 use Rattle.model.specs.declared.Settings.{Settings}
 use Rattle.model.specs.declared.Arrival.{Arrival}
@@ -18,9 +18,10 @@ use Rattle.model.specs.Settings.{settingsRefusal}
 use Rattle.model.specs.Draws.{drawsOf}
 use Rattle.model.specs.Network.{Network, afterLine}
 use Rattle.model.specs.Runs.{Run, runOf, lineRefusalIn}
+use Rattle.model.specs.MessageCounts.{noneCounted, countedUp}
 use Rattle.model.proofs.Touches.DrawLaws.{line-few}
 use Rattle.worklist_reader.specs.declared.Step.{Step}
-use Rattle.tracker.specs.Batch.{BatchCall, BatchHeld, BatchSays, batchIn, unlessRefused, logRoom, messagesIn}
+use Rattle.tracker.specs.Batch.{BatchCall, BatchHeld, BatchSays, batchIn, unlessRefused, logRoom}
 use Rattle.history.specs.State.{State, networkOf}
 use Rattle.history.specs.Steps.{afterBatch}
 use Rattle.history.proofs.Accepted.{batch-by-rules}
@@ -32,7 +33,7 @@ use Rattle.drawtrack_steps.specs.Steps.{drawCall, drawRefusal, takenOf}
 use Rattle.drawtrack_steps.proofs.TakeLaws.{done}
 use Rattle.drawtrack_course.specs.Course.{Represents, Room}
 use Rattle.drawtrack_course.proofs.StateLaws.{runAfter, state, state-ok, state-at-rest}
-use Rattle.drawtrack_course.proofs.BatchLaws.{one-refusal, One, one-taken, length-messagesIn, leftOf, says-of}
+use Rattle.drawtrack_course.proofs.BatchLaws.{one-refusal, One, one-taken, leftOf, says-of}
 
 -- ---- The draw of a line
 
@@ -128,16 +129,14 @@ module _ {session : Session} {given : Buffers} {arrivals : List Arrival}
         ap (λ (n : ℕ). arrivals ++ drawsOf (take n (arrival ∷ [])))
         (is (answer .accepted) _ _ refl ∙ taken .accepted-is)
 
-    count-then : answer .held .sites .messages ≡ length (runOf settings after-all .messages)
-    count-then =
-        omega (
-          arith,
-          ok-then .count-is-sum,
-          ap length (rest-then .messages-are
-              ∙ ap (λ (xs : List Arrival). runOf settings xs .messages) accepted-then),
-          length-append (run .messages) (messagesIn (answer .written) (answer .log)),
-          length-messagesIn (answer .written) (answer .log),
-        )
+    -- All messages so far are those of the logs.
+    counts-then : answer .held .sites .messages
+        ≡ countedUp noneCounted (runOf settings after-all .messages)
+    counts-then =
+        ok-then .counts-are
+        ∙ ap (countedUp noneCounted)
+        (rest-then .messages-are
+        ∙ ap (λ (xs : List Arrival). runOf settings xs .messages) accepted-then)
 
     abbrev next : Session
     next = record {
@@ -165,7 +164,7 @@ module _ {session : Session} {given : Buffers} {arrivals : List Arrival}
       accepted-are =
           subst (λ (xs : List Arrival). runOf settings xs .accepted ≡ xs) accepted-then
           (rest-then .accepted-are);
-      count-is = count-then;
+      counts-are = counts-then;
     }
 
     -- The same, with records and memory as the definition of the draw has them.

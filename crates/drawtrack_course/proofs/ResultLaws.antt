@@ -21,16 +21,18 @@ use Rattle.model.specs.Network.{Network}
 use Rattle.model.specs.Reading.{isListed, listedFrom, heavyHitters, leastValueFrom, quantileOf}
 use Rattle.model.specs.Runs.{Run}
 use Rattle.model.specs.Transcript.{endLine, classWord, messagesWord, quantileWord, resultLines}
+use Rattle.model.proofs.Thresholds.SettingsLaws.{settled}
 use Rattle.model.proofs.BetweenArrivals.ReportLaws.{valueCount-is}
 use Rattle.output_lines.specs.Contracts.{countedLine, listedLine}
 use Rattle.output_transcript.proofs.LineBounds.{line-claims}
 use Rattle.coordinator_list.specs.Contracts.{listRefusal}
-use Rattle.history.proofs.RunSound.{sound-run, messages-within}
+use Rattle.history.proofs.RunSound.{sound-run, messages-within, run-names}
+use Rattle.history.proofs.LoggedCounts.{total-of-log}
 use Rattle.history.proofs.Accepted.{coordinator-accepted}
 use Rattle.drawtrack_steps.specs.declared.Session.{Session}
 use Rattle.output_lines.specs.Contracts.{atStart, linesAfter}
 use Rattle.drawtrack_steps.specs.Outcome.{Buffers}
-use Rattle.drawtrack_steps.specs.Steps.{sessionCoordinator, resultLinesOf, listedOf, resultsOf}
+use Rattle.drawtrack_steps.specs.Steps.{sessionCoordinator, printedCount, resultLinesOf, listedOf, resultsOf}
 use Rattle.laws.proofs.Writing.{joined}
 use Rattle.output_lines.proofs.OutputLaws.{Fitted, fits-all}
 use Rattle.drawtrack_course.specs.Course.{Represents, Room}
@@ -181,6 +183,18 @@ module _ {session : Session} {given : Buffers} {arrivals : List Arrival}
       line-claims .count (length (run .messages))
       (omega (arith, messages-within settings (stands .settings-accepted) arrivals))
 
+  -- The sum of the counts is the number of messages, far below what 64 bits hold.
+  count-is : printedCount settings (session .sites .messages) ≡ length (run .messages)
+  count-is =
+      let passes = stands .settings-accepted in
+      ap (printedCount settings) (stands .counts-are)
+      ∙ omega (
+        arith,
+        total-of-log (run .messages) (settings .sites) (run-names settings passes arrivals)
+            (settled settings passes .sites .at-most),
+        messages-within settings passes arrivals,
+      )
+
   abbrev lines : List (List ℕ)
   lines = listLine ∷ (classLine ∷ (countLine ∷ []))
 
@@ -188,7 +202,7 @@ module _ {session : Session} {given : Buffers} {arrivals : List Arrival}
   lines-are = (λ i.
       listedLine (heavyHitters settings (coordinator-is i))
       ∷ (endLine (classWord ++ quantileWord (quantileOf settings (coordinator-is i)))
-      ∷ (countedLine messagesWord (stands .count-is i) ∷ [])))
+      ∷ (countedLine messagesWord (count-is i) ∷ [])))
 
   joined-lines : joined lines ≡ resultLines settings run
   joined-lines =

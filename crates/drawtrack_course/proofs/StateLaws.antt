@@ -11,7 +11,7 @@ use Rattle.model.specs.declared.Arrival.{Arrival}
 use Rattle.model.specs.Network.{Network}
 use Rattle.model.specs.Runs.{Run, runOf}
 use Rattle.history.specs.State.{State, AtRest}
-use Rattle.history.proofs.RunSound.{sound-run}
+use Rattle.history.proofs.RunSound.{sound-run, run-names}
 use Rattle.history.proofs.Invariant.{StateOk, Resting, resting}
 use Rattle.drawtrack_steps.specs.declared.Session.{Session}
 use Rattle.drawtrack_steps.specs.Outcome.{heldOf}
@@ -26,6 +26,7 @@ state session siteMemory coordinatorMemory arrivals = record {
   waiting = [];
   accepted = arrivals;
   messages = runAfter session arrivals .messages;
+  log = runAfter session arrivals .messages;
   logged = length (runAfter session arrivals .messages);
 }
 
@@ -50,7 +51,9 @@ module _ {session : Session} {siteMemory coordinatorMemory : List ℕ} {arrivals
       coordinator-long = stands .coordinator-long;
     };
     standing = resting refl state-rest;
-    count-is-sum = stands .count-is;
+    counts-are = stands .counts-are;
+    log-named = run-names (session .settings) (stands .settings-accepted) arrivals;
+    log-length = refl;
     logged-within = omega arith;
   }
 

@@ -25,6 +25,7 @@ use Rattle.model.specs.Draws.{drawsOf}
 use Rattle.model.specs.Network.{afterLine}
 use Rattle.model.specs.NetworkMemory.{sitesWords}
 use Rattle.model.specs.Held.{networkOf}
+use Rattle.model.specs.MessageCounts.{noneCounted, countedUp}
 use Rattle.model.specs.Lines.{Fields, readFields}
 use Rattle.model.specs.Runs.{Run, runOf, lineRefusalIn}
 use Rattle.model.specs.Transcript.{messageLines, refusedLine, resultLines, programRefusal}
@@ -41,7 +42,7 @@ use Rattle.drawtrack_session.specs.Advance.{AdvanceSays}
 -- ---- What a session stands for
 
 -- The session stands after these draws, all of them accepted: records and memory hold the network
--- of the model's run over them, and its messages are counted.
+-- of the model's run over them, and each of its messages is counted at the site that it names.
 pub record Represents (session : Session) (siteMemory coordinatorMemory : List ℕ)
     (arrivals : List Arrival) : Type 0 where
   pub settings-accepted : settingsRefusal (session .settings) ≡ noRefusal
@@ -54,7 +55,8 @@ pub record Represents (session : Session) (siteMemory coordinatorMemory : List �
       networkOf (session .settings) (heldOf session siteMemory coordinatorMemory)
       ≡ runOf (session .settings) arrivals .network
   pub accepted-are : runOf (session .settings) arrivals .accepted ≡ arrivals
-  pub count-is : session .sites .messages ≡ length (runOf (session .settings) arrivals .messages)
+  pub counts-are : session .sites .messages
+      ≡ countedUp noneCounted (runOf (session .settings) arrivals .messages)
 
 -- Room for the messages of one draw in the log, for a list of all items, and for the lines of
 -- either.

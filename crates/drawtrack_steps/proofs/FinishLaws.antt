@@ -1,5 +1,6 @@
 -- The end of the worklist: the call that writes the results does what its definition says.
 --
+--   settings-pass                      the list call is accepted for settings that pass alone
 --   finish-refused, finish-listed      the two answers
 use mathlib.Core.Path.{_≡_, refl, sym, ap, _∙_}
 use mathlib.Core.List.{List, [], _∷_, _++_}
@@ -9,6 +10,7 @@ use lib.Seq.{take-at}
 use borrow.Author.Tests.{eq-eqb, ne-eqb}
 use Rattle.model.specs.declared.Settings.{Settings}
 use Rattle.model.specs.Refusals.{noRefusal}
+use Rattle.model.specs.Settings.{settingsRefusal}
 use Rattle.model.specs.SiteMemory.{overwrite}
 use Rattle.model.specs.Coordinator.{Coordinator}
 use Rattle.model.specs.CoordinatorMemory.{coordinatorIn, coordinatorMemoryRefusal}
@@ -23,7 +25,16 @@ use Rattle.coordinator_list.specs.Contracts.{listRefusal, ListSays}
 use Rattle.drawtrack_steps.specs.declared.Session.{Session}
 use Rattle.drawtrack_steps.specs.Outcome.{outcome, ended, RefuseSays, refusedOf, buffers}
 use Rattle.drawtrack_steps.specs.declared.Moved.{Moved}
-use Rattle.drawtrack_steps.specs.Steps.{resultLinesOf, FinishSays}
+use Rattle.drawtrack_steps.specs.Steps.{printedCount, resultLinesOf, FinishSays}
+
+pub settings-pass : (session : Session) (memory listBefore listAfter : List ℕ) (listed : Listed)
+    → ListSays (session .settings) (session .coordinator) memory listBefore listAfter listed
+    → listed .refusal ≡ noRefusal
+    → settingsRefusal (session .settings) ≡ noRefusal
+settings-pass session memory listBefore listAfter listed lists none =
+    let tested = coordinatorMemoryRefusal (session .settings) (session .coordinator) memory in
+    both-accepted (settingsRefusal (session .settings)) _
+    (both-accepted tested _ (sym (lists .refusal) ∙ none) .first-accepted) .first-accepted
 
 module _ (session : Session) (memory listBefore listAfter : List ℕ) (listed : Listed)
     (lists : ListSays (session .settings) (session .coordinator) memory listBefore listAfter listed)
@@ -73,22 +84,24 @@ module _ (session : Session) (memory listBefore listAfter : List ℕ) (listed : 
         reads .quantile
         ∙ rw (eq-eqb tested 0 (both-accepted tested _ fine .first-accepted))
 
-    pub finish-listed : (out₁ out₂ : List ℕ) (p₁ p₂ p₃ : ℕ)
+    pub finish-listed : (out₁ out₂ : List ℕ) (p₁ p₂ p₃ total : ℕ)
+        → total ≡ printedCount settings (session .sites .messages)
         → LineWritten (listedLine (take (listed .count) listAfter)) 0 before out₁ p₁
         → LineWritten (endLine (classWord ++ quantileWord (read .quantile))) p₁ out₁ out₂ p₂
-        → LineWritten (countedLine messagesWord (session .sites .messages)) p₂ out₂ after p₃
+        → LineWritten (countedLine messagesWord total) p₂ out₂ after p₃
         → moved ≡ ended session noRefusal p₃
         → FinishSays session memory listBefore before listAfter after moved
-    finish-listed out₁ out₂ p₁ p₂ p₃ first second third moved-is =
+    finish-listed out₁ out₂ p₁ p₂ p₃ total total-is first second third moved-is =
         let classLine = endLine (classWord ++ quantileWord (read .quantile)) in
-        let countLine = countedLine messagesWord (session .sites .messages) in
+        let countLine = countedLine messagesWord total in
         let two = second .is ∙ ap (λ (w : Written). lineAfter w classLine) (first .is) in
         let three = third .is ∙ ap (λ (w : Written). lineAfter w countLine) two in
         let all : writtenTo p₃ after ≡ linesAfter (atStart before) (resultLinesOf session c) =
         three
         ∙ (λ i. linesAfter (atStart before)
         (listedLine (items-are i)
-        ∷ (endLine (classWord ++ quantileWord (quantile-is i)) ∷ (countLine ∷ [])))) in
+        ∷ (endLine (classWord ++ quantileWord (quantile-is i))
+        ∷ (countedLine messagesWord (total-is i) ∷ [])))) in
         let ends = moved-is ∙ ap (λ (w : Written). ended session noRefusal (w .place)) all in
         record {
           is = λ siteMemory log.

@@ -3,6 +3,7 @@
 --
 --   held-sound, resting-of, sound-rest-of    what the invariant is worth: sound parts; at rest, the
 --                             model's run, which is sound
+--   few-counted               no site's count is above the limit
 --   coordinator-accepted, network-accepted   neither 4 nor 11, nor 1, 2, 3: all memory lent
 --   coordinator-front, network-accepted-front   the same of fronts of it
 --   batch-by-rules            the number that a batch call then answers
@@ -10,7 +11,7 @@ use mathlib.Core.Path.{_≡_, refl, sym, ap, _∙_, subst}
 use mathlib.Core.List.{List}
 use Prim.Native.Nat.{ℕ, _≤_, _<_}
 use native.Mathlib.Omega.{arith}
-use lib.ListN.{length}
+use lib.ListN.{length, length-append}
 use borrow.Author.Tests.{le-ltb}
 use Rattle.model.specs.declared.Settings.{Settings}
 use Rattle.model.specs.declared.Arrival.{Arrival}
@@ -23,6 +24,7 @@ use Rattle.model.specs.Network.{Network, siteAt}
 use Rattle.model.specs.NetworkMemory.{sitesWords}
 use Rattle.model.specs.Runs.{batchOf}
 use Rattle.model.specs.SoundNetwork.{DroppedWithin, Sound}
+use Rattle.model.proofs.MessageCount.Counts.{FewCounted}
 use Rattle.model.proofs.Soundness.ConsistentCoordinator.{CoordinatorWithin}
 use Rattle.model.proofs.Soundness.ConsistentNetwork.{network-consistent-of}
 use Rattle.tracker.specs.Batch.{BatchHeld, BatchSays, logRoom}
@@ -30,11 +32,12 @@ use Rattle.history.specs.State.{Held, heldBy, State, AtRest, networkOf, 
 use Rattle.history.specs.Steps.{batchCall}
 use Rattle.history.proofs.SiteParts.{front-long}
 use Rattle.history.proofs.RunSound.{sound-run, messages-within}
+use Rattle.history.proofs.LoggedCounts.{few-of-log}
 use Rattle.history.proofs.Underway.{SoundRest}
 use Rattle.history.proofs.Accounts.{few-dropped}
 use Rattle.history.proofs.SoundMemory as Parts
 use Rattle.history.proofs.NetworkFronts.{network-front}
-use Rattle.history.proofs.Invariant.{StateOk, Resting, SoundHeld, sound-of-standing, rest-of-standing}
+use Rattle.history.proofs.Invariant.{StateOk, Resting, SoundHeld, sound-of-standing, rest-of-standing, run-of-standing}
 
 module _ {settings : Settings} (passes : settingsRefusal settings ≡ noRefusal)
     {n : ℕ} {state : State}
@@ -65,16 +68,21 @@ module _ {settings : Settings} (passes : settingsRefusal settings ≡ noRefusal)
       ≡ noRefusal
   coordinator-accepted = Parts.coordinator-accepted passes (state .held) (ok .lengths) held-sound
 
-  -- The messages counted are among those of the run.
-  few-counted : Resting settings state → state .held .sites .messages ≤ messageLimit
-  few-counted rest =
+  -- What was logged is among the messages, and these are the first of a run's.
+  pub few-counted : FewCounted (settings .sites) (state .held .sites .messages)
+  few-counted =
+      let begins = run-of-standing passes (ok .standing) in
+      let few : length (state .log) ≤ messageLimit =
       omega (
         arith,
-        ok .count-is-sum,
+        ok .log-length,
         ok .logged-within,
-        ap length (rest .messages-are),
+        ap length (begins .messages-are),
+        length-append (state .messages) (begins .later),
         messages-within settings passes (state .accepted),
-      )
+      ) in
+      subst (FewCounted (settings .sites)) (sym (ok .counts-are))
+      (few-of-log (state .log) (settings .sites) few)
 
   -- The records that are held, with other memories.
   abbrev memories : List ℕ → List ℕ → Held
@@ -102,7 +110,7 @@ module _ {settings : Settings} (passes : settingsRefusal settings ≡ noRefusal)
         le-ltb (length siteMemory) (sitesWords settings) sites-long,
         le-ltb (length coordinatorMemory) (coordinatorWords settings) coordinator-long,
         network-consistent-of settings (state .held .sites) (state .held .coordinator)
-            siteMemory coordinatorMemory sound few within (few-counted (resting-of at-rest)),
+            siteMemory coordinatorMemory sound few within few-counted,
       )
 
   -- All of both memories.

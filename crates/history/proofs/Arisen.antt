@@ -41,7 +41,9 @@ module _ {settings : Settings} (passes : settingsRefusal settings ≡ noRefusal)
   rest-ok state ok rest = record {
     lengths = ok .lengths;
     standing = resting refl (resting-of passes ok rest);
-    count-is-sum = ok .count-is-sum;
+    counts-are = ok .counts-are;
+    log-named = ok .log-named;
+    log-length = ok .log-length;
     logged-within = ok .logged-within;
   }
 

@@ -21,15 +21,17 @@ use Rattle.model.specs.NetworkMemory.{sitesIn, sitesMemory, siteRecords}
 use Rattle.model.specs.Draws.{drawsOf}
 use Rattle.model.specs.Runs.{Run, runFrom, runOf, Batch, batchOf}
 use Rattle.model.specs.SoundNetwork.{Sound}
+use Rattle.model.specs.MessageCounts.{noneCounted, countedUp}
 use Rattle.model.proofs.Thresholds.SettingsLaws.{Settled, settled}
 use Rattle.model.proofs.Runs.RunLaws.{runFrom-append, runFrom-draws}
+use Rattle.model.proofs.MessageCount.CountLaws.{countedUp-append, NamesBelow, names-append, names-last}
 use Rattle.site_memory.proofs.SitesMemoryLaws.{AllStorable, all-storable, length-siteRecords, length-sitesMemory}
 use Rattle.site_memory.proofs.SitesReading.{sitesIn-sitesMemory}
 use Rattle.coordinator_kinds.proofs.MemoryLaws.{written-coordinator}
 use Rattle.tracker.specs.Batch.{BatchCall, BatchHeld, BatchSays, startRefusal, batchIn, unlessRefused, logRoom, messagesIn}
 use Rattle.history.specs.State.{Held, State, AtRest, networkOf, networkWritten}
 use Rattle.history.specs.Steps.{batchCall, afterBatch}
-use Rattle.history.proofs.RunSound.{sound-run}
+use Rattle.history.proofs.RunSound.{sound-run, run-names}
 use Rattle.history.proofs.BatchRuns.{BatchRun, batch-run}
 use Rattle.history.proofs.HandedOut.{messagesIn-written}
 use Rattle.history.proofs.Decoded.{Lengths}
@@ -41,7 +43,7 @@ use Rattle.history.proofs.Accepted.{resting-of, network-accepted}
 
 module _ {settings : Settings} (passes : settingsRefusal settings ≡ noRefusal) (held : Held)
     (lengths : Lengths settings held) (network : Network) (sound : Sound settings network)
-    (messages : ℕ) where
+    (counts : List ℕ) where
   fit : Settled settings
   fit = settled settings passes
 
@@ -52,7 +54,7 @@ module _ {settings : Settings} (passes : settingsRefusal settings ≡ noRefusal)
   long = rw (sound .all-sites) (lengths .sites-long)
 
   -- It is read back as it was written.
-  pub network-written : networkOf settings (networkWritten settings held network messages) ≡ network
+  pub network-written : networkOf settings (networkWritten settings held network counts) ≡ network
   network-written =
       let enough : length (network .sites) ≤ length (held .sites .records) =
       omega (arith, sound .all-sites, lengths .all-records, fit .sites .at-most) in
@@ -75,7 +77,7 @@ module _ {settings : Settings} (passes : settingsRefusal settings ≡ noRefusal)
       λ i. record { sites = sites i; coordinator = coordinator i }
 
   -- Writing keeps the lengths of records and memories.
-  pub lengths-written : Lengths settings (networkWritten settings held network messages)
+  pub lengths-written : Lengths settings (networkWritten settings held network counts)
   lengths-written = record {
     all-records =
         length-siteRecords (network .sites) (held .sites .records)
@@ -143,14 +145,18 @@ module _ {settings : Settings} (passes : settingsRefusal settings ≡ noRefusal)
   sound-then =
       subst (Sound settings) (sym network-then) (sound-run settings passes acceptedThen .sound)
 
+  -- What the network counts then.
+  abbrev counts : List ℕ
+  counts = countedUp (before .held .sites .messages) (batch .messages)
+
   -- The state, by the model's batch.
   abbrev pub after : State
   after = record {
-    held = networkWritten settings (before .held) (batch .network)
-        (before .held .sites .messages + length (batch .messages));
+    held = networkWritten settings (before .held) (batch .network) counts;
     waiting = before .waiting;
     accepted = acceptedThen;
     messages = before .messages ++ batch .messages;
+    log = before .log ++ batch .messages;
     logged = before .logged + length (batch .messages);
   }
 
@@ -163,8 +169,7 @@ module _ {settings : Settings} (passes : settingsRefusal settings ≡ noRefusal)
         ∙ ap (λ (front : List Arrival). front ++ drawsOf (take (batch .accepted) arrivals))
         (rest .accepted-are);
     network-is =
-        network-written passes (before .held) (ok .lengths) (batch .network) sound-then
-        (before .held .sites .messages + length (batch .messages))
+        network-written passes (before .held) (ok .lengths) (batch .network) sound-then counts
         ∙ network-then;
     messages-are =
         ap (λ (front : List Message). front ++ batch .messages) (rest .messages-are)
@@ -172,13 +177,24 @@ module _ {settings : Settings} (passes : settingsRefusal settings ≡ noRefusal)
         ∙ ap (λ (run : Run). run .messages) (sym run-on);
   }
 
+  -- Its messages are a run's last ones, and so name sites of the network.
+  pub names-then : NamesBelow (settings .sites) (batch .messages)
+  names-then =
+      names-last (before .messages)
+      (subst (NamesBelow (settings .sites)) (sym (resting-then .messages-are))
+      (run-names settings passes acceptedThen))
+
   after-ok : StateOk settings 0 after
   after-ok = record {
     lengths =
-        lengths-written passes (before .held) (ok .lengths) (batch .network) sound-then
-        (before .held .sites .messages + length (batch .messages));
+        lengths-written passes (before .held) (ok .lengths) (batch .network) sound-then counts;
     standing = resting refl resting-then;
-    count-is-sum = ap (λ (sum : ℕ). sum + length (batch .messages)) (ok .count-is-sum);
+    counts-are =
+        ap (λ (past : List ℕ). countedUp past (batch .messages)) (ok .counts-are)
+        ∙ sym (countedUp-append noneCounted (before .log) (batch .messages));
+    log-named = names-append (ok .log-named) names-then;
+    log-length =
+        omega (arith, ok .log-length, length-append (before .log) (batch .messages));
     logged-within =
         omega (arith, ok .logged-within, length-append (before .messages) (batch .messages));
   }
@@ -211,6 +227,7 @@ module _ {settings : Settings} (passes : settingsRefusal settings ≡ noRefusal)
           waiting = before .waiting;
           accepted = before .accepted ++ drawsOf (take (taken i) arrivals);
           messages = before .messages ++ read i;
+          log = before .log ++ read i;
           logged = before .logged + written i;
         }
 

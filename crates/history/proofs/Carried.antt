@@ -139,6 +139,8 @@ module _ {settings : Settings} (passes : settingsRefusal settings ≡ noRefusal)
   ok-carried = record {
     lengths = lengths-then;
     standing = standing-carried (ok .standing);
-    count-is-sum = ok .count-is-sum;
+    counts-are = ok .counts-are;
+    log-named = ok .log-named;
+    log-length = ok .log-length;
     logged-within = ok .logged-within;
   }

@@ -6,7 +6,7 @@
 --   none-when-quiet          no step of delivery where nothing waits and nothing is announced
 --   none-at-rest             none from a state at rest
 --   delivered-ok             the invariant of the state then
-use mathlib.Core.Path.{_≡_, refl, sym, ap, _∙_}
+use mathlib.Core.Path.{_≡_, refl, sym, ap, _∙_, subst}
 use mathlib.Core.Bool.{false, false≢true}
 use mathlib.Core.List.{List, []}
 use Prim.Native.Nat.{ℕ, suc, _≤_}
@@ -19,6 +19,8 @@ use Rattle.model.specs.Refusals.{noRefusal}
 use Rattle.model.specs.Settings.{settingsRefusal}
 use Rattle.model.specs.Coordinator.{isAnnouncing}
 use Rattle.model.specs.Network.{Network}
+use Rattle.model.specs.MessageCounts.{noneCounted, countedUp}
+use Rattle.model.proofs.MessageCount.CountLaws.{NamesBelow}
 use Rattle.history.specs.State.{State, withPart}
 use Rattle.history.specs.Steps.{answeredOut, receivedOut, Delivers, to-coordinator, to-site, next-announcement}
 use Rattle.history.proofs.CallFronts.{receives-whole, announces-whole}
@@ -55,11 +57,12 @@ delivered-on {settings} passes before mid after (next-announcement words answer 
     accepts)
     accepts mid
 
--- It accepts no arrival, adds nothing to the network's own count, and only adds to the messages.
+-- It accepts no arrival, logs and counts nothing, and only adds to the messages.
 pub record StepKeeps (before after : State) : Type 0 where
   pub same-accepted : after .accepted ≡ before .accepted
+  pub same-log : after .log ≡ before .log
   pub same-logged : after .logged ≡ before .logged
-  pub same-count : after .held .sites .messages ≡ before .held .sites .messages
+  pub same-counts : after .held .sites .messages ≡ before .held .sites .messages
   pub no-fewer : length (before .messages) ≤ length (after .messages)
 
 pub step-keeps : {settings : Settings} (before after : State)
@@ -67,20 +70,23 @@ pub step-keeps : {settings : Settings} (before after : State)
     → StepKeeps before after
 step-keeps before after (to-coordinator m later words part answer waits way says accepts) = record {
   same-accepted = refl;
+  same-log = refl;
   same-logged = refl;
-  same-count = refl;
+  same-counts = refl;
   no-fewer = omega (arith, length-append (before .messages) (receivedOut answer));
 }
 step-keeps before after (to-site m later words answer waits way says accepts) = record {
   same-accepted = refl;
+  same-log = refl;
   same-logged = refl;
-  same-count = refl;
+  same-counts = refl;
   no-fewer = omega (arith, length-append (before .messages) (answeredOut answer));
 }
 step-keeps before after (next-announcement words answer says accepts) = record {
   same-accepted = refl;
+  same-log = refl;
   same-logged = refl;
-  same-count = refl;
+  same-counts = refl;
   no-fewer = omega (arith, length-append (before .messages) (receivedOut answer));
 }
 
@@ -141,7 +147,14 @@ module _ {settings : Settings} (passes : settingsRefusal settings ≡ noRefusal)
                 front-accepted = mid .front-accepted;
                 underway = on;
               });
-              count-is-sum = keeps .same-count ∙ ok .count-is-sum ∙ sym (keeps .same-logged);
+              counts-are =
+                  keeps .same-counts
+                  ∙ ok .counts-are
+                  ∙ ap (countedUp noneCounted) (sym (keeps .same-log));
+              log-named = subst (NamesBelow (settings .sites)) (sym (keeps .same-log))
+                  (ok .log-named);
+              log-length =
+                  ap length (keeps .same-log) ∙ ok .log-length ∙ sym (keeps .same-logged);
               logged-within =
                   omega (arith, keeps .same-logged, keeps .no-fewer, ok .logged-within);
             }

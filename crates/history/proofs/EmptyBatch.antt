@@ -97,11 +97,8 @@ module _ (before : State) (given : Settings) (arrivals : List Arrival) (log : Li
       rw (done .network-same, done .no-messages)
       (λ i. record {
         records = records i;
-        messages = add-zero (held .sites .messages) i;
+        messages = held .sites .messages;
       }))
-    where
-      add-zero : (n : ℕ) → n + 0 ≡ n
-      add-zero n = omega arith
 
   coordinator-same : answer .held .coordinator ≡ held .coordinator
   coordinator-same =
@@ -150,6 +147,7 @@ module _ (before : State) (given : Settings) (arrivals : List Arrival) (log : Li
         waiting = before .waiting;
         accepted = append-nil (before .accepted) i;
         messages = append-nil (before .messages) i;
+        log = append-nil (before .log) i;
         logged = add-zero (before .logged) i;
       })
     where

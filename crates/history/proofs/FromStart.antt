@@ -24,6 +24,7 @@ use Rattle.model.specs.SiteMemory.{siteWords, siteMemory}
 use Rattle.model.specs.Network.{Network, siteAt}
 use Rattle.model.specs.NetworkMemory.{sitesWords, sitesMemory}
 use Rattle.model.specs.Runs.{runOf}
+use Rattle.model.specs.MessageCounts.{noneCounted, countedUp}
 use Rattle.model.proofs.Thresholds.SettingsLaws.{settled}
 use Rattle.model.proofs.Soundness.NeverFewer.{counters-kept, values-kept, NoFewer, observed-grows, run-no-fewer}
 use Rattle.site_memory.proofs.SitesMemoryLaws.{all-storable, sitesMemory-set, sitesMemory-kept}
@@ -117,6 +118,7 @@ kept-from from kept over = record {
   start-long = from .start-long;
   tails = record {
     records = kept .records ∙ from .tails .records;
+    counts = kept .counts ∙ from .tails .counts;
     site-memory = kept .site-memory ∙ from .tails .site-memory;
     coordinator-memory = kept .coordinator-memory ∙ from .tails .coordinator-memory;
   };
@@ -264,9 +266,10 @@ module _ {settings : Settings} (passes : settingsRefusal settings ≡ noRefusal)
       subst (λ (s : State). FromStart settings start (s .held))
       (sym (refused-same state after step)) from
 
-  -- All that is held, with the sum of answers.
+  -- All that is held, each message of the logs counted.
   pub held-whole : state .held
-      ≡ networkWritten settings start (networkOf settings (state .held)) (state .logged)
+      ≡ networkWritten settings start (networkOf settings (state .held))
+      (countedUp noneCounted (state .log))
   held-whole =
       held-over passes start (state .held) (ok .lengths) from
-      ∙ ap (networkWritten settings start (networkOf settings (state .held))) (ok .count-is-sum)
+      ∙ ap (networkWritten settings start (networkOf settings (state .held))) (ok .counts-are)

@@ -24,8 +24,10 @@ use Rattle.model.specs.Draws.{isDraw}
 use Rattle.model.specs.Coordinator.{isAnnouncing}
 use Rattle.model.specs.Network.{Delivered, deliveryFuel}
 use Rattle.model.specs.Runs.{Run, withArrival, runOf}
+use Rattle.model.specs.MessageCounts.{noneCounted, countedUp}
 use Rattle.model.specs.DeliveryClaims.{messageRefusal}
 use Rattle.model.proofs.Runs.RunLaws.{runFrom-append}
+use Rattle.model.proofs.MessageCount.CountLaws.{NamesBelow}
 use Rattle.model.proofs.Touches.DrawLaws.{takes}
 use Rattle.model.proofs.Soundness.ConsistentCoordinator.{CoordinatorWithin}
 use Rattle.history.specs.State.{State, networkOf}
@@ -63,7 +65,10 @@ pub data Standing (settings : Settings) (n : ℕ) (state : State) : Type 0 where
 pub record StateOk (settings : Settings) (n : ℕ) (state : State) : Type 0 where
   pub lengths : Lengths settings (state .held)
   pub standing : Standing settings n state
-  pub count-is-sum : state .held .sites .messages ≡ state .logged
+  -- each message of the logs is counted, at the site that it names, and that is one of the k
+  pub counts-are : state .held .sites .messages ≡ countedUp noneCounted (state .log)
+  pub log-named : NamesBelow (settings .sites) (state .log)
+  pub log-length : length (state .log) ≡ state .logged
   -- what was logged is among the messages
   pub logged-within : state .logged ≤ length (state .messages)
 

@@ -39,6 +39,7 @@ use Rattle.history.proofs.Underway.{SoundRest, Underway}
 use Rattle.history.proofs.Invariant.{StateOk, Standing, resting, delivering}
 use Rattle.history.proofs.Accepted.{sound-rest-of}
 use Rattle.history.proofs.BatchedState as Batched
+use Rattle.history.proofs.LoggedCounts.{counted-behind}
 use Rattle.history.proofs.LentBatch.{of-lent-batch}
 use Rattle.history.proofs.SingleState as Single
 use Rattle.history.proofs.ToCoordinator as ToCoordinator
@@ -47,15 +48,17 @@ use Rattle.history.proofs.DeliveredState.{none-at-rest}
 use Rattle.history.proofs.Refused.{refused-same}
 
 pub kept-self : (settings : Settings) (held : Held) → TailsKept settings held held
-kept-self settings held = record { records = refl; site-memory = refl; coordinator-memory = refl }
+kept-self settings held =
+    record { records = refl; counts = refl; site-memory = refl; coordinator-memory = refl }
 
 -- A whole network written over what is held.
 network-kept : (settings : Settings) (held : Held) (lengths : Lengths settings held)
     (network : Network)
     → Sound settings network
-    → (messages : ℕ)
-    → TailsKept settings held (networkWritten settings held network messages)
-network-kept settings held lengths network sound messages =
+    → (counts : List ℕ)
+    → drop (settings .sites) counts ≡ drop (settings .sites) (held .sites .messages)
+    → TailsKept settings held (networkWritten settings held network counts)
+network-kept settings held lengths network sound counts same-counts =
     let all = sound .all-sites in
     let start : offset (siteWords settings) (length (network .sites)) ≡ sitesWords settings =
     offset-is (siteWords settings) (length (network .sites))
@@ -66,6 +69,7 @@ network-kept settings held lengths network sound messages =
           drop k (siteRecords (network .sites) (held .sites .records))
           ≡ drop k (held .sites .records))
           all (tail-siteRecords settings (network .sites) (held .sites .records));
+      counts = same-counts;
       site-memory =
           subst (λ (from : ℕ).
           drop from (sitesMemory settings (network .sites) (held .siteMemory))
@@ -145,6 +149,7 @@ module _ {settings : Settings} (passes : settingsRefusal settings ≡ noRefusal)
     tails-then : TailsKept settings (state .held) (stateThen .held)
     tails-then = record {
       records = drop-set-lt (settings .sites) (state .held .sites .records) j _ known;
+      counts = refl;
       site-memory =
           let next : j + 1 ≤ settings .sites = omega (arith, known) in
           drop-later (siteStart settings j + siteWords settings) (sitesWords settings) _ _
@@ -187,6 +192,7 @@ module _ {settings : Settings} (passes : settingsRefusal settings ≡ noRefusal)
         accepts))
         (record {
           records = refl;
+          counts = refl;
           site-memory = refl;
           coordinator-memory =
               tail-coordinatorMemory settings
@@ -199,11 +205,12 @@ module _ {settings : Settings} (passes : settingsRefusal settings ≡ noRefusal)
       records =
           drop-set-lt (settings .sites) (state .held .sites .records) (m .site) (answer .site)
           (ToSite.known passes state mid m later words answer waits way says accepts);
+      counts = refl;
       site-memory = refl;
       coordinator-memory = refl;
     }
     delivery-kept after (next-announcement words answer says accepts) =
-        record { records = refl; site-memory = refl; coordinator-memory = refl }
+        record { records = refl; counts = refl; site-memory = refl; coordinator-memory = refl }
 
 -- ---- In a history
 
@@ -221,7 +228,9 @@ module _ {settings : Settings} (passes : settingsRefusal settings ≡ noRefusal)
       subst (λ (then : State). TailsKept settings (state .held) (then .held))
       (sym (Batched.after-is passes state ok at-rest arrivals log answer says))
       (network-kept settings (state .held) (ok .lengths) network sound
-      (after .held .sites .messages))
+      (after .held .sites .messages)
+      (counted-behind (state .held .sites .messages)
+      (Batched.names-then passes state ok at-rest arrivals log)))
 
   -- ---- Every step
 

@@ -124,6 +124,7 @@ module _ {settings : Settings} (passes : settingsRefusal settings ≡ noRefusal)
           start-long = frontIn-long words (start .siteMemory) siteMemory (now .from .start-long);
           tails = record {
             records = now .from .tails .records;
+            counts = now .from .tails .counts;
             site-memory =
                 drop-frontIn words (state .held .siteMemory) siteMemory
                 (now .ok .lengths .sites-long)

@@ -20,6 +20,7 @@ use Rattle.model.specs.CoordinatorMemory.{coordinatorRecord, coordinatorMemory}
 use Rattle.model.specs.Network.{Network}
 use Rattle.model.specs.NetworkMemory.{siteRecords, sitesMemory}
 use Rattle.model.specs.Draws.{drawsOf}
+use Rattle.model.specs.MessageCounts.{countedUp}
 use Rattle.model.specs.Runs.{Batch, batchOf}
 use Rattle.model.specs.SoundNetwork.{Sound}
 use Rattle.model.proofs.Soundness.ConsistentNetwork.{Passes, passes-of}
@@ -155,7 +156,7 @@ module _ {settings : Settings} (passes : settingsRefusal settings ≡ noRefusal)
           sites = answered (answer .held .sites) _ _
               (λ (batch : Batch). record {
                 records = siteRecords (batch .network .sites) (held .sites .records);
-                messages = held .sites .messages + length (batch .messages);
+                messages = countedUp (held .sites .messages) (batch .messages);
               })
               (says .sites);
           coordinator = answered (answer .held .coordinator) _ _

@@ -9,6 +9,7 @@ pub mod CoordinatorFronts
 pub mod KeptLengths
 pub mod CallFronts
 pub mod RunSound
+pub mod LoggedCounts
 pub mod BatchRuns
 pub mod HandedOut
 pub mod Decoded

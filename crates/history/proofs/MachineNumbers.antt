@@ -3,7 +3,7 @@
 --
 --   sites-below      sound sites written over machine numbers
 --   of-machine       of every state of a history, from the fronts that are lent
-use mathlib.Core.Path.{_≡_, sym, subst}
+use mathlib.Core.Path.{_≡_, sym, ap, _∙_, subst}
 use mathlib.Core.List.{List, [], _∷_}
 use Prim.Native.Nat.{ℕ, suc, _*_, _^_, _≤_, _<_}
 use native.Mathlib.Omega.{arith}
@@ -28,6 +28,7 @@ use Rattle.snapshot_file.specs.Layout.{deckBytes}
 use Rattle.snapshot_file.specs.Claims.{OfMachine}
 use Rattle.history.specs.State.{Held, State, networkOf, fronts, lending}
 use Rattle.history.proofs.Answers.{words-enough}
+use Rattle.history.proofs.LoggedCounts.{length-of-log}
 use Rattle.history.proofs.Accepted.{held-sound}
 use Rattle.history.proofs.Lasting.{Lasting, all-sites, long-front, front-written}
 
@@ -138,6 +139,7 @@ module _ {settings : Settings} (passes : settingsRefusal settings ≡ noRefusal)
       → OfMachine settings (lending (state .held) (fronts siteCount coordinatorCount))
   of-machine siteCount coordinatorCount long = record {
     all-records = now .ok .lengths .all-records;
+    all-counts = ap length (now .ok .counts-are) ∙ length-of-log (state .log);
     words-fit =
         subst (AllBelow narrow)
         (sym (take-take words siteCount (state .held .siteMemory)

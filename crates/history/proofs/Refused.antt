@@ -129,5 +129,6 @@ refused-same before after
       waiting = before .waiting;
       accepted = same i .accepted;
       messages = same i .messages;
+      log = same i .log;
       logged = same i .logged;
     }

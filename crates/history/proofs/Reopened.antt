@@ -141,35 +141,48 @@ front-again words n memory other long =
 
 module _ {settings : Settings} (passes : settingsRefusal settings ≡ noRefusal)
     {n : ℕ} (state : State) (start : Held) (now : Lasting settings start n state) where
-  -- Records k to 31 are as the start call left them.
-  records-fresh : drop (settings .sites) (state .held .sites .records)
-      ≡ replicate (mostSites - settings .sites) (siteRecord freshSite)
-  records-fresh =
+  -- What a start left alike for all 32 sites, from site k on.
+  alike-behind : {A : Type 0} (x : A)
+      → drop (settings .sites) (replicate mostSites x)
+      ≡ replicate (mostSites - settings .sites) x
+  alike-behind x =
       let k = settings .sites in
       let all : k + (mostSites - k) ≡ mostSites =
       omega (arith, settled settings passes .sites .at-most) in
-      now .from .tails .records
-      ∙ ap (λ (sites : Sites). drop k (sites .records)) (now .fresh .sites)
-      ∙ ap (λ (m : ℕ). drop k (replicate m (siteRecord freshSite))) (sym all)
-      ∙ ap (drop k)
-      (sym (replicate-append-replicate k (mostSites - k) (siteRecord freshSite)))
-      ∙ drop-at (replicate k (siteRecord freshSite))
-      (replicate (mostSites - k) (siteRecord freshSite)) k
-      (length-replicate k (siteRecord freshSite))
+      ap (λ (m : ℕ). drop k (replicate m x)) (sym all)
+      ∙ ap (drop k) (sym (replicate-append-replicate k (mostSites - k) x))
+      ∙ drop-at (replicate k x) (replicate (mostSites - k) x) k (length-replicate k x)
 
-  -- So closing changes no record.
+  -- Records and counts k to 31 are as the start call left them.
+  records-fresh : drop (settings .sites) (state .held .sites .records)
+      ≡ replicate (mostSites - settings .sites) (siteRecord freshSite)
+  records-fresh =
+      now .from .tails .records
+      ∙ ap (λ (sites : Sites). drop (settings .sites) (sites .records)) (now .fresh .sites)
+      ∙ alike-behind (siteRecord freshSite)
+
+  counts-fresh : drop (settings .sites) (state .held .sites .messages)
+      ≡ replicate (mostSites - settings .sites) 0
+  counts-fresh =
+      now .from .tails .counts
+      ∙ ap (λ (sites : Sites). drop (settings .sites) (sites .messages)) (now .fresh .sites)
+      ∙ alike-behind {A = ℕ} 0
+
+  -- So closing changes no record and no count.
   sites-closed : (siteCount coordinatorCount : ℕ)
       → closed settings (lending (state .held) (fronts siteCount coordinatorCount)) .sites
       ≡ state .held .sites
   sites-closed siteCount coordinatorCount =
+      let k = settings .sites in
       let records = state .held .sites .records in
-      let same : take (settings .sites) records
-      ++ replicate (mostSites - settings .sites) (siteRecord freshSite)
-      ≡ records =
-      ap (λ (tail : List SiteRecord). take (settings .sites) records ++ tail)
-      (sym records-fresh)
-      ∙ take-append-drop (settings .sites) records in
-      λ i. record { records = same i; messages = state .held .sites .messages }
+      let counts = state .held .sites .messages in
+      let same : take k records ++ replicate (mostSites - k) (siteRecord freshSite) ≡ records =
+      ap (λ (tail : List SiteRecord). take k records ++ tail) (sym records-fresh)
+      ∙ take-append-drop k records in
+      let same-counts : take k counts ++ replicate (mostSites - k) 0 ≡ counts =
+      ap (λ (tail : List ℕ). take k counts ++ tail) (sym counts-fresh)
+      ∙ take-append-drop k counts in
+      λ i. record { records = same i; messages = same-counts i }
 
   -- The law: saved from fronts of both memories, and read into others.
   module _ (siteCount coordinatorCount : ℕ) (bytes written : List ℕ) (saved : Saved)

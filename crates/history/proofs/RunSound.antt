@@ -5,6 +5,7 @@
 --   sound-run                     after every list of arrivals
 --   within-of-run                 the coordinator's numbers are within the limit
 --   messages-within               n and the messages of a run
+--   run-names                     each of them names one of the k sites
 -- Letters: n arrivals, k sites.
 use mathlib.Core.Path.{_≡_, refl}
 use mathlib.Core.Bool.{Bool, true, false}
@@ -19,7 +20,7 @@ use Rattle.model.specs.Refusals.{noRefusal}
 use Rattle.model.specs.Limits.{valueCount, mostArrivals, messageLimit}
 use Rattle.model.specs.Settings.{settingsRefusal}
 use Rattle.model.specs.Site.{freshSite}
-use Rattle.model.specs.Network.{Network, freshNetwork}
+use Rattle.model.specs.Network.{Network, siteAt, freshNetwork}
 use Rattle.model.specs.NetworkMemory.{allArrivals}
 use Rattle.model.specs.Runs.{isTakenIn, Run, freshRun, runOne, runFrom, runOf}
 use Rattle.model.specs.SoundNetwork.{Sound}
@@ -28,7 +29,9 @@ use Rattle.model.proofs.Thresholds.SettingsLaws.{Settled, settled}
 use Rattle.model.proofs.Deliveries.ClosedSites.{sumBelow-allArrivals}
 use Rattle.model.proofs.Runs.RunInvariant.{run-ok}
 use Rattle.model.proofs.Touches.DrawLaws.{taken-accepted}
-use Rattle.mid_delivery.proofs.Soundness.SoundTheorem.{sound-claims}
+use Rattle.model.proofs.MessageCount.CountLaws.{NamesBelow, names-none, names-append}
+use Rattle.model.proofs.Soundness.SoundSites.{taken-of-no-refusal}
+use Rattle.mid_delivery.proofs.Soundness.SoundTheorem.{sound-claims, names-after}
 use Rattle.mid_delivery.proofs.Numbers.NumberBounds.{arrivals-few}
 use Rattle.mid_delivery.proofs.Numbers.NumberTheorem.{number-claims, grown-self, grown-more}
 use Rattle.model.proofs.Soundness.ConsistentCoordinator.{CoordinatorWithin}
@@ -126,3 +129,38 @@ module _ (settings : Settings) (passes : settingsRefusal settings ≡ noRefusal)
         sumBelow-allArrivals settings sites (sites-ok .all-sites),
         arrivals-few fit (sound-run arrivals .sound),
       )
+
+  -- ---- The sites that messages name
+
+  -- What an arrival sends names sites of the network.
+  run-names-one : (run : Run) (arrival : Arrival)
+      → SoundRun settings (run .network)
+      → NamesBelow (settings .sites) (run .messages)
+      → NamesBelow (settings .sites) (runOne settings run arrival .messages)
+  run-names-one run arrival ok named =
+      by-test (isTakenIn settings (run .network) arrival) refl
+    where
+      by-test : (taken : Bool) → isTakenIn settings (run .network) arrival ≡ taken
+          → NamesBelow (settings .sites) (runOne settings run arrival .messages)
+      by-test true taken =
+          let accepted = taken-of-no-refusal settings (siteAt (run .network) (arrival .site))
+          arrival (taken-accepted arrival _ taken) in
+          rw taken
+          (names-append named
+          (names-after settings (run .network) arrival fit (ok .sound) accepted))
+      by-test false left = rw left named
+
+  run-names-from : (run : Run) (arrivals : List Arrival)
+      → SoundRun settings (run .network)
+      → NamesBelow (settings .sites) (run .messages)
+      → NamesBelow (settings .sites) (runFrom settings run arrivals .messages)
+  run-names-from run [] ok named = named
+  run-names-from run (arrival ∷ arrivals) ok named =
+      run-names-from (runOne settings run arrival) arrivals (sound-run-one run arrival ok)
+      (run-names-one run arrival ok named)
+
+  -- Of every list of arrivals.
+  pub run-names : (arrivals : List Arrival)
+      → NamesBelow (settings .sites) (runOf settings arrivals .messages)
+  run-names arrivals =
+      run-names-from (freshRun settings) arrivals (sound-run []) names-none

@@ -125,6 +125,7 @@ module _ {settings : Settings} (passes : settingsRefusal settings ≡ noRefusal)
     accepted = before .accepted ++ (arrival ∷ []);
     messages = before .messages
         ++ observed settings (siteAt (networkOf settings held) j) arrival .messages;
+    log = before .log;
     logged = before .logged;
   }
 
@@ -158,6 +159,7 @@ module _ {settings : Settings} (passes : settingsRefusal settings ≡ noRefusal)
         waiting = rest .nothing-waits i ++ out-is i;
         accepted = before .accepted ++ (arrival ∷ []);
         messages = before .messages ++ out-is i;
+        log = before .log;
         logged = before .logged;
       }
 
@@ -225,7 +227,9 @@ single-ok {settings} passes before ok at-rest arrival words part answer says is-
             Underway settings origin arrival (before .messages) 0 after)
             (rest .network-is) on);
       });
-      count-is-sum = ok .count-is-sum;
+      counts-are = ok .counts-are;
+      log-named = ok .log-named;
+      log-length = ok .log-length;
       logged-within =
           omega (arith, ok .logged-within, length-append (before .messages) (observedOut answer));
     }

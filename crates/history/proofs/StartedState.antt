@@ -20,6 +20,7 @@ use Rattle.model.specs.Network.{freshNetwork}
 use Rattle.model.specs.NetworkMemory.{sitesWords, sitesIn, freshSites}
 use Rattle.model.proofs.Thresholds.TestedMemory.{length-tested}
 use Rattle.model.proofs.Thresholds.SettingsLaws.{Settled, settled}
+use Rattle.model.proofs.MessageCount.CountLaws.{names-none}
 use Rattle.coordinator_kinds.proofs.MemoryLaws.{written-coordinator}
 use Rattle.site_start.specs.declared.StartedSites.{StartedSites}
 use Rattle.site_start.specs.Starts as SiteStarts
@@ -98,7 +99,9 @@ module _ (settings : Settings) (passes : settingsRefusal settings ≡ noRefusal)
       network-is = network-fresh;
       messages-are = refl;
     });
-    count-is-sum = refl;
+    counts-are = refl;
+    log-named = names-none;
+    log-length = refl;
     logged-within = omega arith;
   }
 

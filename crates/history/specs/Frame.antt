@@ -17,6 +17,9 @@ pub record TailsKept (settings : Settings) (before after : Held) : Type 0 where
   -- the records of sites k to 31
   pub records : drop (settings .sites) (after .sites .records)
       ≡ drop (settings .sites) (before .sites .records)
+  -- their counts of messages
+  pub counts : drop (settings .sites) (after .sites .messages)
+      ≡ drop (settings .sites) (before .sites .messages)
   -- memory past the parts of the k sites
   pub site-memory : drop (sitesWords settings) (after .siteMemory)
       ≡ drop (sitesWords settings) (before .siteMemory)

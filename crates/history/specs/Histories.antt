@@ -32,6 +32,7 @@ startState sites coordinator siteMemory coordinatorMemory = record {
   waiting = [];
   accepted = [];
   messages = [];
+  log = [];
   logged = 0;
 }
 

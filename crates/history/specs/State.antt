@@ -1,7 +1,8 @@
 -- What is kept beside what a caller holds to speak of a history of calls (document 01, "Whole lists
 -- of draws"), and what a call is given of it and leaves of it.
 --
---   State                        what is held, the queue, arrivals, messages and the sum of answers
+--   State                        what is held, the queue, arrivals, messages, those of the logs, and
+--                                the sum of answers
 --   AtRest state                 nothing waits, and the coordinator is idle
 --   partOf held start words      so many numbers of the sites' memory from a place on; fewer where
 --                                it ends
@@ -39,6 +40,8 @@ pub record State : Type 0 where
   pub accepted : List Arrival
   -- all messages so far, in order, each once: written to a log, or handed out after single arrivals
   pub messages : List Message
+  -- the messages that the batch calls wrote to their logs, in order
+  pub log : List Message
   -- the sum of what the batch calls answered for messages written
   pub logged : ℕ
 
@@ -122,6 +125,7 @@ holding state held = record {
   waiting = state .waiting;
   accepted = state .accepted;
   messages = state .messages;
+  log = state .log;
   logged = state .logged;
 }
 
@@ -132,5 +136,6 @@ sending state held waiting handedOut = record {
   waiting = waiting ++ handedOut;
   accepted = state .accepted;
   messages = state .messages ++ handedOut;
+  log = state .log;
   logged = state .logged;
 }

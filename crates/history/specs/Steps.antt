@@ -45,6 +45,7 @@ afterBatch before arrivals answer = record {
   waiting = before .waiting;
   accepted = before .accepted ++ drawsOf (take (answer .accepted) arrivals);
   messages = before .messages ++ messagesIn (answer .written) (answer .log);
+  log = before .log ++ messagesIn (answer .written) (answer .log);
   logged = before .logged + answer .written;
 }
 
@@ -60,6 +61,7 @@ afterSingle settings before arrival words part answer = record {
   waiting = before .waiting ++ observedOut answer;
   accepted = before .accepted ++ (arrival ∷ []);
   messages = before .messages ++ observedOut answer;
+  log = before .log;
   logged = before .logged;
 }
 

@@ -74,12 +74,12 @@ abbrev pub coordinatorNumbers : ℕ → ℕ → List ℕ
 coordinatorNumbers sevens threes =
     replicate 7 0 ++ (sevens ∷ (0 ∷ (0 ∷ (valueCounts threes ++ (9 ∷ (9 ∷ []))))))
 
--- All of it: so many draws, so many messages counted, and the coordinator.
+-- All of it: so many draws, so many messages counted for site 0, and the coordinator.
 abbrev pub heldWith : ℕ → ℕ → CoordinatorRecord → List ℕ → Held
 heldWith draws logged coordinator numbers = record {
   sites = record {
     records = siteAfter draws ∷ replicate 31 (siteRecord freshSite);
-    messages = logged;
+    messages = logged ∷ replicate 31 0;
   };
   coordinator = coordinator;
   siteMemory = siteNumbers draws;
@@ -105,6 +105,7 @@ startedState = record {
   waiting = [];
   accepted = [];
   messages = [];
+  log = [];
   logged = 0;
 }
 
@@ -115,6 +116,7 @@ delivering coordinator numbers waiting messages = record {
   waiting = waiting;
   accepted = draw ∷ [];
   messages = messages;
+  log = [];
   logged = 0;
 }
 
@@ -164,5 +166,6 @@ afterBatchOfTwo = record {
   waiting = [];
   accepted = draw ∷ (draw ∷ []);
   messages = allMessages 1 ++ allMessages 2;
+  log = allMessages 2;
   logged = 5;
 }

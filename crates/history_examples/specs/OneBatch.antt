@@ -15,12 +15,13 @@ use Rattle.model.specs.SiteMemory.{siteRecord}
 use Rattle.tracker.specs.Batch.{BatchHeld, messageNumbers}
 use Rattle.history.specs.State.{Held, State, fronts, lending}
 
--- The record of site 0, the coordinator's, and the network's own numbers of both memories.
+-- The record of site 0, the coordinator's, the network's own numbers of both memories, and the
+-- messages counted for site 0.
 abbrev pub batchedHeld : SiteRecord → CoordinatorRecord → List ℕ → List ℕ → ℕ → Held
-batchedHeld site coordinator siteNumbers coordinatorNumbers messages = record {
+batchedHeld site coordinator siteNumbers coordinatorNumbers count = record {
   sites = record {
     records = site ∷ replicate 31 (siteRecord freshSite);
-    messages = messages;
+    messages = count ∷ replicate 31 0;
   };
   coordinator = coordinator;
   siteMemory = siteNumbers ++ (5 ∷ (5 ∷ []));
@@ -35,6 +36,7 @@ batchedState site coordinator siteNumbers coordinatorNumbers arrivals messages =
   waiting = [];
   accepted = arrivals;
   messages = messages;
+  log = messages;
   logged = length messages;
 }
 

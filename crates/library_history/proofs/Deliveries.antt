@@ -15,10 +15,10 @@ use Rattle.model.specs.Held.{networkOf}
 use Rattle.model.proofs.Touches.DrawLaws.{not-taken}
 use Rattle.record_numbers.specs.Numbers.{sitesWidth, settingsFrom, arrivalFrom, sitesFrom, sitesNumbers, coordinatorRead, coordinatorNumbers}
 use Rattle.history.specs.State.{Held, heldBy, State, AtRest, holding}
-use Rattle.history.specs.Steps.{to-coordinator, to-site, next-announcement, Delivers}
 use Rattle.history.specs.Histories.{Reachable, Deliveries, no-step, delivered, refused-between}
 use Rattle.history.proofs.Answers.{left-choice}
 use Rattle.history.proofs.Refused.{refused-same}
+use Rattle.history.proofs.DeliveredState.{step-keeps}
 use Rattle.single_outcome.specs.declared.DeliveryAnswer.{DeliveryAnswer}
 use Rattle.single_outcome.specs.Delivery.{deliveryIn, ArrivalDelivered, HistoryGoesOn}
 use Rattle.library_history.specs.Bench.{Bench, heldIn}
@@ -28,25 +28,28 @@ use Rattle.library_history.specs.Claims.{deskWidth}
 use Rattle.library_history.proofs.OwnRows.{sites-own, coordinator-own}
 use Rattle.library_history.proofs.RecordRows.{handed, stays-long, length-sitesNumbers, length-coordinatorNumbers}
 
--- ---- The sum of what batch calls answered
+-- ---- The messages that batch calls logged
 
--- No step of a delivery adds to it.
-logged-step : {settings : Settings} (before after : State)
-    → Delivers settings before after
-    → after .logged ≡ before .logged
-logged-step before after (to-coordinator m later words part answer waits way says accepts) = refl
-logged-step before after (to-site m later words answer waits way says accepts) = refl
-logged-step before after (next-announcement words answer says accepts) = refl
+-- They are as they were, and so is the sum of what these calls answered.
+record LogKept (first after : State) : Type 0 where
+  same-log : after .log ≡ first .log
+  same-logged : after .logged ≡ first .logged
 
-logged-same : {settings : Settings} (first : State) (n : ℕ) (after : State)
+-- No step of a delivery adds to them.
+log-kept : {settings : Settings} (first : State) (n : ℕ) (after : State)
     → Deliveries settings first n after
-    → after .logged ≡ first .logged
-logged-same first n after no-step = refl
-logged-same first n after (delivered m before after′ earlier step) =
-    logged-step before after step ∙ logged-same first m before earlier
-logged-same first n after (refused-between m before after′ earlier step) =
-    ap (λ (state : State). state .logged) (refused-same before after step)
-    ∙ logged-same first m before earlier
+    → LogKept first after
+log-kept first n after no-step = record { same-log = refl; same-logged = refl }
+log-kept first n after (delivered m before after′ earlier step) =
+    let keeps = step-keeps before after step in
+    let past = log-kept first m before earlier in
+    record {
+      same-log = keeps .same-log ∙ past .same-log;
+      same-logged = keeps .same-logged ∙ past .same-logged;
+    }
+log-kept first n after (refused-between m before after′ earlier step) =
+    subst (LogKept first) (sym (refused-same before after step))
+    (log-kept first m before earlier)
 
 module _ {bench : Bench} (call : DeliverCall bench) where
   abbrev given : Settings
@@ -137,13 +140,14 @@ module _ {bench : Bench} (call : DeliverCall bench) where
         let held = told .held-is
         ∙ sym (rows-are (told .after) (goes-on .reachable) (told .held-is)
         (λ refused. absurd (refused accepted))) in
-        let logged = logged-same _ (told .calls) (told .after) (told .deliveries) in
+        let kept = log-kept _ (told .calls) (told .after) (told .deliveries) in
         subst (Reachable given)
         (λ i. record {
           held = held i;
           waiting = goes-on .at-rest .nothing-waits i;
           accepted = goes-on .accepted-are i;
           messages = told .messages-are i;
-          logged = logged i;
+          log = kept .same-log i;
+          logged = kept .same-logged i;
         })
         (goes-on .reachable)

@@ -1,5 +1,5 @@
--- The rows of what a history holds are read back as they are: there are 32 records, and the desk's
--- numbers fit. By crate `history`'s invariant.
+-- The rows of what a history holds are read back as they are: there are 32 records and counts, and
+-- the desk's numbers fit. By crate `history`'s invariant.
 --
 --   sites-own           the decks' row
 --   coordinator-own     the desk's row
@@ -7,6 +7,7 @@ use mathlib.Core.Path.{_≡_, sym, ap, _∙_}
 use mathlib.Core.List.{[], append-nil}
 use Prim.Native.Nat.{ℕ, max, _≤_}
 use native.Mathlib.Omega.{arith}
+use lib.ListN.{length}
 use Rattle.model.specs.declared.Settings.{Settings}
 use Rattle.model.specs.declared.Phase.{Phase}
 use Rattle.model.specs.declared.Phase.the-variants.{Idle, Collecting, Probing, Announcing}
@@ -18,6 +19,7 @@ use Rattle.record_numbers.proofs.Inverse.{sites-back}
 use Rattle.coordinator_numbers.proofs.Rows.{row-claims}
 use Rattle.history.specs.State.{State}
 use Rattle.history.specs.Histories.{Reachable}
+use Rattle.history.proofs.LoggedCounts.{length-of-log}
 use Rattle.history.proofs.Accepted.{held-sound}
 use Rattle.history.proofs.Arisen.{arisen}
 use Rattle.single_outcome.proofs.HistoryLaws.{passes-of-reachable}
@@ -49,9 +51,10 @@ module _ {settings : Settings} (state : State) (reachable : Reachable settings s
   pub sites-own : sitesFrom (sitesNumbers (state .held .sites)) ≡ state .held .sites
   sites-own =
       let passes = passes-of-reachable state reachable in
+      let ok = arisen passes state reachable .ok in
       ap sitesFrom (sym (append-nil (sitesNumbers (state .held .sites))))
-      ∙ sites-back (state .held .sites) []
-      (arisen passes state reachable .ok .lengths .all-records)
+      ∙ sites-back (state .held .sites) [] (ok .lengths .all-records)
+      (ap length (ok .counts-are) ∙ length-of-log (state .log))
 
   pub coordinator-own :
       coordinatorRead (coordinatorNumbers (state .held .coordinator)) ≡ state .held .coordinator

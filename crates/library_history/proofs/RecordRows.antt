@@ -3,7 +3,7 @@
 --   decks-handed, desk-handed     where a call is accepted, and where it is refused
 --   decks-long, desk-long         as long as they were
 use mathlib.Core.Path.{_≡_, refl, sym, ap, _∙_}
-use mathlib.Core.List.{List, [], _∷_}
+use mathlib.Core.List.{List}
 use Prim.Native.Nat.{ℕ, _+_}
 use native.Mathlib.Decide.{ℕ-discrete}
 use lib.ListN.{length, length-append}
@@ -11,8 +11,8 @@ use Rattle.model.specs.declared.Sites.{Sites}
 use Rattle.model.specs.declared.CoordinatorRecord.{CoordinatorRecord}
 use Rattle.model.specs.Refusals.{noRefusal}
 use Rattle.model.specs.Limits.{mostSites}
-use Rattle.record_numbers.specs.Numbers.{sitesWidth, recordsNumbers, sitesNumbers, coordinatorNumbers}
-use Rattle.record_numbers.proofs.Records.{length-recordsNumbers}
+use Rattle.record_numbers.specs.Numbers.{sitesWidth, recordsNumbers, countsFrom, sitesNumbers, coordinatorNumbers}
+use Rattle.record_numbers.proofs.Records.{length-recordsNumbers, length-countsFrom}
 use Rattle.history.proofs.Answers.{accepted-choice, refused-choice}
 use Rattle.library_rows.specs.Rows.{handedOut}
 use Rattle.library_history.specs.Claims.{deskWidth}
@@ -48,8 +48,9 @@ module _ {A : Type 0} (read : List ℕ → A) (own : List ℕ) (is : A) (row row
 pub length-sitesNumbers : (sites : Sites) → length (sitesNumbers sites) ≡ sitesWidth
 length-sitesNumbers sites =
     let records = recordsNumbers mostSites (sites .records) in
-    length-append records (sites .messages ∷ [])
-    ∙ ap (λ (n : ℕ). n + 1) (length-recordsNumbers mostSites (sites .records))
+    length-append records (countsFrom mostSites 0 (sites .messages))
+    ∙ (λ i. length-recordsNumbers mostSites (sites .records) i
+    + length-countsFrom mostSites 0 (sites .messages) i)
 
 pub length-coordinatorNumbers : (c : CoordinatorRecord) → length (coordinatorNumbers c) ≡ deskWidth
 length-coordinatorNumbers c = refl

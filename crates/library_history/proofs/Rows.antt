@@ -4,7 +4,7 @@
 --   with-deck       the row with another one there
 use mathlib.Core.Path.{_≡_, refl, sym, ap, _∙_, subst}
 use mathlib.Core.List.{List, [], _∷_, _++_, append-assoc}
-use Prim.Native.Nat.{ℕ, suc, _+_, _*_, _≤_, _<_}
+use Prim.Native.Nat.{ℕ, zero, suc, _+_, _*_, _≤_, _<_}
 use native.Mathlib.Nat.{add-zero}
 use native.Mathlib.Omega.{arith}
 use native.Mathlib.Decide.{ℕ-discrete}
@@ -13,7 +13,7 @@ use lib.Seq.{sets, sets-eq, length-take-le, ext-getD, getD-set-same, getD-set-ot
 use Rattle.model.specs.declared.SiteRecord.{SiteRecord}
 use Rattle.model.specs.Limits.{mostSites}
 use Rattle.model.specs.Held.{noRecord, recordIn, withRecord}
-use Rattle.record_numbers.specs.Numbers.{siteWidth, countPlace, sitesWidth, siteAt, siteNumbers, recordsFrom, sitesFrom}
+use Rattle.record_numbers.specs.Numbers.{siteWidth, countPlace, sitesWidth, siteAt, siteNumbers, recordsFrom, countsFrom, sitesFrom}
 use Rattle.record_numbers.proofs.Records.{length-recordsFrom}
 use Rattle.record_numbers.proofs.Inverse.{getD-recordsFrom, site-behind}
 use Rattle.library_decks.specs.AllDecks.{deckAt, withDeck}
@@ -100,7 +100,12 @@ module _ (decks : List ℕ) (which : ℕ) (site : SiteRecord)
           ∙ sym (getD-recordsFrom mostSites decks i below)
           ∙ sym (getD-set-other (recordsFrom mostSites decks) which i site noRecord other)
 
+  -- The counts stand behind all records.
+  counts-then : (n : ℕ) → countsFrom n countPlace stored ≡ countsFrom n countPlace decks
+  counts-then zero = refl
+  counts-then (suc n) =
+      let last = other-number (countPlace + n) (λ low high. omega (arith, known)) in
+      λ i. counts-then n i ++ (last i ∷ [])
+
   pub with-deck : sitesFrom stored ≡ withRecord (sitesFrom decks) which site
-  with-deck =
-      let count = other-number countPlace (λ low high. omega (arith, known)) in
-      λ i. record { records = records-then i; messages = count i }
+  with-deck = λ i. record { records = records-then i; messages = counts-then mostSites i }

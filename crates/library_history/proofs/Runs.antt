@@ -135,6 +135,7 @@ module _ {bench : Bench} (call : RunCall bench) where
             waiting = state .waiting;
             accepted = state .accepted ++ drawsOf (take (accepted i) (call .draws));
             messages = state .messages ++ messagesIn (written i) (call .log .after);
+            log = state .log ++ messagesIn (written i) (call .log .after);
             logged = state .logged + written i;
           })
           reached

@@ -38,6 +38,7 @@ module _ {settings : Settings} (bench : Bench) (state : State)
     waiting = state .waiting;
     accepted = state .accepted;
     messages = state .messages;
+    log = state .log;
     logged = state .logged;
   }
 

@@ -41,6 +41,7 @@ drawing before held draw out = record {
   waiting = before .waiting ++ out;
   accepted = before .accepted ++ (draw ∷ []);
   messages = before .messages ++ out;
+  log = before .log;
   logged = before .logged;
 }
 
@@ -51,6 +52,7 @@ running before call = record {
   waiting = before .waiting;
   accepted = before .accepted ++ drawsOf (take (acceptedBy call) (call .draws));
   messages = before .messages ++ messagesIn (writtenBy call) (call .log .after);
+  log = before .log ++ messagesIn (writtenBy call) (call .log .after);
   logged = before .logged + writtenBy call;
 }
 
@@ -61,6 +63,7 @@ delivering before held draw out = record {
   waiting = [];
   accepted = before .accepted ++ (draw ∷ []);
   messages = before .messages ++ out;
+  log = before .log;
   logged = before .logged;
 }
 

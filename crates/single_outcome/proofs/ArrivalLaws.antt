@@ -212,7 +212,14 @@ module _ {settings : Settings} {arrival : Arrival} {sites : Sites}
 
   -- What was given, as a state with nothing before it.
   abbrev fresh : State
-  fresh = record { held = given; waiting = []; accepted = []; messages = []; logged = 0 }
+  fresh = record {
+    held = given;
+    waiting = [];
+    accepted = [];
+    messages = [];
+    log = [];
+    logged = 0;
+  }
 
   pub taken-says : (answer : DeliveryAnswer)
       → answer .refusal ≡ noRefusal

@@ -1,5 +1,5 @@
 -- What an arrival and the steps of its delivery keep, from any sound network: every place of lent
--- memory that is not the network's, the accepted arrivals and the network's own count.
+-- memory that is not the network's, the accepted arrivals and the network's own counts.
 --
 --   Keeping, kept-after     after so many steps
 --   held-after              all that is held: the network, written over what was there
@@ -38,7 +38,7 @@ module _ {settings : Settings} (passes : settingsRefusal settings ≡ noRefusal)
     pub mid : Underway settings (networkOf settings (state .held)) arrival (state .messages) n now
     pub from : FromStart settings (state .held) (now .held)
     pub same-accepted : now .accepted ≡ then .accepted
-    pub same-count : now .held .sites .messages ≡ state .held .sites .messages
+    pub same-counts : now .held .sites .messages ≡ state .held .sites .messages
 
   at-first : Keeping 0 then
   at-first = record {
@@ -48,7 +48,7 @@ module _ {settings : Settings} (passes : settingsRefusal settings ≡ noRefusal)
         (from-self passes (state .held) (rest .lengths) (rest .sound .sites-sound))
         rest arrival words part observed says is-draw accepts;
     same-accepted = refl;
-    same-count = refl;
+    same-counts = refl;
   }
 
   on : (n : ℕ) (before after : State)
@@ -60,7 +60,7 @@ module _ {settings : Settings} (passes : settingsRefusal settings ≡ noRefusal)
         from =
             from-delivery passes before (state .held) (here .from) (here .mid) after step;
         same-accepted = keeps .same-accepted ∙ here .same-accepted;
-        same-count = keeps .same-count ∙ here .same-count;
+        same-counts = keeps .same-counts ∙ here .same-counts;
       }
 
   -- Kept by each step, and so by all.
@@ -79,4 +79,4 @@ module _ {settings : Settings} (passes : settingsRefusal settings ≡ noRefusal)
       let kept = kept-after m after steps .holds in
       held-over passes (state .held) (after .held) (kept .mid .lengths) (kept .from)
       ∙ ap (networkWritten settings (state .held) (networkOf settings (after .held)))
-      (kept .same-count)
+      (kept .same-counts)

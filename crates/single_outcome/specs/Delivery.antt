@@ -105,7 +105,7 @@ deliveryIn settings network arrival =
 
 -- Not taken, all is "left as it was". Otherwise it is the network that the delivery comes to,
 -- written over what was given: unused counters, records k to 31 and what lies past the network
--- stay, and so does the network's own count of messages, "to which the many-draw call alone adds".
+-- stay, and so do the network's own counts of messages, "to which the many-draw call alone adds".
 abbrev pub heldAfter : Settings → Held → Arrival → Held
 heldAfter settings given arrival =
     if deliveryTakes settings given arrival

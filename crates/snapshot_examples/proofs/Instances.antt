@@ -86,5 +86,9 @@ file-instances = record {
   load-sum-wrong = refl;
   load-sum-right = refl;
   load-sites-whole = refl;
+  two-length = refl;
+  two-decks = refl;
+  load-two = refl;
+  load-older = refl;
   load-cut = refl;
 }

@@ -4,6 +4,7 @@
 --   batchState                    P2 by the batch call under settings A: five messages are counted
 --   fullSettings                  the most sites, counters and items
 --   freshFile, batchFile, announcingFile    the files of three states that histories reach
+--   twoDecks, freshTwo, olderFile two decks, just started, and their file before request N5
 --   lastBytes file                its trailer: 12 bytes, fewer for a shorter file
 --   patched place byte            the last of them with one byte changed, and with its right sum
 --   onlyTrailer width low high    60 bytes: zeros but for width and sum
@@ -11,17 +12,22 @@
 use mathlib.Core.Path.{_≡_}
 use mathlib.Core.List.{List, [], _∷_, _++_}
 use Prim.Native.Nat.{ℕ, _+_, _-_, _^_}
-use lib.ListN.{length, set, drop, replicate}
+use lib.ListN.{length, set, take, drop, replicate}
 use Rattle.model.specs.declared.Settings.{Settings}
 use Rattle.model.specs.declared.Phase.the-variants.{Idle, Announcing}
 use Rattle.model.specs.Refusals.{noRefusal, settingOutOfRange, memoryTooShort, memoryInconsistent, fileUnreadable, checksumWrong}
 use Rattle.model.specs.Settings.{settingsWith}
+use Rattle.model.specs.Coordinator.{freshCoordinator}
+use Rattle.model.specs.CoordinatorMemory.{coordinatorWords, coordinatorRecord}
+use Rattle.model.specs.NetworkMemory.{sitesWords, freshSites}
+use Rattle.model.specs.Held.{Held, heldBy}
+use Rattle.model.specs.MessageCounts.{totalCount}
 use Rattle.model.specs.Instances.{settingsA, draw}
 use Rattle.record_numbers.specs.Numbers.{settingsNumbers}
 use Rattle.little_endian.specs.Sections.{section, sectionsBytes}
 use Rattle.checksum.specs.Sums.{byteSum}
-use Rattle.snapshot_file.specs.Layout.{deskBytes, deskPlace, decksPlace, trailerLength, fileLength}
-use Rattle.snapshot_file.specs.File.{trailerSections, summed, fileOf, saveRefusal}
+use Rattle.snapshot_file.specs.Layout.{deskBytes, deckBytes, pointerBytes, widthBytes, deskCount, deskPlace, decksPlace, trailerLength, fileLength}
+use Rattle.snapshot_file.specs.File.{deskNumbers, deckSections, trailerSections, summed, fileOf, saveRefusal}
 use Rattle.snapshot_file.specs.Reading.{deskPointer, decksPointer, unsummed, loadRefusal}
 use Rattle.history.specs.State.{State}
 use Rattle.history.specs.Histories.{Reachable}
@@ -36,12 +42,22 @@ batchState = record {
   waiting = [];
   accepted = draw ∷ [];
   messages = allMessages 1;
+  log = allMessages 1;
   logged = 5;
 }
 
 -- "k 32, c 3000, u 65,536"; no other number says anything of a file's length.
 abbrev pub fullSettings : Settings
 fullSettings = settingsWith 32 1000 1000 500 3000 65536
+
+-- Settings A with a second deck, and a bench of them that has just been started.
+abbrev pub twoDecks : Settings
+twoDecks = settingsWith 2 1000 1000 500 6 10
+
+abbrev pub freshTwo : Held
+freshTwo =
+    heldBy freshSites (coordinatorRecord (freshCoordinator twoDecks))
+    (replicate (sitesWords twoDecks) 0) (replicate (coordinatorWords twoDecks) 0)
 
 -- ---- Files
 
@@ -68,6 +84,15 @@ onlySettings settings =
     summed (sectionsBytes
     (section deskBytes (settingsNumbers settings) ∷ trailerSections settings))
 
+-- The same bench as a file had it before request N5: one count at the end of its desk part.
+abbrev pub olderFile : List ℕ
+olderFile =
+    summed (sectionsBytes (section deskBytes (settingsNumbers twoDecks)
+    ∷ section deskBytes (take (deskCount twoDecks - 1) (deskNumbers twoDecks freshTwo))
+    ∷ deckSections 2 twoDecks (freshTwo .sites .records) (freshTwo .siteMemory)
+    ++ (section pointerBytes (deskPlace ∷ (decksPlace twoDecks - deskBytes) ∷ [])
+    ∷ section widthBytes (deckBytes ∷ []) ∷ [])))
+
 -- ---- The table
 
 pub record FileInstances : Type 0 where
@@ -91,15 +116,15 @@ pub record FileInstances : Type 0 where
   -- "1054"
   pub announcing-reached : Reachable settingsA afterPollAnswer
   pub announcing-phase : afterPollAnswer .held .coordinator .phase ≡ Announcing 0
-  pub announcing-count : afterPollAnswer .held .sites .messages ≡ 0
+  pub announcing-count : totalCount settingsA (afterPollAnswer .held .sites) ≡ 0
   pub announcing-length : length announcingFile ≡ 12632
   pub announcing-desk : deskPointer announcingFile ≡ 48
   pub announcing-decks : decksPointer announcingFile ≡ 8408
   pub announcing-sum : byteSum (unsummed announcingFile) ≡ 1054
-  -- "k 32, c 3000, u 65,536": "2,200,340", "48, 532,616"
-  pub full-length : fileLength fullSettings ≡ 2200340
+  -- "k 32, c 3000, u 65,536": "2,200,340", "48, 532,616", and 31 counts of 8 bytes more (N5)
+  pub full-length : fileLength fullSettings ≡ 2200588
   pub full-desk : deskPlace ≡ 48
-  pub full-decks : decksPlace fullSettings ≡ 532616
+  pub full-decks : decksPlace fullSettings ≡ 532864
   -- saving in mid-delivery is accepted; "4 when .. the lent bytes are too short"
   pub save-exact : saveRefusal settingsA (afterPollAnswer .held) 12632 ≡ noRefusal
   pub save-short : saveRefusal settingsA (afterPollAnswer .held) 12631 ≡ memoryTooShort
@@ -125,5 +150,10 @@ pub record FileInstances : Type 0 where
   pub load-sites-whole :
       loadRefusal (onlySettings (settingsWith (2 ^ 32 + 1) 1000 1000 500 6 10)) 0 0
       ≡ settingOutOfRange
+  -- request N5: k counts in the desk part; "older files of two or more decks are refused with 15"
+  pub two-length : fileLength twoDecks ≡ 16852
+  pub two-decks : decksPlace twoDecks ≡ 8416
+  pub load-two : loadRefusal (fileOf twoDecks freshTwo) 2096 1034 ≡ noRefusal
+  pub load-older : loadRefusal olderFile 2096 1034 ≡ fileUnreadable
   -- "15 when .. the length is not the one these settings give", before 4
   pub load-cut : loadRefusal (onlySettings settingsA) 0 0 ≡ fileUnreadable

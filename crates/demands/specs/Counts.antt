@@ -1,5 +1,5 @@
--- What a network counts of its messages (request N5), of every history, at rest and in mid-delivery:
--- "The bench total is their sum, and the planner's allowance is still compared with that sum."
+-- What a network counts of its messages (request N5), at rest and in mid-delivery: "The bench total
+-- is their sum, and the planner's allowance is still compared with that sum."
 --
 --   Counted settings state     each site's count, and their sum
 use mathlib.Core.Path.{_≡_}

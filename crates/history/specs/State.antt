@@ -1,8 +1,8 @@
 -- What is kept beside what a caller holds to speak of a history of calls (document 01, "Whole lists
 -- of draws"), and what a call is given of it and leaves of it.
 --
---   State                        what is held, the queue, arrivals, messages, those of the logs, and
---                                the sum of answers
+--   State                        what is held, the queue, arrivals, messages, those of the logs
+--                                and the sum of answers
 --   AtRest state                 nothing waits, and the coordinator is idle
 --   partOf held start words      so many numbers of the sites' memory from a place on; fewer where
 --                                it ends

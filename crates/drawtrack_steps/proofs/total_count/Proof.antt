@@ -32,7 +32,7 @@ returns c =
     let at-loop = tested .before in
     let a = at-loop .before .before .args in
     adding-over (a .settings .sites) (a .t2) (at-loop .loop .total) (at-loop .loop .j)
-    (at-loop .loop .inv) (tested .loop-test .taken) (c .if1 .taken)
+    (at-loop .loop .inv) (omega (arith, tested .loop-test .taken)) (c .if1 .taken)
 
 loop-again : tie.Need-loop-again Inv-loop μ-loop
 loop-again c =
@@ -40,7 +40,7 @@ loop-again c =
     let at-loop = tested .before in
     let a = at-loop .before .before .args in
     adding-on (a .settings .sites) (a .t2) (at-loop .loop .total) (at-loop .loop .j)
-    (at-loop .loop .inv) (tested .loop-test .taken) (c .if1 .left)
+    (at-loop .loop .inv) (omega (arith, tested .loop-test .taken)) (c .if1 .left)
 
 returns-2 : tie.Need-returns-2 Inv-loop μ-loop
 returns-2 c =

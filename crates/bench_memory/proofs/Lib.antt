@@ -1,6 +1,5 @@
 -- The laws of the tests of a whole network's memory.
 pub mod SitesLaws
-pub mod CountsLaws
 pub mod PartLaws
 pub mod ShortLaws
 pub mod BenchLaws

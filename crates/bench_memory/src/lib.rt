@@ -6,12 +6,9 @@ ghost use Rattle.model.specs.Lent.{before};
 ghost use mathlib.Core.Path.{_≡_};
 ghost use Rattle.model.specs.Refusals.{noRefusal};
 ghost use Rattle.model.specs.Settings.{settingsRefusal};
-ghost use Rattle.model.specs.MessageCounts.{countsWithin};
 ghost use Rattle.model.specs.NetworkMemory.{sitesConsistent, benchConsistent};
 ghost use Rattle.bench_memory.specs.Contracts.{SitesFit, NetworkFits, ShortSays};
 use model::CoordinatorRecord;
-use model::MESSAGE_LIMIT;
-use model::SITE_RECORDS;
 use model::Settings;
 use model::Sites;
 use model::VALUE_COUNT;
@@ -38,23 +35,6 @@ fn sites_consistent(settings: Settings, sites: Sites, memory: &[Word]) -> bool
     true
 }
 
-// Whether the messages counted of each site are within their limit; counts of the sites from k on
-// are not looked at, and the sum has no limit.
-fn counts_within(settings: Settings, counts: [u64; SITE_RECORDS]) -> bool
-    requires { ⌜ settingsRefusal settings ≡ noRefusal ⌝ }
-    ensures { λ r. ⌜ r ≡ countsWithin (settings .sites) counts ⌝ }
-{
-    let all = settings.sites as usize;
-    let mut j = 0;
-    while j < all {
-        if MESSAGE_LIMIT < counts[j] {
-            return false;
-        }
-        j += 1;
-    }
-    true
-}
-
 // Whether records and memory are consistent: the counts of messages, each site, the coordinator.
 pub fn bench_consistent(
     settings: Settings,
@@ -69,7 +49,7 @@ pub fn bench_consistent(
         (before «site_memory») (before «coordinator_memory») ⌝ }
 {
     let counts = sites.messages;
-    if counts_within(settings, counts) {
+    if message_counts::counts_within(settings, counts) {
         if sites_consistent(settings, sites, site_memory) {
             return coordinator_memory::coordinator_consistent(
                 settings,

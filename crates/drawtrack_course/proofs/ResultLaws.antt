@@ -29,10 +29,11 @@ use Rattle.coordinator_list.specs.Contracts.{listRefusal}
 use Rattle.history.proofs.RunSound.{sound-run, messages-within, run-names}
 use Rattle.history.proofs.LoggedCounts.{total-of-log}
 use Rattle.history.proofs.Accepted.{coordinator-accepted}
+use Rattle.message_counts.specs.Totals.{totalHeld}
 use Rattle.drawtrack_steps.specs.declared.Session.{Session}
 use Rattle.output_lines.specs.Contracts.{atStart, linesAfter}
 use Rattle.drawtrack_steps.specs.Outcome.{Buffers}
-use Rattle.drawtrack_steps.specs.Steps.{sessionCoordinator, printedCount, resultLinesOf, listedOf, resultsOf}
+use Rattle.drawtrack_steps.specs.Steps.{sessionCoordinator, resultLinesOf, listedOf, resultsOf}
 use Rattle.laws.proofs.Writing.{joined}
 use Rattle.output_lines.proofs.OutputLaws.{Fitted, fits-all}
 use Rattle.drawtrack_course.specs.Course.{Represents, Room}
@@ -184,10 +185,10 @@ module _ {session : Session} {given : Buffers} {arrivals : List Arrival}
       (omega (arith, messages-within settings (stands .settings-accepted) arrivals))
 
   -- The sum of the counts is the number of messages, far below what 64 bits hold.
-  count-is : printedCount settings (session .sites .messages) ≡ length (run .messages)
+  count-is : totalHeld settings (session .sites .messages) ≡ length (run .messages)
   count-is =
       let passes = stands .settings-accepted in
-      ap (printedCount settings) (stands .counts-are)
+      ap (totalHeld settings) (stands .counts-are)
       ∙ omega (
         arith,
         total-of-log (run .messages) (settings .sites) (run-names settings passes arrivals)

@@ -22,10 +22,11 @@ use Rattle.coordinator_list.specs.declared.Listed.{Listed}
 use Rattle.coordinator_reading.specs.declared.QuantileRead.{QuantileRead}
 use Rattle.coordinator_reading.specs.Contracts.{QuantileSays}
 use Rattle.coordinator_list.specs.Contracts.{listRefusal, ListSays}
+use Rattle.message_counts.specs.Totals.{totalHeld}
 use Rattle.drawtrack_steps.specs.declared.Session.{Session}
 use Rattle.drawtrack_steps.specs.Outcome.{outcome, ended, RefuseSays, refusedOf, buffers}
 use Rattle.drawtrack_steps.specs.declared.Moved.{Moved}
-use Rattle.drawtrack_steps.specs.Steps.{printedCount, resultLinesOf, FinishSays}
+use Rattle.drawtrack_steps.specs.Steps.{resultLinesOf, FinishSays}
 
 pub settings-pass : (session : Session) (memory listBefore listAfter : List ℕ) (listed : Listed)
     → ListSays (session .settings) (session .coordinator) memory listBefore listAfter listed
@@ -85,7 +86,7 @@ module _ (session : Session) (memory listBefore listAfter : List ℕ) (listed : 
         ∙ rw (eq-eqb tested 0 (both-accepted tested _ fine .first-accepted))
 
     pub finish-listed : (out₁ out₂ : List ℕ) (p₁ p₂ p₃ total : ℕ)
-        → total ≡ printedCount settings (session .sites .messages)
+        → total ≡ totalHeld settings (session .sites .messages)
         → LineWritten (listedLine (take (listed .count) listAfter)) 0 before out₁ p₁
         → LineWritten (endLine (classWord ++ quantileWord (read .quantile))) p₁ out₁ out₂ p₂
         → LineWritten (countedLine messagesWord total) p₂ out₂ after p₃

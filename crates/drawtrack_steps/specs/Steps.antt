@@ -2,18 +2,16 @@
 -- results at its end (document 01's section "Worklist").
 --
 --   drawOf session step given        the outcome of a line's draw
---   printedCount settings counts     the messages counted for all sites
 --   resultsOf session given          the outcome at the end of the worklist
 --   DrawSays, FinishSays               the promises
 use mathlib.Core.Path.{_≡_}
 use mathlib.Core.Bool.{true}
 use mathlib.Core.List.{List, [], _∷_, _++_}
-use Prim.Native.Nat.{ℕ, _*_, _≤_, min}
+use Prim.Native.Nat.{ℕ, _*_, _≤_}
 use lib.ListN.{length, take}
-use Rattle.model.specs.declared.Settings.{Settings}
 use Rattle.model.specs.Choice.{if_then_else_, isZero}
 use Rattle.model.specs.Refusals.{noRefusal}
-use Rattle.model.specs.SiteMemory.{sum, overwrite}
+use Rattle.model.specs.SiteMemory.{overwrite}
 use Rattle.model.specs.Coordinator.{Coordinator}
 use Rattle.model.specs.CoordinatorMemory.{coordinatorIn, coordinatorRecord, coordinatorMemory}
 use Rattle.model.specs.NetworkMemory.{sitesMemory}
@@ -24,6 +22,7 @@ use Rattle.worklist_reader.specs.declared.Step.{Step}
 use Rattle.output_lines.specs.Contracts.{countedLine, listedLine}
 use Rattle.coordinator_list.specs.Contracts.{listRefusal}
 use Rattle.tracker.specs.Batch.{BatchCall, startRefusal, batchIn, unlessRefused, sitesAfter, messageNumbers}
+use Rattle.message_counts.specs.Totals.{totalHeld}
 use Rattle.drawtrack_steps.specs.declared.Session.{Session}
 use Rattle.output_lines.specs.Contracts.{atStart, linesAfter}
 use Rattle.drawtrack_steps.specs.Output.{linesOf}
@@ -80,21 +79,12 @@ abbrev pub sessionCoordinator : Session → Buffers → Coordinator
 sessionCoordinator session given =
     coordinatorIn (session .settings) (session .coordinator) (given .coordinatorMemory)
 
--- What 64 bits hold at most.
-abbrev pub largestCount : ℕ
-largestCount = 18446744073709551615
-
--- "The bench total is their sum" (request N5): of the counts of the k sites; of every session that
--- arises it is far below what 64 bits hold.
-abbrev pub printedCount : Settings → List ℕ → ℕ
-printedCount settings counts = min (sum (take (settings .sites) counts)) largestCount
-
 -- "then the listed codes in order .., the class or `none`, and the count"
 abbrev pub resultLinesOf : Session → Coordinator → List (List ℕ)
 resultLinesOf session coordinator =
     listedLine (heavyHitters (session .settings) coordinator)
     ∷ (endLine (classWord ++ quantileWord (quantileOf (session .settings) coordinator))
-    ∷ (countedLine messagesWord (printedCount (session .settings) (session .sites .messages))
+    ∷ (countedLine messagesWord (totalHeld (session .settings) (session .sites .messages))
     ∷ []))
 
 -- The list holds the listed items in its first places, and the output their line and the others.

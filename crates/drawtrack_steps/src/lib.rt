@@ -10,20 +10,14 @@ ghost use lib.ListN.{length};
 ghost use Rattle.model.specs.Messages.{messageWidth};
 ghost use Rattle.drawtrack_steps.specs.Output.{PutMessagesSays};
 ghost use Rattle.drawtrack_steps.specs.Outcome.{buffers, ended, RefuseSays};
-ghost use Rattle.model.specs.Refusals.{noRefusal};
-ghost use Rattle.model.specs.Settings.{settingsRefusal};
-ghost use Rattle.drawtrack_steps.specs.Steps.{printedCount, DrawSays, FinishSays};
+ghost use Rattle.drawtrack_steps.specs.Steps.{DrawSays, FinishSays};
 use model::CoordinatorRecord;
 use model::MESSAGE_WIDTH;
 use model::NO_REFUSAL;
-use model::SITE_RECORDS;
 use model::Settings;
 use model::Sites;
 use model::Word;
 use worklist_reader::Step;
-
-// What 64 bits hold at most.
-const LARGEST_COUNT: u64 = u64::MAX;
 
 // Where a session stands: whether it goes on, why it was refused or 0, the settings, the records of
 // the network, the place of its reader in the input and the number of the line there.
@@ -128,26 +122,6 @@ pub fn take_draw(
     }
 }
 
-// The messages counted for all sites, the sum of the k counts; what 64 bits hold at most where the
-// sum is above it, which is so for no session that arises.
-fn total_count(settings: Settings, counts: [u64; SITE_RECORDS]) -> u64
-    requires { ⌜ settingsRefusal settings ≡ noRefusal ⌝ }
-    ensures { λ r. ⌜ r ≡ printedCount settings counts ⌝ }
-{
-    let all = settings.sites as usize;
-    let mut total: u64 = 0;
-    let mut j = 0;
-    while j < all {
-        let count = counts[j];
-        if LARGEST_COUNT - total < count {
-            return LARGEST_COUNT;
-        }
-        total += count;
-        j += 1;
-    }
-    total
-}
-
 // Writes the results and ends: the list, the class and the sum of the counts of messages, or why
 // there is no list.
 pub fn finish(session: Session, memory: &[u64], list: &mut [u32], out: &mut [u8]) -> Moved
@@ -165,7 +139,7 @@ pub fn finish(session: Session, memory: &[u64], list: &mut [u32], out: &mut [u8]
     let quantile = read.quantile;
     let after_class = output_transcript::write_class(quantile, out, after_list);
     let counts = session.sites.messages;
-    let total = total_count(settings, counts);
+    let total = message_counts::total_count(settings, counts);
     let written = output_transcript::write_count(total, out, after_class);
     stop(session, NO_REFUSAL, written)
 }

@@ -5,7 +5,7 @@ use native.Mathlib.Omega.{arith}
 use borrow.Author.Needs.{needs}
 use Rattle.model.specs.Limits.{messageLimit}
 use Rattle.model.specs.MessageCounts.{countAt}
-use Rattle.bench_memory.proofs.CountsLaws.{CountsPass, counts-start, counts-on, counts-fail, counts-end}
+use Rattle.message_counts.proofs.CountsLaws.{CountsPass, counts-start, counts-on, counts-fail, counts-end}
 use Rattle.snapshot_file.specs.Reading.{heldIn}
 use Rattle.snapshot_refusal.proofs.BenchLaws.{count-held}
 use Rattle.snapshot_refusal.proofs.counts_within.Statement.{statement}

@@ -1,13 +1,12 @@
--- `bench_memory::counts_within` meets its contract. The invariant: no count before j is above the
+-- `message_counts::counts_within` meets its contract. The invariant: no count before j is above the
 -- limit.
 use Prim.Native.Nat.{ℕ, _-_, _<_}
 use native.Mathlib.Omega.{arith}
 use Rattle.model.proofs.Thresholds.SettingsLaws.{settled}
-use Rattle.site_memory.proofs.SitePart.{few-sites}
-use Rattle.bench_memory.proofs.CountsLaws.{CountsPass, counts-start, counts-on, counts-fail, counts-end}
+use Rattle.message_counts.proofs.CountsLaws.{CountsPass, counts-start, counts-on, counts-fail, counts-end}
 use borrow.Author.Needs.{needs}
-use Rattle.bench_memory.proofs.counts_within.Statement.{statement}
-use Rattle.bench_memory.proofs.counts_within.Tie as tie
+use Rattle.message_counts.proofs.counts_within.Statement.{statement}
+use Rattle.message_counts.proofs.counts_within.Tie as tie
 
 abbrev Inv-loop : tie.InvT-loop
 Inv-loop counts all j₀ j = CountsPass all counts j
@@ -27,7 +26,7 @@ inside c = omega (arith, c .loop-test .taken)
 array-read-if1 : tie.Need-array-read-if1 Inv-loop μ-loop
 array-read-if1 c =
     let start = c .before .before .before in
-    omega (arith, few-sites (settled (start .args .settings) (start .pre)) (inside c))
+    omega (arith, settled (start .args .settings) (start .pre) .sites .at-most, inside c)
 
 returns : tie.Need-returns Inv-loop μ-loop
 returns c =

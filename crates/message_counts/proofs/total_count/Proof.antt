@@ -1,17 +1,17 @@
--- `drawtrack_steps::total_count` meets its contract. The invariant: the sum of the counts before j.
+-- `message_counts::total_count` meets its contract. The invariant: the sum of the counts before j.
 use Prim.Native.Nat.{_-_}
 use native.Mathlib.Omega.{arith}
 use Rattle.model.proofs.Thresholds.SettingsLaws.{settled}
-use Rattle.drawtrack_steps.proofs.TotalLaws.{Adding, adding-begins, adding-on, adding-over, adding-ends}
+use Rattle.message_counts.proofs.TotalLaws.{Adding, adding-begins, adding-on, adding-over, adding-ends}
 use borrow.Author.Needs.{needs}
-use Rattle.drawtrack_steps.proofs.total_count.Statement.{statement}
-use Rattle.drawtrack_steps.proofs.total_count.Tie as tie
+use Rattle.message_counts.proofs.total_count.Statement.{statement}
+use Rattle.message_counts.proofs.total_count.Tie as tie
 
 abbrev Inv-loop : tie.InvT-loop
-Inv-loop counts all total₀ j₀ total j = Adding all counts total j
+Inv-loop counts sites total₀ j₀ total j = Adding sites counts total j
 
 abbrev μ-loop : tie.MeasureT-loop
-μ-loop counts all total₀ j₀ total j = all - j
+μ-loop counts sites total₀ j₀ total j = sites - j
 
 loop-holds : tie.Need-loop-holds Inv-loop μ-loop
 loop-holds c = adding-begins _ _

@@ -10,7 +10,7 @@ use native.Mathlib.Omega.{arith}
 use lib.ListN.{take}
 use Rattle.model.specs.SiteMemory.{sum}
 use Rattle.model.specs.MessageCounts.{countAt}
-use Rattle.drawtrack_steps.specs.Steps.{largestCount}
+use Rattle.message_counts.specs.Totals.{largestCount}
 
 -- One count more; a missing one is 0.
 sum-next : (j : ℕ) (counts : List ℕ)

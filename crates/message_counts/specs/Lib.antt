@@ -1,0 +1,2 @@
+-- The sum of the counts of messages, as code has it.
+pub mod Totals

@@ -1,8 +1,8 @@
 -- The sum of the counts of messages as a machine number (request N5).
 --
 --   largestCount                what 64 bits hold at most
---   totalHeld settings counts   the sum of the counts of the k sites, or that number where the sum is
---                               above it
+--   totalHeld settings counts   the sum of the counts of the k sites, or that number where the sum
+--                               is above it
 use mathlib.Core.List.{List}
 use Prim.Native.Nat.{ℕ, min}
 use lib.ListN.{take}

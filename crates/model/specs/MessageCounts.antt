@@ -3,8 +3,8 @@
 --
 --   noneCounted                  32 zeros, as a start has them
 --   countAt counts j             the count of site j; 0 past the last
---   countedUp counts messages    each message counted at the site that it names; one that names none
---                                changes nothing
+--   countedUp counts messages    each message counted at the site that it names; one that names
+--                                none changes nothing
 --   naming j messages            how many of the messages name site j
 --   countsWithin k counts        none of the first k is above the limit; a missing one is 0
 --   totalCount settings sites    the sum of the first k

@@ -11,8 +11,8 @@
 --   counted-good     so is the answer with a turn in it
 --   counts-value     the counts of messages within an answer have the value that they have alone
 --   withCounts, withEnded           the answer with other counts, and with what a delivery leaves
---   counts-good, records-all-good, coordinator-good, out-good   parts of an answer and of a turn are
---                    values of their types
+--   counts-good, records-all-good, coordinator-good, out-good   parts of an answer and of a turn
+--                    are values of their types
 --   with-counts-good, with-ended-good   so are those answers
 use mathlib.Core.Path.{_≡_, refl, sym, _∙_, ap, subst}
 use Prim.Native.Nat.{ℕ, zero, suc, _+_, _<_, _^_}

@@ -13,8 +13,8 @@ use Rattle.model.specs.Edges.Inputs.{freshNumbers}
 use Rattle.model.specs.Edges.Networks.{stoppedDraws}
 use Rattle.tracker.specs.Batch.{BatchCall, logRoom, startRefusal, batchIn, unlessRefused, sitesAfter}
 
--- Settings A on a fresh network that has counted 7 messages of each site: these draws, site memory of so many
--- numbers, a log of so many.
+-- Settings A on a fresh network that has counted 7 messages of each site: these draws, site memory
+-- of so many numbers, a log of so many.
 abbrev pub callWith : List Arrival → ℕ → ℕ → BatchCall
 callWith arrivals numbers places = record {
   settings = settingsA;
@@ -48,7 +48,8 @@ pub record BatchCallEdges : Type 0 where
   -- request N2: touches are accepted and counted with no log, and change nothing
   pub touches : refusalOf (callWith (touch ∷ touch ∷ []) 1048 0) ≡ 0
   pub touches-accepted : acceptedOf (callWith (touch ∷ touch ∷ []) 1048 0) ≡ 2
-  pub touches-unlogged : sitesAfter (callWith (touch ∷ touch ∷ []) 1048 0) .messages ≡ replicate 32 7
+  pub touches-unlogged : sitesAfter (callWith (touch ∷ touch ∷ []) 1048 0) .messages
+      ≡ replicate 32 7
   -- between two draws with a log for one: 14 before the second draw
   pub between : refusalOf (callWith (draw ∷ touch ∷ draw ∷ []) 1048 100) ≡ 14
   pub between-accepted : acceptedOf (callWith (draw ∷ touch ∷ draw ∷ []) 1048 100) ≡ 2

@@ -63,8 +63,8 @@ handed-as : {settings : Settings} {underway : Underway}
     → Holds settings (u .given) (u .earlier) (deliveryStep settings (u .now))
     (answered (by .count) (by .out) (carrying next siteMemory coordinatorAfter log)))
     → HandedStep settings underway siteMemory coordinatorBefore coordinatorAfter by
-handed-as {settings} {underway} {siteMemory = siteMemory} {coordinatorAfter = coordinatorAfter} {by = by}
-    next is sends holds = record {
+handed-as {settings} {underway} {siteMemory = siteMemory} {coordinatorAfter = coordinatorAfter}
+    {by = by} next is sends holds = record {
       sends = λ log u some.
           subst⁻¹ (λ (then : Underway).
           SendAsks (trafficOf then) (by .out) (underway .sites .messages) log) is

@@ -1,7 +1,7 @@
 // Messages that go out: each is written to the log, counted for the site that it names, and waits
-// last, until it is handed over. The functions are internal: the deliveries of crates `tracker_delivery` and
-// `single_delivery`, and the parts of the batch call, call them, and what they require follows from
-// what these require.
+// last, until it is handed over. The functions are internal: the deliveries of crates
+// `tracker_delivery` and `single_delivery`, and the parts of the batch call, call them, and what
+// they require follows from what these require.
 ghost use Rattle.model.specs.Lent.{before, after};
 ghost use mathlib.Core.Path.{_≡_};
 ghost use Prim.Native.Nat.{_+_, _*_, _≤_};

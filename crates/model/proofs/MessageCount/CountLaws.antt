@@ -29,7 +29,8 @@ use Rattle.model.specs.MessageCounts.{countAt, countedUp, naming}
 
 -- ---- One message more
 
-pub one-more-le : (counts : List ℕ) (i j : ℕ) → countAt (oneMoreAt counts i) j ≤ countAt counts j + 1
+pub one-more-le : (counts : List ℕ) (i j : ℕ)
+    → countAt (oneMoreAt counts i) j ≤ countAt counts j + 1
 one-more-le [] i j = omega arith
 one-more-le (count ∷ counts) zero zero = omega arith
 one-more-le (count ∷ counts) zero (suc j) = omega arith

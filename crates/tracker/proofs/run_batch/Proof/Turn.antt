@@ -168,9 +168,10 @@ module _ {M : Type 1} (logic : Logic M) (f : Called) (ok : Typed f) (l : Places)
         accepted-within = asks-count .accepted-within;
         taken-within = asks-count .taken-within;
       }) (λ good.
-      sends logic f ok l i within turn turn-is X (answered s′ (counted (s .answer) (placeOf arrival) turn) good)
+      let s-counted = answered s′ (counted (s .answer) (placeOf arrival) turn) good in
+      sends logic f ok l i within turn turn-is X s-counted
       (λ some. messages-ask (deliver-asks (heldAt s) arrival refl told _ refl asks some))
-      (λ quiet. k (answered s′ (counted (s .answer) (placeOf arrival) turn) good)
+      (λ quiet. k s-counted
       (quiet-says (heldAt s) arrival refl told _ refl quiet))
       (λ s″ some refusal-same accepted-same says. k s″
       (sent-says (heldAt s) arrival refl told _ refl some refusal-same accepted-same says)))))

@@ -1,3 +1,3 @@
 -- Laws of the counters in a site's memory.
-pub mod Search
+pub mod CountersFrom
 pub mod CounterMemory

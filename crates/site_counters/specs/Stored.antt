@@ -5,11 +5,8 @@
 --   counterOf stored                the model's counter that a `StoredCounter` is
 --   greatestWord                    the greatest number that a place holds
 --   PartsWithin counter             overcount and sent number within the count
---   ordered                         the model's `precedes` of two counters, on their numbers
-use mathlib.Core.Bool.{Bool, _&&_, _||_}
 use mathlib.Core.List.{List}
 use Prim.Native.Nat.{ℕ, _+_, _*_, _≤_}
-use lib.Dec.{eqb, ltb}
 use lib.ListN.{getD, set}
 use Rattle.model.specs.Counters.{Counter}
 use Rattle.site_counters.specs.declared.StoredCounter.{StoredCounter}
@@ -44,8 +41,3 @@ greatestWord = 4294967295
 -- What the consistency test says of a counter: so its unreported arrivals are a true difference.
 abbrev pub PartsWithin : Counter → Type 0
 PartsWithin counter = counter .overestimate + counter .reported ≤ counter .count
-
--- The order of replacement, by count and of equals by item: `precedes` on the numbers alone.
-abbrev pub ordered : ℕ → ℕ → ℕ → ℕ → Bool
-ordered count item leastCount leastItem =
-    ltb count leastCount || eqb count leastCount && ltb item leastItem

@@ -1,14 +1,14 @@
 // The counting of an arrival's item in the counters of one site (Space-Saving). Internal, as the
-// functions of `site_counters` that have a `requires`.
+// functions of `site_counters` and `counter_search` that have a `requires`.
 
 ghost use Rattle.model.specs.Lent.{before, after};
 ghost use Rattle.site_counting.specs.Count.{CountItemAsks, CountItemSays};
+use counter_search::find_counter;
+use counter_search::least_counter;
 use model::Leaving;
 use model::Word;
 use site_counters::StoredCounter;
 use site_counters::counter_at;
-use site_counters::find_counter;
-use site_counters::least_counter;
 use site_counters::put_counter;
 use site_counters::unreported_of;
 

@@ -21,7 +21,7 @@ use Rattle.model.specs.Counters.{Counter, unreported}
 use Rattle.model.specs.Site.{Site}
 use Rattle.model.specs.SiteMemory.{counterWords, siteIn, countersIn, sum, counterConsistent, countersConsistent, siteConsistent}
 use Rattle.site_counters.specs.Stored.{storedAt}
-use Rattle.site_counters.proofs.Search.{countersFrom, counters-start, counters-end, counters-cons}
+use Rattle.site_counters.proofs.CountersFrom.{countersFrom, counters-start, counters-end, counters-cons}
 
 -- ---- One counter
 

@@ -1,0 +1,2 @@
+-- The loops over a site's counters.
+pub mod Search

@@ -1,0 +1,2 @@
+-- What the scan for the least count promises of two counters.
+pub mod Order

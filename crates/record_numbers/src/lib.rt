@@ -15,7 +15,7 @@ pub const SETTINGS_NUMBERS: usize = 6;
 
 pub const ARRIVAL_NUMBERS: usize = 3;
 
-// The five numbers of a phase; crate `coordinator_numbers` makes them.
+// The five numbers of a phase; crate `coordinator_phase` makes them.
 pub struct PhaseNumbers {
     pub which: u64,
     pub site: u32,

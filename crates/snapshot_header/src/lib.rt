@@ -13,7 +13,7 @@ ghost use Rattle.snapshot_file.specs.Reading.{settingsIn, deskRecord, unsummed,
 ghost use Rattle.snapshot_header.specs.Header.{narrowedSettings, LongFile, WholeFile, SettledFile};
 use checksum::byte_sum;
 use coordinator_numbers::COORDINATOR_NUMBERS;
-use coordinator_numbers::phase_well;
+use coordinator_phase::phase_well;
 use little_endian::read_eight;
 use little_endian::read_number;
 use model::Settings;

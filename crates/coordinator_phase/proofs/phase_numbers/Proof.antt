@@ -1,7 +1,7 @@
 -- By phase, as `phaseNumbers`.
 use borrow.Author.Needs.{needs}
-use Rattle.coordinator_numbers.proofs.phase_numbers.Statement.{statement}
-use Rattle.coordinator_numbers.proofs.phase_numbers.Tie as tie
+use Rattle.coordinator_phase.proofs.phase_numbers.Statement.{statement}
+use Rattle.coordinator_phase.proofs.phase_numbers.Tie as tie
 
 returns : tie.Need-returns
 returns c = rw (c .enum-told .given .1)

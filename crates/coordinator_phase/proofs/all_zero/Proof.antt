@@ -5,8 +5,8 @@ use native.Mathlib.Omega.{arith}
 use borrow.Author.Tests.{ne-eqb}
 use Rattle.model.specs.Choice.{isZero}
 use borrow.Author.Needs.{needs}
-use Rattle.coordinator_numbers.proofs.all_zero.Statement.{statement}
-use Rattle.coordinator_numbers.proofs.all_zero.Tie as tie
+use Rattle.coordinator_phase.proofs.all_zero.Statement.{statement}
+use Rattle.coordinator_phase.proofs.all_zero.Tie as tie
 
 returns : tie.Need-returns
 returns c =

@@ -1,7 +1,7 @@
 -- By the number of the phase, as `phaseFrom`.
 use borrow.Author.Tests.{eq-eqb, ne-eqb}
-use Rattle.coordinator_numbers.proofs.phase_from.Statement.{statement}
-use Rattle.coordinator_numbers.proofs.phase_from.Tie as tie
+use Rattle.coordinator_phase.proofs.phase_from.Statement.{statement}
+use Rattle.coordinator_phase.proofs.phase_from.Tie as tie
 
 returns : tie.Need-returns
 returns c = rw (eq-eqb _ _ (c .if1 .taken))

@@ -5,8 +5,8 @@ use native.Mathlib.Omega.{arith}
 use borrow.Author.Tests.{eq-eqb, ne-eqb, le-leb, lt-leb}
 use Rattle.model.specs.Choice.{isZero}
 use borrow.Author.Needs.{needs}
-use Rattle.coordinator_numbers.proofs.phase_well.Statement.{statement}
-use Rattle.coordinator_numbers.proofs.phase_well.Tie as tie
+use Rattle.coordinator_phase.proofs.phase_well.Statement.{statement}
+use Rattle.coordinator_phase.proofs.phase_well.Tie as tie
 
 returns : tie.Need-returns
 returns c =

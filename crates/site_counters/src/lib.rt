@@ -1,4 +1,4 @@
-// A counter of one site in its lent memory (Space-Saving), read and stored; crate `counter_search`
+// A counter of one site in its lent memory (Space-Saving), read and stored; crate `site_search`
 // finds its place. The functions with a `requires` are internal; the test that decides it is
 // `site_memory::site_memory_refusal`, which every call on a site makes first, or the batch call's
 // start test.

@@ -1,16 +1,16 @@
 // The counting of an arrival's item in the counters of one site (Space-Saving). Internal, as the
-// functions of `site_counters` and `counter_search` that have a `requires`.
+// functions of `site_counters` and `site_search` that have a `requires`.
 
 ghost use Rattle.model.specs.Lent.{before, after};
 ghost use Rattle.site_counting.specs.Count.{CountItemAsks, CountItemSays};
-use counter_search::find_counter;
-use counter_search::least_counter;
 use model::Leaving;
 use model::Word;
 use site_counters::StoredCounter;
 use site_counters::counter_at;
 use site_counters::put_counter;
 use site_counters::unreported_of;
+use site_search::find_counter;
+use site_search::least_counter;
 
 // What counting an item did: the place of its counter, the counters in use then, the counter, and
 // who left for it (request N1).

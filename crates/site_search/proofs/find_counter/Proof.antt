@@ -1,10 +1,10 @@
--- `counter_search::find_counter` meets its contract. The loop's invariant: what is sought stands
+-- `site_search::find_counter` meets its contract. The loop's invariant: what is sought stands
 -- from place i on. The measure is the number of counters left.
 use Prim.Native.Nat.{_-_}
 use borrow.Author.Needs.{needs}
-use Rattle.counter_search.proofs.Search.{Searching, find-start, find-end, find-here, find-on}
-use Rattle.counter_search.proofs.find_counter.Statement.{statement}
-use Rattle.counter_search.proofs.find_counter.Tie as tie
+use Rattle.site_search.proofs.Search.{Searching, find-start, find-end, find-here, find-on}
+use Rattle.site_search.proofs.find_counter.Statement.{statement}
+use Rattle.site_search.proofs.find_counter.Tie as tie
 
 abbrev Inv-loop : tie.InvT-loop
 Inv-loop memory used item i₀ i = Searching memory used item i

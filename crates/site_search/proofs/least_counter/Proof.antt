@@ -1,12 +1,12 @@
--- `counter_search::least_counter` meets its contract. The loop's invariant: the scan goes on from
+-- `site_search::least_counter` meets its contract. The loop's invariant: the scan goes on from
 -- place i with the best place so far. The measure is the number of counters left.
 use Prim.Native.Nat.{_-_}
 use mathlib.Core.Path.{sym, _∙_}
 use mathlib.Core.Logic.{⊎-elim}
 use borrow.Author.Needs.{needs}
-use Rattle.counter_search.proofs.Search.{Scanning, least-start, least-end, least-new, least-old}
-use Rattle.counter_search.proofs.least_counter.Statement.{statement}
-use Rattle.counter_search.proofs.least_counter.Tie as tie
+use Rattle.site_search.proofs.Search.{Scanning, least-start, least-end, least-new, least-old}
+use Rattle.site_search.proofs.least_counter.Statement.{statement}
+use Rattle.site_search.proofs.least_counter.Tie as tie
 
 abbrev Inv-loop : tie.InvT-loop
 Inv-loop memory used best₀ i₀ best i = Scanning memory used best i

@@ -9,7 +9,7 @@ ghost use lib.ListN.{length};
 ghost use Rattle.model.specs.Counters.{find, leastPlace};
 ghost use Rattle.model.specs.Lent.{before};
 ghost use Rattle.model.specs.SiteMemory.{countersIn};
-ghost use Rattle.counter_search.specs.Order.{ordered};
+ghost use Rattle.site_search.specs.Order.{ordered};
 use model::Word;
 
 // The lowest place of the item's counter, or the number of counters in use if it has none.

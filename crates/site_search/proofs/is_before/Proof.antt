@@ -1,4 +1,4 @@
--- `counter_search::is_before` meets its contract: two counts, each with an item of four bytes behind
+-- `site_search::is_before` meets its contract: two counts, each with an item of four bytes behind
 -- it, compare as one number.
 use mathlib.Core.Path.{_≡_, refl}
 use mathlib.Core.Bool.{Bool, true, false, _&&_, _||_}
@@ -7,9 +7,9 @@ use native.Mathlib.Omega.{arith}
 use lib.Dec.{eqb, ltb}
 use borrow.Author.Needs.{needs}
 use borrow.Author.Tests.{lt-ltb, le-ltb, ltb-true, ltb-false, eqb-true, eqb-false}
-use Rattle.counter_search.specs.Order.{ordered}
-use Rattle.counter_search.proofs.is_before.Statement.{statement}
-use Rattle.counter_search.proofs.is_before.Tie as tie
+use Rattle.site_search.specs.Order.{ordered}
+use Rattle.site_search.proofs.is_before.Statement.{statement}
+use Rattle.site_search.proofs.is_before.Tie as tie
 
 module _ (count item leastCount leastItem : ℕ) (small : item < 4294967296)
     (least-small : leastItem < 4294967296) where

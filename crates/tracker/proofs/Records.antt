@@ -20,8 +20,8 @@ use native.Mathlib.Nat.{not-suc-le-zero, le-of-suc-le-suc}
 use mathlib.Core.List.{List, [], _∷_, map}
 use mathlib.Core.Option.{Option, none, some}
 use lib.ListN.{length, getD, set, length-set, length-map}
-use mir.Syntax.{Ty, w64}
-use mir.Val.{Val, vint}
+use mir.Syntax.{Ty}
+use mir.Val.{Val}
 use prog.Memory.{size, fieldOf}
 use denote.RattleType.{RattleType}
 use denote.Laws.{Is, valss}

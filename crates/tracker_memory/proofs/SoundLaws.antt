@@ -3,7 +3,7 @@
 --
 --   Passing, passing                  what an accepted start is worth
 use mathlib.Core.Path.{_≡_}
-use mathlib.Core.List.{List, []}
+use mathlib.Core.List.{List}
 use Prim.Native.Nat.{ℕ, _≤_, _<_}
 use lib.ListN.{length, getD}
 use Rattle.model.specs.declared.Settings.{Settings}

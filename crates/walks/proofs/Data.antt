@@ -6,7 +6,7 @@
 --   Good          x is a value of the type, at the machine's value of x
 --   is-typed      then the machine's value may be stored; its `.0`, of the one value
 --   settled, value-is   of any machine's value that x is related to: it is that of x
-use Rattle.walks.proofs.Kit.{_≡_, ap, subst, ℕ, List, [], _∷_, map, URA, Width, Val, vint, Heap, Atoms, Given, RattleType, Is, Tells, Makes, Lawful, Typed, UInt, uint-tells, uint-makes, uint-lawful, Array, arrayVal, only, Declared, fields, Plains}
+use Rattle.walks.proofs.Kit.{_≡_, ap, subst, ℕ, [], _∷_, map, URA, Width, Val, vint, Heap, Atoms, Given, RattleType, Is, Tells, Makes, Lawful, Typed, UInt, uint-tells, uint-makes, uint-lawful, Array, arrayVal, only, Declared, fields, Plains}
 use denote.Array.{array-tells, array-makes, array-lawful}
 use denote.Struct.Declared.{row}
 use denote.Struct.Laws as LL

@@ -1,6 +1,6 @@
 -- `message_counts::counts_within` meets its contract. The invariant: no count before j is above the
 -- limit.
-use Prim.Native.Nat.{ℕ, _-_, _<_}
+use Prim.Native.Nat.{_-_, _<_}
 use native.Mathlib.Omega.{arith}
 use Rattle.model.proofs.Thresholds.SettingsLaws.{settled}
 use Rattle.message_counts.proofs.CountsLaws.{CountsPass, counts-start, counts-on, counts-fail, counts-end}

@@ -11,7 +11,6 @@ use lib.ListN.{replicate}
 use Rattle.model.specs.declared.Settings.{Settings}
 use Rattle.model.specs.declared.Arrival.{Arrival}
 use Rattle.model.specs.declared.SiteRecord.{SiteRecord}
-use Rattle.model.specs.declared.Sites.{Sites}
 use Rattle.model.specs.declared.Phase.{Phase}
 use Rattle.model.specs.declared.Phase.the-variants.{Idle}
 use Rattle.model.specs.declared.CoordinatorRecord.{CoordinatorRecord}

@@ -3,7 +3,7 @@
 --
 --   counts   from where the turn was taken to where it was counted
 -- Numbers behind `move` count the context's items, as `cell` of Locals does.
-use Rattle.walks.proofs.Kit.{_≡_, refl, sym, _∙_, subst, ℕ, _<_, _*_, _^_, _+_, arith, List, [], _∷_, length, fullShare, tyPtr, w32, w64, Val, vint, vptr, vstruct, vnil, vcons, SProp, fat, afterTurn, ‵, anyQ, Sq, runs, _$_, !, rewrite, whole, sub, look-in, store-in, look, init, forget, stop, hop, fld, from, load, addr, lit, of-opd, bin, assigns, arrayVal, place-is}
+use Rattle.walks.proofs.Kit.{_≡_, refl, sym, _∙_, subst, ℕ, _<_, _*_, _^_, _+_, arith, List, length, fullShare, tyPtr, w32, w64, Val, vint, vptr, vstruct, vnil, vcons, SProp, fat, afterTurn, ‵, anyQ, Sq, runs, _$_, !, rewrite, whole, sub, look-in, store-in, look, init, forget, stop, hop, fld, from, load, addr, lit, of-opd, bin, assigns, arrayVal, place-is}
 use mathlib.Core.List.{map}
 use Rattle.model.specs.declared.Arrival.{Arrival}
 use Rattle.model.specs.Limits.{mostSites}

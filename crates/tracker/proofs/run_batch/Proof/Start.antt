@@ -4,7 +4,7 @@
 --   begins   the body of the function
 -- Numbers behind `move` count the context's items, as `cell` of Locals does.
 use Rattle.tracker_steps.specs.Steps.{OpenBatchSays}
-use Rattle.walks.proofs.Kit.{refl, sym, subst, ℕ, List, [], _∷_, lit<, Holds, fullShare, named, Val, hasTy, WT, fat, ‵, id⊢, atRet, Sq, runs, _$_, !, move, rewrite, whole, sub, look-in, look, init, forget, stop, fld, from, load, lit, of-opd, and-then, no-more, assigns, land, fmOf, u32, u64}
+use Rattle.walks.proofs.Kit.{refl, sym, subst, [], _∷_, lit<, Holds, fullShare, named, Val, hasTy, WT, fat, ‵, id⊢, atRet, Sq, runs, _$_, !, move, rewrite, whole, sub, look-in, look, init, forget, stop, fld, from, load, lit, of-opd, and-then, no-more, assigns, land, fmOf, u32, u64}
 use Rattle.walks.proofs.Data.{is-typed}
 use Rattle.walks.proofs.Again.{lends, returned}
 use Rattle.walks.proofs.Handing.{asking-nothing}

@@ -2,7 +2,7 @@
 --
 --   counted answer which turn          the answer with a turn in it
 --   CountTurnAsks                      a turn that can be counted
---   SentSays                           what is left of a turn's messages, part by part of the answer
+--   SentSays                           the messages of a turn, part by part of the answer
 --   DeliverTurnAsks, DeliverTurnSays   the same of the whole answer
 use Rattle.std.specs.Prelude.{◌≡◌, true, ℕ, ◌+◌, ◌≤◌, ◌<◌}
 use Rattle.model.specs.declared.Settings.{Settings}
@@ -11,8 +11,9 @@ use Rattle.model.specs.Limits.{most_sites}
 use Rattle.model.specs.Draws.{is_draw}
 use Rattle.model.specs.Runs.{Batch}
 use Rattle.model.specs.Held.{with_record}
-use Rattle.tracker_delivery.specs.Holding.{WithLog, Carrying, EndSays}
-use Rattle.tracker_delivery.specs.Arriving.{Taken}
+use Rattle.tracker_queue.specs.declared.Queue.{Queue}
+use Rattle.tracker_delivery.specs.Holding.{WithLog, Carrying}
+use Rattle.tracker_delivery.specs.Arriving.{Taken, MessagesSay}
 use Rattle.tracker_steps.specs.declared.BatchAnswer.{BatchAnswer}
 use Rattle.tracker_steps.specs.declared.Turn.{Turn}
 use Rattle.tracker_steps.specs.Steps.{BatchHeld, run_limit, with_one, resting_in, BatchHolds}
@@ -38,8 +39,8 @@ pub record CountTurnAsks (answer : BatchAnswer) (which : ℕ) (turn : Turn) : Ty
 -- ---- The messages of a turn
 
 -- The sites' memory is only read.
-pub record SentSays (settings : Settings) (before after : Carrying) : Type 0 where
-  pub says : EndSays settings before after
+pub record SentSays (settings : Settings) (out : Queue) (before after : Carrying) : Type 0 where
+  pub says : MessagesSay settings out before after
   pub memory_kept : after.held.site_memory ≡ before.held.site_memory
 
 pub record DeliverTurnAsks (settings : Settings) (turn : Turn) (now : BatchHeld) : Type 0 where

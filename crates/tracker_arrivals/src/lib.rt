@@ -3,15 +3,16 @@
 
 ghost use Rattle.std.specs.Prelude.{◌≡◌};
 ghost use Rattle.tracker_steps.specs.Steps.{OneAsks, OneSays, batch_held};
-ghost use Rattle.tracker_delivery.specs.UnderwayParts.{waiting_on, ended_of};
-ghost use Rattle.tracker_delivery.specs.Holding.{carrying, Delivering};
+ghost use Rattle.tracker_delivery.specs.UnderwayParts.{resting, ended_of};
+ghost use Rattle.tracker_delivery.specs.Holding.{carrying};
+ghost use Rattle.tracker_delivery.specs.Arriving.{MessagesAsk};
 ghost use Rattle.tracker_arrivals.specs.Counting.{counted, CountTurnAsks, SentSays, DeliverTurnAsks, DeliverTurnSays};
 
 use model::{
     Arrival, CoordinatorRecord, NO_REFUSAL, SITE_RECORDS, Settings, SiteRecord, Sites, Word,
 };
 use tracker_delivery::Ended;
-use tracker_queue::{Queue, Traffic};
+use tracker_queue::Queue;
 use tracker_steps::{BatchAnswer, Turn};
 
 // The answer with a turn in it, of the site at this place.
@@ -28,39 +29,36 @@ fn count_turn(answer: BatchAnswer, which: usize, turn: Turn) -> BatchAnswer
     next
 }
 
-// What is left of a turn's messages once the coordinator was told, with full delivery: what changes
-// of the answer is handed over and handed back, part by part, and the counts of messages are lent,
-// so that an arrival that closes a round copies no more than the records of the sites, and one that
-// closes none not even these. Internal: it follows `tracker_delivery::report`.
+// The messages of a turn, with full delivery: what changes of the answer is handed over and handed
+// back, part by part, and the counts of messages are lent, so that an arrival with messages copies
+// no more than the records of the sites. Internal: it follows `tracker_steps::take_turn`, once the
+// turn is counted in the answer.
 pub fn deliver_turn(
     settings: Settings,
     records: [SiteRecord; SITE_RECORDS],
     coordinator: CoordinatorRecord,
     written: u64,
-    waiting: Queue,
+    out: Queue,
     site_memory: &mut [Word],
     coordinator_memory: &mut [u64],
     log: &mut [u64],
     counts: &mut [u64; SITE_RECORDS],
 ) -> Ended
-    requires { Delivering settings
-        (carrying (waiting_on records counts.old coordinator written waiting)
+    requires { MessagesAsk settings out
+        (carrying (resting records counts.old coordinator written)
         site_memory.old coordinator_memory.old log.old) }
-    ensures { SentSays settings
-        (carrying (waiting_on records counts.old coordinator written waiting)
+    ensures { SentSays settings out
+        (carrying (resting records counts.old coordinator written)
         site_memory.old coordinator_memory.old log.old)
         (carrying (ended_of result counts.new) site_memory.new
         coordinator_memory.new log.new) }
 {
-    let traffic = Traffic {
-        written: written,
-        waiting: waiting,
-    };
-    tracker_delivery::deliver(
+    tracker_delivery::deliver_messages(
         settings,
         records,
         coordinator,
-        traffic,
+        written,
+        out,
         site_memory,
         coordinator_memory,
         log,
@@ -89,53 +87,29 @@ fn deliver_counted(
     let mut counts = answer.sites.messages;
     let coordinator = answer.coordinator;
     let out = turn.out;
-    let told = tracker_delivery::report(
+    let after = deliver_turn(
         settings,
+        records,
         coordinator,
         answer.written,
         out,
+        site_memory,
         coordinator_memory,
         log,
         &mut counts,
     );
-    let coordinator_told = told.coordinator;
-    if told.unfinished {
-        let waiting = told.waiting;
-        let after = deliver_turn(
-            settings,
-            records,
-            coordinator_told,
-            told.written,
-            waiting,
-            site_memory,
-            coordinator_memory,
-            log,
-            &mut counts,
-        );
-        let records_then = after.records;
-        let coordinator_then = after.coordinator;
-        let sites_then = Sites {
-            records: records_then,
-            messages: counts,
-        };
-        return BatchAnswer {
-            refusal: NO_REFUSAL,
-            accepted: answer.accepted,
-            written: after.written,
-            sites: sites_then,
-            coordinator: coordinator_then,
-        };
-    }
-    let sites_told = Sites {
-        records: records,
+    let records_then = after.records;
+    let coordinator_then = after.coordinator;
+    let sites_then = Sites {
+        records: records_then,
         messages: counts,
     };
     BatchAnswer {
         refusal: NO_REFUSAL,
         accepted: answer.accepted,
-        written: told.written,
-        sites: sites_told,
-        coordinator: coordinator_told,
+        written: after.written,
+        sites: sites_then,
+        coordinator: coordinator_then,
     }
 }
 

@@ -28,7 +28,7 @@ use Rattle.model.specs.DeliveryClaims.{Delivery, delivery_step}
 use Rattle.tracker_queue.specs.declared.Queue.{Queue}
 use Rattle.tracker_queue.specs.declared.Traffic.{Traffic}
 use Rattle.tracker_delivery.specs.UnderwayParts.{Underway, underway_of, resting}
-use Rattle.tracker_delivery.specs.Holding.{WithLog, Carrying, carrying, underway_in, Holds, Going, Onward, Delivering, goes_on, StepSays, rested}
+use Rattle.tracker_delivery.specs.Holding.{WithLog, Carrying, carrying, underway_in, Holds, Going, Delivering, goes_on, StepSays, rested}
 use Rattle.tracker_delivery.proofs.HoldingLaws.{log_length}
 use Rattle.tracker_delivery.proofs.GoingLaws.{going_room, going_handed, going_asked, going_ends}
 use Rattle.tracker_delivery.proofs.StepLaws.{none_waits, handing, asking}
@@ -137,9 +137,13 @@ left_less {settings} {carry} {next} u goes holds =
 
 -- ---- From the first state on
 
-abbrev pub After : {settings : Settings} {first : Carrying} → Delivering settings first → Carrying
-    → Type 0
-After {settings} u = Onward settings u.given u.earlier u.network u.arrival
+pub record After {settings : Settings} {first : Carrying} (u : Delivering settings first)
+    (carry : Carrying)
+    : Type 0 where
+  pub steps : ℕ
+  pub now : Delivery
+  pub going : Going settings u.given u.earlier u.network u.arrival steps now
+  pub holds : Holds settings u.given u.earlier now carry
 
 module _ {settings : Settings} {first : Carrying} (u : Delivering settings first) where
   pub after_start : After u first

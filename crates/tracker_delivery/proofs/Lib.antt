@@ -1,7 +1,6 @@
 -- The laws that the delivery's functions are proved by.
 pub mod OneAnswer
 pub mod HoldingLaws
-pub mod ReportLaws
 pub mod RestLaws
 pub mod GoingLaws
 pub mod StepLaws

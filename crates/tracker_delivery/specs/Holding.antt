@@ -9,7 +9,6 @@
 --   Holds                  it is the model's delivery, written over what was given
 --   Fits                   what was given has room for the settings' network
 --   Going                  a delivery that was reached from an accepted arrival at a sound network
---   Onward                 the state holds such a delivery, after some steps
 --   Delivering             some delivery goes on: what a step of it requires
 --   StepSays               what a step of it comes to
 --   EndSays                all of it
@@ -139,18 +138,6 @@ pub record Going
   pub accepting : Accepting settings given earlier network arrival
   pub reached : Reached settings (delivery_of settings network arrival) steps d
   pub few_waiting : length d.waiting ≤ 2
-
-pub record Onward
-    (settings : Settings)
-    (given : WithLog)
-    (earlier : List Message)
-    (network : Network)
-    (arrival : Arrival)
-    (carry : Carrying) : Type 0 where
-  pub steps : ℕ
-  pub now : Delivery
-  pub going : Going settings given earlier network arrival steps now
-  pub holds : Holds settings given earlier now carry
 
 pub record Delivering (settings : Settings) (carry : Carrying) : Type 0 where
   pub given : WithLog

@@ -3,4 +3,3 @@ pub mod UnderwayParts
 pub mod Holding
 pub mod Handing
 pub mod Arriving
-pub mod Reporting

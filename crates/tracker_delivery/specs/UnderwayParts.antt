@@ -2,10 +2,8 @@
 -- the log, and those that wait.
 --
 --   Underway                      what is under way
---   waiting_on .. waiting         what is under way, with these messages waiting
 --   resting ..                    a network at rest: nothing waits
 --   ended_of ended counts          the same, of a delivery that has come to its end
---   reported_of records counts r  what is under way when the coordinator was told
 --   traffic_of underway           the messages of what is under way, but for their counts
 --   underway_of, with_traffic     what is under way, put together from its parts
 use Rattle.std.specs.Prelude.{List, ℕ}
@@ -16,7 +14,6 @@ use Rattle.tracker_queue.specs.declared.Queue.{Queue}
 use Rattle.tracker_queue.specs.declared.Traffic.{Traffic}
 use Rattle.tracker_queue.specs.Sending.{nothing_waits}
 use Rattle.tracker_delivery.specs.declared.Ended.{Ended}
-use Rattle.tracker_delivery.specs.declared.Reported.{Reported}
 
 pub record Underway : Type 0 where
   pub sites : Sites
@@ -33,21 +30,12 @@ underway_of records counts coordinator traffic = record {
   waiting = traffic.waiting;
 }
 
-abbrev pub waiting_on : List SiteRecord → List ℕ → CoordinatorRecord → ℕ → Queue → Underway
-waiting_on records counts coordinator written waiting =
-    underway_of records counts coordinator (record { written = written; waiting = waiting })
-
 abbrev pub resting : List SiteRecord → List ℕ → CoordinatorRecord → ℕ → Underway
 resting records counts coordinator written =
-    waiting_on records counts coordinator written nothing_waits
+    underway_of records counts coordinator (record { written = written; waiting = nothing_waits })
 
 abbrev pub ended_of : Ended → List ℕ → Underway
 ended_of ended counts = resting ended.records counts ended.coordinator ended.written
-
--- The coordinator was told; no site's record was looked at.
-abbrev pub reported_of : List SiteRecord → List ℕ → Reported → Underway
-reported_of records counts reported =
-    waiting_on records counts reported.coordinator reported.written reported.waiting
 
 abbrev pub traffic_of : Underway → Traffic
 traffic_of underway = record {

@@ -7,19 +7,16 @@
 ghost use Rattle.std.specs.Prelude.{◌≡◌, ◌<◌, get_or};
 ghost use Rattle.model.specs.Limits.{most_sites};
 ghost use Rattle.model.specs.Held.{no_record, with_record};
-ghost use Rattle.tracker_delivery.specs.UnderwayParts.{underway_of, ended_of};
+ghost use Rattle.tracker_delivery.specs.UnderwayParts.{resting, underway_of, ended_of};
 ghost use Rattle.tracker_delivery.specs.Holding.{carrying, Delivering, EndSays};
-ghost use Rattle.tracker_delivery.specs.Arriving.{SiteAsks, SiteSays};
+ghost use Rattle.tracker_delivery.specs.Arriving.{SiteAsks, SiteSays, MessagesAsk, MessagesSay};
 
 use crate::handing::{goes_on, hand_over, site_of_head};
 use model::{Arrival, CoordinatorRecord, Message, SITE_RECORDS, Settings, SiteRecord, Sites, Word};
 use site_steps::Observed;
-use tracker_queue::{Queue, Traffic, send_answer};
+use tracker_queue::{Queue, Traffic, empty_queue, send_answer, send_two};
 
 mod handing;
-mod reporting;
-
-pub use crate::reporting::report;
 
 // A delivery that has come to its end: the records of the network, and the messages written to the
 // log so far.
@@ -28,17 +25,6 @@ pub struct Ended {
     pub records: [SiteRecord; SITE_RECORDS],
     pub coordinator: CoordinatorRecord,
     pub written: u64,
-}
-
-// An arrival's messages went out, and the coordinator was told: its record, the messages written to
-// the log so far and those that wait, and whether the delivery is unfinished: it goes
-// on at the sites.
-#[derive(Drop)]
-pub struct Reported {
-    pub coordinator: CoordinatorRecord,
-    pub written: u64,
-    pub waiting: Queue,
-    pub unfinished: bool,
 }
 
 // What a hand-over changes: the record of the site that the head is for, the coordinator's and the
@@ -75,8 +61,7 @@ pub fn with_record(sites: Sites, which: usize, numbers: SiteRecord) -> Sites
 
 // A delivery to its end. The records of the sites are changed in their places here, and handed to
 // no function: 32 of them would be copied for each message. The counts of messages are lent.
-// Internal, as `observe` is.
-pub fn deliver(
+fn deliver(
     settings: Settings,
     mut records: [SiteRecord; SITE_RECORDS],
     mut coordinator: CoordinatorRecord,
@@ -138,4 +123,45 @@ pub fn observe(
     let which = arrival.site as usize;
     let start = which * site_memory::site_words(settings);
     site_steps::observe_step(settings, own, arrival, &mut site_memory[start..])
+}
+
+// The messages of an arrival that its site has taken go out, with full delivery. For each message a
+// record of the log is written, and it is counted for the site that it names. Internal, as
+// `observe` is.
+pub fn deliver_messages(
+    settings: Settings,
+    records: [SiteRecord; SITE_RECORDS],
+    coordinator: CoordinatorRecord,
+    written: u64,
+    out: Queue,
+    site_memory: &[Word],
+    coordinator_memory: &mut [u64],
+    log: &mut [u64],
+    counts: &mut [u64; SITE_RECORDS],
+) -> Ended
+    requires { MessagesAsk settings out
+        (carrying (resting records counts.old coordinator written)
+        site_memory.now coordinator_memory.old log.old) }
+    ensures { MessagesSay settings out
+        (carrying (resting records counts.old coordinator written)
+        site_memory.now coordinator_memory.old log.old)
+        (carrying (ended_of result counts.new) site_memory.now
+        coordinator_memory.new log.new) }
+{
+    let waiting = empty_queue();
+    let traffic = Traffic {
+        written: written,
+        waiting: waiting,
+    };
+    let begun = send_two(traffic, out.count, out.first, out.second, counts, log);
+    deliver(
+        settings,
+        records,
+        coordinator,
+        begun,
+        site_memory,
+        coordinator_memory,
+        log,
+        counts,
+    )
 }

@@ -2,6 +2,8 @@
 // what the batch call's start test and the calls on a saved bench share (refusals 4 and 11). The
 // functions are internal: their callers test the settings first, and the lengths by `memory_short`.
 
+#![tactic(auto)]
+
 ghost use Rattle.std.specs.Prelude.{◌≡◌};
 ghost use Rattle.model.specs.Refusals.{no_refusal};
 ghost use Rattle.model.specs.Settings.{settings_refusal};

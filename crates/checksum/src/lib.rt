@@ -1,6 +1,8 @@
 // The sum of bytes modulo 65,536 (request N3), taken a word of eight bytes at a time (request N4).
 // The functions are internal: a file's sum is taken by saving and by reading.
 
+#![tactic(auto)]
+
 ghost use Rattle.std.specs.Prelude.{◌≡◌, ◌*◌, ◌≤◌, min, length};
 ghost use Rattle.checksum.specs.Sums.{byte_sum};
 ghost use Rattle.checksum.specs.Rounds.{word_bytes, most_rounds, BlockAsks, RestAsks, BlockSays, WordsSay, RestSays, TakenSays};
@@ -16,7 +18,7 @@ const MOST_ROUNDS: usize = 256;
 pub const SUM_RANGE: u64 = 65536;
 
 // The sum of a part of the bytes, and how many turns were made for it.
-#[derive(Drop)]
+#[derive(Clone, Copy)]
 struct Part {
     sum: u64,
     turns: usize,
@@ -24,7 +26,7 @@ struct Part {
 
 // The sum of bytes, and how it was taken: in so many rounds of a word each, and so many bytes
 // singly.
-#[derive(Drop)]
+#[derive(Clone, Copy)]
 pub struct Taken {
     pub sum: u64,
     pub rounds: usize,

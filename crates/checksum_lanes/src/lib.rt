@@ -1,6 +1,8 @@
 // A word of eight bytes as four lanes of 16 bits, so that bytes are added four at a time (request
 // N4). The functions are internal.
 
+#![tactic(auto)]
+
 ghost use Rattle.std.specs.Prelude.{◌≡◌, ◌/◌, ◌^◌};
 ghost use Rattle.checksum_lanes.specs.Fields.{lower_halves, field_sum};
 

@@ -1,5 +1,7 @@
 // The three functions that the bench controller, written in C, calls: controller.h declares them.
 
+#![tactic(auto)]
+
 ghost use Rattle.std.specs.Prelude.{◌≡◌};
 ghost use Rattle.model.specs.Settings.{settings_with, settings_refusal};
 ghost use Rattle.controller.specs.Promises.{AllowanceExported, LineExported, line_numbers};

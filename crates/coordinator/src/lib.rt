@@ -2,6 +2,8 @@
 // for each item (the estimates), then 1024 value counts. The calls of this file test all that they
 // are given (1 to 4 and 11, then the message) and have no `requires`.
 
+#![tactic(auto)]
+
 ghost use Rattle.std.specs.Prelude.{◌≡◌, not, ◌≤◌, length, replicate};
 ghost use Rattle.model.specs.SiteMemory.{overwrite};
 ghost use Rattle.model.specs.Coordinator.{fresh_coordinator, is_announcing};
@@ -20,14 +22,14 @@ use model::{
 use settings::test_settings;
 
 // What a start hands back. The record is fresh also where the start is refused.
-#[derive(Drop)]
+#[derive(Clone, Copy)]
 pub struct StartedCoordinator {
     pub refusal: u32,
     pub coordinator: CoordinatorRecord,
 }
 
 // What a message, or the wish for the next kind 7, hands back.
-#[derive(Drop)]
+#[derive(Clone, Copy)]
 pub struct Received {
     pub refusal: u32,
     pub coordinator: CoordinatorRecord,

@@ -1,6 +1,9 @@
 // What a coordinator does for each kind of message that it has accepted, without tests: kinds 1 and
 // 2 in `reports`, kinds 4 and 6 in `rounds`; `answers` puts together what a step hands back. The
 // functions are internal: the steps of crate `coordinator_steps` call them.
+
+#![tactic(auto)]
+
 ghost use Rattle.std.specs.Prelude.{◌≡◌};
 ghost use Rattle.model.specs.Settings.{threshold_of};
 ghost use Rattle.coordinator_kinds.specs.Steps.{ThresholdAsks};
@@ -13,7 +16,7 @@ pub mod rounds;
 
 // What a step hands back: the record after it, the number of messages that go out (0 or 1) and the
 // message, all zeros where there is none.
-#[derive(Drop)]
+#[derive(Clone, Copy)]
 pub struct Answered {
     pub coordinator: CoordinatorRecord,
     pub count: u32,

@@ -1,5 +1,8 @@
 // The list call: the heavy hitters of the coordinator, in rising order. The record and the memory
 // are not changed; the call has no `requires` and tests all that it is given.
+
+#![tactic(auto)]
+
 ghost use Rattle.std.specs.Prelude.{◌≡◌, length, leb};
 ghost use Rattle.coordinator_reading.specs.Promises.{ReadAsks, SidesAsk};
 ghost use Rattle.coordinator_list.specs.Promises.{ListSays, WriteListedAsks, WriteListedSays, hitters_in, rule_holds};
@@ -9,7 +12,7 @@ use coordinator_reading::side_needed;
 use model::{CoordinatorRecord, LIST_FACTOR, LIST_TOO_SHORT, NO_REFUSAL, Settings};
 
 // What the list call hands back: how many items it wrote.
-#[derive(Drop)]
+#[derive(Clone, Copy)]
 pub struct Listed {
     pub refusal: u32,
     pub count: u32,

@@ -1,5 +1,8 @@
 // Refusals 4 and 11 of the coordinator: whether record and lent memory are consistent, for whatever
 // numbers they hold.
+
+#![tactic(auto)]
+
 ghost use Rattle.std.specs.Prelude.{◌≡◌, ◌&&◌, ◌<◌, eqb, ltb, length};
 ghost use Rattle.model.specs.SiteMemory.{sum};
 ghost use Rattle.model.specs.CoordinatorMemory.{all_within, phase_consistent, coordinator_in, coordinator_consistent, coordinator_memory_refusal};

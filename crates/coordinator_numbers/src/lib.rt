@@ -1,6 +1,9 @@
 // The coordinator's record as a row of numbers, in document 01's order (crate `record_numbers` has
 // the definitions): total, base, threshold, signals, class; then the five numbers of its
 // phase (crate `coordinator_phase`).
+
+#![tactic(auto)]
+
 ghost use Rattle.std.specs.Prelude.{◌≡◌, ◌≤◌, max};
 ghost use Rattle.record_numbers.specs.Numbers.{greatest_narrow, greatest_held, coordinator_well, no_coordinator, coordinator_from, coordinator_read, coordinator_numbers};
 

@@ -1,5 +1,8 @@
 // The coordinator's phase as five numbers, in document 01's order (crate `record_numbers` has the
 // definitions): its number, its site, the two ends of its interval, and its sum.
+
+#![tactic(auto)]
+
 ghost use Rattle.std.specs.Prelude.{◌≡◌, ◌+◌};
 ghost use Rattle.model.specs.Choice.{is_zero};
 ghost use Rattle.record_numbers.specs.Numbers.{phase_from, phase_well, phase_numbers};

@@ -1,6 +1,9 @@
 // Reading the coordinator: the margin of an item and the tracked quantile. The record and the
 // memory are not changed; the calls have no `requires` and test all they are given. The third call
 // that reads it, the list of heavy hitters, is crate `coordinator_list`'s.
+
+#![tactic(auto)]
+
 ghost use Rattle.std.specs.Prelude.{◌≡◌, ◌*◌, ◌<◌};
 ghost use Rattle.model.specs.CoordinatorMemory.{coordinator_in};
 ghost use Rattle.model.specs.Reading.{difference, least_value, quantile_of};
@@ -13,14 +16,14 @@ use model::{
 };
 
 // What the margin call hands back: 0 where it is refused.
-#[derive(Drop)]
+#[derive(Clone, Copy)]
 pub struct Margin {
     pub refusal: u32,
     pub margin: i64,
 }
 
 // What the quantile call hands back: `Nothing` where it is refused.
-#[derive(Drop)]
+#[derive(Clone, Copy)]
 pub struct QuantileRead {
     pub refusal: u32,
     pub quantile: Quantile,

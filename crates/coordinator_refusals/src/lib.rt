@@ -1,5 +1,8 @@
 // Why a message is refused: document 01's rows 5, 9, 6, 7 and 10, each by a test of its own, on the
 // record alone.
+
+#![tactic(auto)]
+
 ghost use Rattle.std.specs.Prelude.{◌≡◌, ◌&&◌, not, List, ℕ, leb};
 ghost use Rattle.model.specs.declared.Settings.{Settings};
 ghost use Rattle.model.specs.Messages.{is_item_report};

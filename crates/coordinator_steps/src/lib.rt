@@ -1,6 +1,9 @@
 // The steps of a coordinator, without tests: what a message that was accepted does to its record
 // and memory. They are internal: the calls of crate `coordinator` and the batch call, which have
 // tested settings, memory and message, call them.
+
+#![tactic(auto)]
+
 ghost use Rattle.std.specs.Prelude.{◌≡◌, List, ℕ};
 ghost use Rattle.model.specs.Coordinator.{coordinator_receives, announced};
 ghost use Rattle.model.specs.CoordinatorMemory.{coordinator_in};

@@ -3,12 +3,14 @@
 // program's run (`drawtrack_run`): the contracts of the C functions that read and write are
 // assumed, and speak of how many bytes were moved and of no byte.
 
+#![tactic(auto)]
+
 ghost use Rattle.std.specs.Prelude.{◌≡◌, ◌≤◌, length};
 ghost use Rattle.descriptors.specs.Descriptors.{ReadSomeSays, WriteSomeSays, ReadAllSays, WriteAllSays};
 
 // What one call came to: whether nothing is missing after it, whether another is to follow, and how
 // many bytes it moved. After a call that failed neither holds.
-#[derive(Drop)]
+#[derive(Clone, Copy)]
 pub struct Transfer {
     pub whole: bool,
     pub going: bool,
@@ -17,7 +19,7 @@ pub struct Transfer {
 
 // Whether an input was read whole, to its end or until the lent bytes were full; and how many bytes
 // were read.
-#[derive(Drop)]
+#[derive(Clone, Copy)]
 pub struct Read {
     pub whole: bool,
     pub length: usize,

@@ -3,6 +3,8 @@
 // run of crate `drawtrack_run`, whose answer is dropped: a program of Rattle has no exit status.
 // library/drawtrack has the same run under a `main` of C, which returns it.
 
+#![tactic(auto)]
+
 use libc::STDIN_FILENO;
 
 fn main() {

@@ -3,6 +3,8 @@
 // `drawtrack_serving`, on the kit's os and libc: that what is handed out arrives, and that a
 // failure is noticed, is tested and not proved.
 
+#![tactic(auto)]
+
 ghost use Rattle.drawtrack_steps.specs.Outcome.{buffers};
 ghost use Rattle.drawtrack_response.specs.Responding.{RespondAsks, RespondSays};
 
@@ -17,7 +19,7 @@ pub const STATUS_REFUSED: u32 = 1;
 pub const STATUS_FAILED: u32 = 2;
 
 // What the run answers, whether anything failed, and how many bytes of the reason it wrote.
-#[derive(Drop)]
+#[derive(Clone, Copy)]
 pub struct Response {
     pub failed: bool,
     pub status: u32,

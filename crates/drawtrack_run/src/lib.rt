@@ -8,6 +8,8 @@
 // out arrives, and that a failure is noticed, is tested (tests/program): a run whose writes were
 // lost would still be proved.
 
+#![tactic(auto)]
+
 ghost use Rattle.descriptors.specs.Descriptors.{ReadAllSays};
 ghost use Rattle.drawtrack_run.specs.Running.{RunSays};
 

@@ -2,6 +2,8 @@
 // the loop of the program's run (`drawtrack_run`). It stands on the kit's os and libc: that what is
 // handed out arrives, and that a failure is noticed, is tested and not proved.
 
+#![tactic(auto)]
+
 ghost use Rattle.std.specs.Prelude.{◌≤◌, length};
 ghost use Rattle.drawtrack_steps.specs.Outcome.{buffers};
 ghost use Rattle.drawtrack_turns.specs.Serving.{ServeAsks, ServeSays};

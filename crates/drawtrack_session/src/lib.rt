@@ -3,6 +3,8 @@
 // `advance` then takes one line of the worklist and writes what it brings, by a step of crate
 // `drawtrack_steps`: the messages of its draw, the line of a refusal, or at the end the results.
 
+#![tactic(auto)]
+
 ghost use Rattle.std.specs.Prelude.{◌≡◌, []};
 ghost use Rattle.drawtrack_steps.specs.Outcome.{buffers};
 ghost use Rattle.drawtrack_session.specs.Begin.{fresh_session, BeginSays};

@@ -2,6 +2,8 @@
 // limits and the memory that they ask for; why settings, worklist or memory do not serve; and which
 // line of the input is refused then. Crate `drawtrack_session` reads the settings line and asks.
 
+#![tactic(auto)]
+
 ghost use Rattle.std.specs.Prelude.{◌≡◌};
 ghost use Rattle.model.specs.Transcript.{beyond_program};
 ghost use Rattle.drawtrack_start.specs.Start.{shorter_than_limits, start_refusal_of, start_line};

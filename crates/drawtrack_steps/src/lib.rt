@@ -2,6 +2,8 @@
 // and the results at its end. The functions are internal: crate `drawtrack_session`, which reads
 // the lines and says which step comes, calls them.
 
+#![tactic(auto)]
+
 ghost use Rattle.std.specs.Prelude.{◌≡◌, [], ◌*◌, ◌≤◌, length};
 ghost use Rattle.model.specs.Messages.{message_width};
 ghost use Rattle.drawtrack_steps.specs.Output.{PutMessagesSays};
@@ -13,7 +15,7 @@ use worklist_reader::Step;
 
 // Where a session stands: whether it goes on, why it was refused or 0, the settings, the records of
 // the network, the place of its reader in the input and the number of the line there.
-#[derive(Drop)]
+#[derive(Clone, Copy)]
 pub struct Session {
     pub going: bool,
     pub refusal: u32,
@@ -25,7 +27,7 @@ pub struct Session {
 }
 
 // A session after a call, and how many bytes of the output the call wrote.
-#[derive(Drop)]
+#[derive(Clone, Copy)]
 pub struct Moved {
     pub session: Session,
     pub written: usize,

@@ -2,6 +2,8 @@
 // input they stopped. `stopped_at` is internal: the loop itself, crate `drawtrack_serving`, calls
 // it.
 
+#![tactic(auto)]
+
 ghost use Rattle.std.specs.Prelude.{◌≡◌, ◌≤◌};
 ghost use Rattle.drawtrack_course.specs.Rooms.{input_room};
 ghost use Rattle.drawtrack_turns.specs.Serving.{stopped_of};
@@ -10,7 +12,7 @@ use drawtrack_steps::Session;
 
 // What came of the calls of a session: whether every write was taken, the refusal or 0, and the
 // line of the input at which it ended.
-#[derive(Drop)]
+#[derive(Clone, Copy)]
 pub struct Stopped {
     pub taken: bool,
     pub refusal: u32,

@@ -1,5 +1,8 @@
 // `tracker_run` of tracker.h: the batch call on records that cross as rows of numbers. Before the
 // tracker's call the records are made from their rows, and after it they are written back.
+
+#![tactic(auto)]
+
 ghost use Rattle.library_rows.specs.Rows.{lent};
 ghost use Rattle.library_batch.specs.Batch.{OpenRowsSays, CloseRowsSays, RunExported};
 
@@ -13,7 +16,7 @@ use tracker_steps::BatchAnswer;
 pub const COUNTS_NUMBERS: usize = 2;
 
 // What the tracker's call is given of the rows.
-#[derive(Drop)]
+#[derive(Clone, Copy)]
 pub struct Opening {
     pub settings: Settings,
     pub sites: Sites,

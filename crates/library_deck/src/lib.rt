@@ -2,6 +2,9 @@
 // memory: for a process that holds one. The record is a row of numbers behind a pointer, which C
 // sees as a struct. Each call reads its rows, makes the site's call, and writes what that hands
 // back where it accepts.
+
+#![tactic(auto)]
+
 ghost use Rattle.std.specs.Prelude.{◌≡◌};
 ghost use Rattle.record_numbers.specs.Numbers.{site_numbers};
 ghost use Rattle.library_rows.specs.Rows.{lent, handed_out};

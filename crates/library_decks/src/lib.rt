@@ -1,6 +1,9 @@
 // The calls of the library on all decks of a bench (tracker.h), with the records of all and the
 // memory of all: the deck is the one that a draw or a message names, and it is looked up after it
 // was tested. The records are one row of numbers behind a pointer, which C sees as a struct.
+
+#![tactic(auto)]
+
 ghost use Rattle.std.specs.Prelude.{◌≡◌, ◌<◌};
 ghost use Rattle.model.specs.Limits.{most_sites};
 ghost use Rattle.library_rows.specs.Rows.{lent, handed_out};

@@ -1,5 +1,8 @@
 // A draw with full delivery, as a call of the library (tracker.h): records are rows of numbers
 // behind pointers, which C sees as structs.
+
+#![tactic(auto)]
+
 ghost use Rattle.library_rows.specs.Rows.{lent};
 ghost use Rattle.library_delivery.specs.Delivery.{DeliveryExported, HandDeliverySays};
 

@@ -1,4 +1,7 @@
 // Starting the desk, a message for it, and the messages of kind 7 that it announces.
+
+#![tactic(auto)]
+
 ghost use Rattle.std.specs.Prelude.{◌≡◌};
 ghost use Rattle.record_numbers.specs.Numbers.{message_numbers, coordinator_numbers};
 ghost use Rattle.library_rows.specs.Rows.{lent, handed_out};

@@ -1,4 +1,7 @@
 // How much a caller of the library lends: the call behind `tracker_test_lengths` of tracker.h.
+
+#![tactic(auto)]
+
 ghost use Rattle.std.specs.Prelude.{◌≡◌};
 ghost use Rattle.model.specs.Refusals.{no_refusal};
 ghost use Rattle.model.specs.Settings.{settings_refusal};

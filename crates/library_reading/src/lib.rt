@@ -1,4 +1,7 @@
 // Reading the desk: the list, the margin of a code, the class. The record is only read.
+
+#![tactic(auto)]
+
 ghost use Rattle.std.specs.Prelude.{◌≡◌};
 ghost use Rattle.library_rows.specs.Rows.{lent};
 ghost use Rattle.library_reading.specs.Reading.{class_number, ListExported, MarginExported, ClassExported};

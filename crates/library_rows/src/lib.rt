@@ -1,5 +1,8 @@
 // The messages that a call of the library hands out, as rows of numbers: only where it accepts.
 // Both functions serve the crates `library_decks` and `library_desk`.
+
+#![tactic(auto)]
+
 ghost use Rattle.library_rows.specs.Rows.{lent, HandMessageSays, HandMessagesSays};
 
 use model::{MESSAGE_WIDTH, Message, NO_REFUSAL};

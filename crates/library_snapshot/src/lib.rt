@@ -1,5 +1,8 @@
 // A bench saved to lent bytes and read back, as calls of the library (tracker.h): records are rows
 // of numbers behind pointers, which C sees as structs.
+
+#![tactic(auto)]
+
 ghost use Rattle.std.specs.Prelude.{◌≡◌};
 ghost use Rattle.library_rows.specs.Rows.{lent};
 ghost use Rattle.record_numbers.specs.Numbers.{settings_numbers};

@@ -2,6 +2,8 @@
 // functions are internal: what they require, that the numbers lie within the bytes, is what the
 // layout of a file says (crate `snapshot_file`).
 
+#![tactic(auto)]
+
 ghost use Rattle.std.specs.Prelude.{◌≡◌, ◌+◌, ◌≤◌, ◌<◌, length};
 ghost use Rattle.laws.specs.Writing.{written_at};
 ghost use Rattle.little_endian.specs.Numbers.{byte_range, little_endian, number_at};

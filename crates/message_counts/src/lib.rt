@@ -2,6 +2,8 @@
 // their sum. Counts of the sites from k on are not looked at. The functions are internal: their
 // callers test the settings first.
 
+#![tactic(auto)]
+
 ghost use Rattle.std.specs.Prelude.{◌≡◌};
 ghost use Rattle.model.specs.Refusals.{no_refusal};
 ghost use Rattle.model.specs.Settings.{settings_refusal};

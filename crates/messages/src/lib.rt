@@ -1,5 +1,8 @@
 // Messages, made: document 01's table of kinds, one maker for each row, the place of a message that
 // is absent, and which way a message goes. No other place of the product makes a message.
+
+#![tactic(auto)]
+
 ghost use Rattle.std.specs.Prelude.{◌≡◌};
 ghost use Rattle.model.specs.Messages.{message, no_message, item_report, count_report, poll, poll_answer, probe, probe_answer, announcement, to_coordinator};
 

@@ -4,6 +4,8 @@
 // numbers of refusals, limits and kinds of message stand here once for all code, as
 // specs/Refusals.antt and specs/Limits.antt have them once for all definitions.
 
+#![tactic(auto)]
+
 // Why a call is refused: document 01's table "Refused".
 pub const NO_REFUSAL: u32 = 0;
 
@@ -135,7 +137,7 @@ pub type Word = u32;
 
 // The settings of a network: document 01's k, e, p, q, c and u. `epsilon` (leeway), `phi` (list
 // share) and `rank` are in thousandths; `rank` is a relative rank, not a position.
-#[derive(Drop)]
+#[derive(Clone, Copy)]
 pub struct Settings {
     pub sites: u32,
     pub epsilon: u32,
@@ -148,7 +150,7 @@ pub struct Settings {
 // One element of the stream: document 01's draw. `item` is its code, `value` its volume class. Laid
 // out as C lays it out, so that a caller in C or Rust can lend a run of them to the batch call.
 #[repr(C)]
-#[derive(Drop)]
+#[derive(Clone, Copy)]
 pub struct Arrival {
     pub site: u32,
     pub item: u32,
@@ -156,7 +158,7 @@ pub struct Arrival {
 }
 
 // A message: document 01's four numbers kind, deck, a and b.
-#[derive(Drop)]
+#[derive(Clone, Copy)]
 pub struct Message {
     pub kind: u32,
     pub site: u32,
@@ -166,7 +168,7 @@ pub struct Message {
 
 // Who leaves when an arrival's item is counted, request N1's "which code left and how many unsent
 // draws went": nobody, or an item with its unreported arrivals, of which there may be none.
-#[derive(Drop)]
+#[derive(Clone, Copy)]
 pub enum Leaving {
     Nobody,
     Left(Word, Word),
@@ -174,7 +176,7 @@ pub enum Leaving {
 
 // A site's record: document 01's deck record of draws, pending, threshold and slots in use; last,
 // request N1's sum of the unreported arrivals that went with items. Every number is 64 bits wide.
-#[derive(Drop)]
+#[derive(Clone, Copy)]
 pub struct SiteRecord {
     pub arrivals: u64,
     pub pending: u64,
@@ -185,7 +187,7 @@ pub struct SiteRecord {
 
 // The records of up to 32 sites in one value, and for each site the messages counted since the
 // start that name it (request N5).
-#[derive(Drop)]
+#[derive(Clone, Copy)]
 pub struct Sites {
     pub records: [SiteRecord; SITE_RECORDS],
     pub messages: [u64; SITE_RECORDS],
@@ -193,7 +195,7 @@ pub struct Sites {
 
 // What the coordinator is doing: document 01's phase. Collecting from a site; probing, with the
 // site that is asked, the interval's low and high end and the sum so far; announcing to a site.
-#[derive(Drop)]
+#[derive(Clone, Copy)]
 pub enum Phase {
     Idle,
     Collecting(u32),
@@ -202,7 +204,7 @@ pub enum Phase {
 }
 
 // The coordinator's record: document 01's desk record. `quantile` is its class.
-#[derive(Drop)]
+#[derive(Clone, Copy)]
 pub struct CoordinatorRecord {
     pub total: u64,
     pub base: u64,
@@ -213,7 +215,7 @@ pub struct CoordinatorRecord {
 }
 
 // The tracked quantile as an answer: document 01's class, or "none".
-#[derive(Drop)]
+#[derive(Clone, Copy)]
 pub enum Quantile {
     Nothing,
     Value(u32),

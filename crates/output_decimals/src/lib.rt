@@ -1,5 +1,7 @@
 // Decimal numbers, written to bytes.
 
+#![tactic(auto)]
+
 ghost use Rattle.std.specs.Prelude.{◌≡◌, ◌+◌, ◌≤◌, ◌<◌, length};
 ghost use Rattle.laws.specs.Writing.{Put};
 ghost use Rattle.model.specs.Decimal.{digit_byte, decimal};

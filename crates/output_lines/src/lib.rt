@@ -3,6 +3,8 @@
 // that was given. The functions named `write` test for the room; those named `put` ask for it and
 // are internal: this crate's own, and two of them `output_words`'s and `output_reason`'s.
 
+#![tactic(auto)]
+
 ghost use Rattle.std.specs.Prelude.{◌≡◌, ◌∷◌, ◌+◌, ◌≤◌, leb, length};
 ghost use Rattle.laws.specs.Writing.{Put};
 ghost use Rattle.model.specs.Decimal.{decimal};

@@ -1,6 +1,8 @@
 // Where and why an input is refused: the line that the program `drawtrack` writes to standard
 // error, into lent bytes. The functions named `put` ask for the room.
 
+#![tactic(auto)]
+
 ghost use Rattle.std.specs.Prelude.{◌+◌, ◌≤◌, length};
 ghost use Rattle.laws.specs.Writing.{Put};
 ghost use Rattle.output_reason.specs.Reason.{place_words, reason_line, ReasonSays};

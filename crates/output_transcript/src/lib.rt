@@ -2,6 +2,8 @@
 // written into a lent buffer from a place on. Each call answers the place after its line; where the
 // line doesn't fit, nothing is written and the answer is the place that was given.
 
+#![tactic(auto)]
+
 ghost use Rattle.std.specs.Prelude.{◌≡◌, ◌++◌, min, take};
 ghost use Rattle.model.specs.Transcript.{end_line, message_line, refused_line, class_word, messages_word, quantile_word};
 ghost use Rattle.output_lines.specs.Promises.{counted_line, listed_line, LineWritten};

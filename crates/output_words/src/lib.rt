@@ -1,6 +1,8 @@
 // Why an input is refused, in words, into lent bytes. The function is internal: it asks for the
 // room, and serves `output_reason`.
 
+#![tactic(auto)]
+
 ghost use Rattle.std.specs.Prelude.{◌+◌, ◌≤◌, length};
 ghost use Rattle.laws.specs.Writing.{Put};
 ghost use Rattle.output_words.specs.Words.{words_of};

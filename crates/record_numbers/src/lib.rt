@@ -1,6 +1,9 @@
 // Settings, draws and messages as rows of numbers of one width, in document 01's order: what a
 // file, a device or a caller outside holds of them. The records of sites and of the coordinator are
 // rows too: crates `site_numbers` and `coordinator_numbers`, over the definitions of this crate.
+
+#![tactic(auto)]
+
 ghost use Rattle.std.specs.Prelude.{◌≡◌};
 ghost use Rattle.record_numbers.specs.Numbers.{narrowed, settings_from, arrival_from, message_read, message_numbers};
 
@@ -13,7 +16,7 @@ pub const SETTINGS_NUMBERS: usize = 6;
 pub const ARRIVAL_NUMBERS: usize = 3;
 
 // The five numbers of a phase; crate `coordinator_phase` makes them.
-#[derive(Drop)]
+#[derive(Clone, Copy)]
 pub struct PhaseNumbers {
     pub which: u64,
     pub site: u32,

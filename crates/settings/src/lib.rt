@@ -1,6 +1,8 @@
 // The settings test, the most messages of one arrival, and the allowance: what a planner asks
 // before any memory is lent.
 
+#![tactic(auto)]
+
 ghost use Rattle.std.specs.Prelude.{◌≡◌, not};
 ghost use Rattle.model.specs.Choice.{between};
 ghost use Rattle.model.specs.Limits.{most_messages};
@@ -14,7 +16,7 @@ use model::{
 };
 
 // The allowance, or the refusal of the settings and 0.
-#[derive(Drop)]
+#[derive(Clone, Copy)]
 pub struct Allowance {
     pub refusal: u32,
     pub messages: u64,

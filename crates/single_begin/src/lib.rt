@@ -1,5 +1,8 @@
 // The first call of a delivery: the arrival at its site. The functions are internal: what they
 // require is what `single_delivery::deliver_arrival` has tested.
+
+#![tactic(auto)]
+
 ghost use Rattle.std.specs.Prelude.{◌≡◌};
 ghost use Rattle.single_steps.specs.Progress.{QueueSays};
 ghost use Rattle.single_begin.specs.Arriving.{most_calls, BeginDeliveryAsks, BeginDeliverySays};

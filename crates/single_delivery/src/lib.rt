@@ -6,6 +6,8 @@
 // `history` knows each of these calls by its contract alone, and here its histories are made by
 // code.
 
+#![tactic(auto)]
+
 ghost use Rattle.std.specs.Prelude.{◌≡◌};
 ghost use Rattle.model.specs.Held.{held_by};
 ghost use Rattle.single_outcome.specs.Delivery.{left_by, DeliverySays};

@@ -2,12 +2,14 @@
 // every network that passes the start test, and proofs/ why. The call is in crate
 // `single_delivery`.
 
+#![tactic(auto)]
+
 use model::{CoordinatorRecord, Sites};
 
 // Why the arrival is refused, or 0. If it is not: how many messages went out, each once; the number
 // of a call that was refused on the way and stopped the delivery, or 0 where it came to rest; and
 // both records as they are then. From records and memory that arose by the calls nothing stops it.
-#[derive(Drop)]
+#[derive(Clone, Copy)]
 pub struct DeliveryAnswer {
     pub refusal: u32,
     pub carried: u64,

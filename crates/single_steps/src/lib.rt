@@ -2,6 +2,8 @@
 // with a `requires` are internal: `single_delivery::deliver_arrival` makes the tests that decide
 // it.
 
+#![tactic(auto)]
+
 ghost use Rattle.std.specs.Prelude.{◌≡◌};
 ghost use Rattle.model.specs.Coordinator.{is_announcing};
 ghost use Rattle.single_steps.specs.Progress.{is_due};
@@ -17,7 +19,7 @@ pub use crate::calls::record_at;
 
 // A delivery in progress: both records, the messages that wait, how many went out so far, the
 // refusal of the last call, and how many calls may still be made.
-#[derive(Drop)]
+#[derive(Clone, Copy)]
 pub struct Progress {
     pub sites: Sites,
     pub coordinator: CoordinatorRecord,

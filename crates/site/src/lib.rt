@@ -2,6 +2,8 @@
 // table "Refused" names, in its order, and then takes the step of crate `site_steps`. Starting them
 // is crate `site_start`.
 
+#![tactic(auto)]
+
 ghost use Rattle.std.specs.Prelude.{◌≡◌};
 ghost use Rattle.site.specs.Calls.{observe_refusal, unchanged_by, receive_refusal, ObserveSays, SiteReceiveSays};
 

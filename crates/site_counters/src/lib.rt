@@ -3,6 +3,8 @@
 // `site_memory::site_memory_refusal`, which every call on a site makes first, or the batch call's
 // start test.
 
+#![tactic(auto)]
+
 ghost use Rattle.std.specs.Prelude.{◌≡◌, ◌+◌, ◌*◌, ◌≤◌, length};
 ghost use Rattle.model.specs.Counters.{unreported, gone_with};
 ghost use Rattle.site_counters.specs.Stored.{stored_at, set_counter, counter_of, PartsWithin};
@@ -11,7 +13,7 @@ use model::{Leaving, Word};
 
 // A counter as memory holds it: document 01's slot, a code, a count, an overcount and a sent
 // number.
-#[derive(Drop)]
+#[derive(Clone, Copy)]
 pub struct StoredCounter {
     pub item: Word,
     pub count: Word,

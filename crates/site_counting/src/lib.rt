@@ -1,6 +1,8 @@
 // The counting of an arrival's item in the counters of one site (Space-Saving). Internal, as the
 // functions of `site_counters` and `site_search` that have a `requires`.
 
+#![tactic(auto)]
+
 ghost use Rattle.site_counting.specs.Count.{CountItemAsks, CountItemSays};
 
 use model::{Leaving, Word};
@@ -9,7 +11,7 @@ use site_search::{find_counter, least_counter};
 
 // What counting an item did: the place of its counter, the counters in use then, the counter, and
 // who left for it (request N1).
-#[derive(Drop)]
+#[derive(Clone, Copy)]
 pub struct Counted {
     pub place: usize,
     pub used: usize,

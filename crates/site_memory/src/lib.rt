@@ -1,6 +1,8 @@
 // A site's record and lent memory: how long it is, and whether it is consistent (refusals 4 and
 // 11). The entry points of crate `site` and the batch call test by these functions.
 
+#![tactic(auto)]
+
 ghost use Rattle.std.specs.Prelude.{◌≡◌, ◌+◌, ◌*◌, ◌≤◌, eqb, length, take, drop};
 ghost use Rattle.model.specs.Refusals.{no_refusal};
 ghost use Rattle.model.specs.Limits.{value_count};

@@ -1,5 +1,8 @@
 // A site's record, and the records of all sites with their counts of messages, as rows of numbers
 // in document 01's order (crate `record_numbers` has the definitions), and back.
+
+#![tactic(auto)]
+
 ghost use Rattle.std.specs.Prelude.{◌≡◌, ◌*◌, ◌<◌};
 ghost use Rattle.std.proofs.lemmas.List.Edits.{sets};
 ghost use Rattle.model.specs.Limits.{most_sites};

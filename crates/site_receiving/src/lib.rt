@@ -1,13 +1,15 @@
 // The step of a site on a message: what it does to the site's record. It tests nothing. A site's
 // memory is handed over as a slice that may be longer than it needs, and only read.
 
+#![tactic(auto)]
+
 ghost use Rattle.site_receiving.specs.Receiving.{ReceiveAsks, ReceiveStepSays};
 
 use messages::{no_message, poll_answer_of, probe_answer_of};
 use model::{Message, NO_REFUSAL, POLL, PROBE, Settings, SiteRecord, Word};
 
 // What a message leads to: the site's record then, and the reply, if `count` is 1.
-#[derive(Drop)]
+#[derive(Clone, Copy)]
 pub struct Replied {
     pub refusal: u32,
     pub site: SiteRecord,

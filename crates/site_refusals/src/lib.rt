@@ -1,6 +1,8 @@
 // Why an arrival or a message is refused at a site: document 01's rows 5 to 10, each by a test of
 // its own, on the record alone. Nothing is changed here.
 
+#![tactic(auto)]
+
 ghost use Rattle.std.specs.Prelude.{◌≡◌, not, ◌&&◌, ltb};
 ghost use Rattle.model.specs.Limits.{top_value};
 ghost use Rattle.model.specs.Draws.{is_draw};

@@ -3,6 +3,8 @@
 // it is `site_memory::site_memory_refusal`, which every call on a site makes first, or the batch
 // call's start test.
 
+#![tactic(auto)]
+
 ghost use Rattle.std.specs.Prelude.{◌≡◌, ◌*◌, ◌≤◌, length};
 ghost use Rattle.model.specs.Counters.{find, least_place};
 ghost use Rattle.model.specs.SiteMemory.{counters_in};

@@ -1,6 +1,8 @@
 // Starting sites, all of them or one. Refused as document 01's table "Refused" names, a start hands
 // back fresh records all the same.
 
+#![tactic(auto)]
+
 ghost use Rattle.std.specs.Prelude.{◌≡◌, ◌≤◌, length, replicate};
 ghost use Rattle.model.specs.SiteMemory.{overwrite, site_record};
 ghost use Rattle.model.specs.NetworkMemory.{fresh_sites};
@@ -12,14 +14,14 @@ use model::{
 };
 
 // All sites started: why that was refused, if it was, and fresh records in every case.
-#[derive(Drop)]
+#[derive(Clone, Copy)]
 pub struct StartedSites {
     pub refusal: u32,
     pub sites: Sites,
 }
 
 // One site started: why that was refused, if it was, and a fresh record in every case.
-#[derive(Drop)]
+#[derive(Clone, Copy)]
 pub struct StartedSite {
     pub refusal: u32,
     pub site: SiteRecord,

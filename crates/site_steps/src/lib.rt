@@ -1,6 +1,8 @@
 // The step of a site on a draw: what it does to the site's record and memory. It tests nothing. A
 // site's memory is handed over as a slice that may be longer than it needs.
 
+#![tactic(auto)]
+
 ghost use Rattle.std.specs.Prelude.{◌≡◌, ◌+◌, ◌<◌, leb, eqb, length, get_or};
 ghost use Rattle.model.specs.Choice.{if◌then◌else◌};
 ghost use Rattle.model.specs.Site.{one_more_at};
@@ -13,7 +15,7 @@ use site_counters::{StoredCounter, gone_with, unreported_of};
 
 // What an arrival leads to: the site's record then, and the messages that go out, of which there
 // are `count`; an absent one is all zeros.
-#[derive(Drop)]
+#[derive(Clone, Copy)]
 pub struct Observed {
     pub refusal: u32,
     pub site: SiteRecord,
@@ -114,7 +116,7 @@ fn gather(
 
 // What an arrival stored: the counters in use then, whether its item is to be reported, and how
 // many unreported arrivals went with an item that left.
-#[derive(Drop)]
+#[derive(Clone, Copy)]
 pub struct StoredArrival {
     pub used: usize,
     pub due: bool,

@@ -3,6 +3,8 @@
 // last test. The functions are internal: the tests before decide that the file has the length that
 // its settings give.
 
+#![tactic(auto)]
+
 ghost use Rattle.std.specs.Prelude.{◌≡◌, drop};
 ghost use Rattle.model.specs.SiteMemory.{site_consistent};
 ghost use Rattle.model.specs.NetworkMemory.{sites_consistent};

@@ -3,6 +3,8 @@
 // to 66,560 numbers, too many for a local array. The functions are internal: the tests before
 // decide that the file has the length that its settings give.
 
+#![tactic(auto)]
+
 ghost use Rattle.std.specs.Prelude.{◌≡◌};
 ghost use Rattle.model.specs.Limits.{value_count, coordinator_limit};
 ghost use Rattle.model.specs.SiteMemory.{sum};

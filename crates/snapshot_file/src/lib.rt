@@ -2,6 +2,8 @@
 // one layout (specs/Layout.antt), and what the calls that save and read one answer. The functions
 // are internal: the settings are tested first.
 
+#![tactic(auto)]
+
 ghost use Rattle.std.specs.Prelude.{◌≡◌};
 ghost use Rattle.model.specs.Refusals.{no_refusal};
 ghost use Rattle.model.specs.Settings.{settings_refusal};
@@ -38,7 +40,7 @@ const DESK_BESIDE: usize = 10;
 const DECK_BESIDE: usize = 5;
 
 // Why saving is refused, or 0, and then how many bytes the file has.
-#[derive(Drop)]
+#[derive(Clone, Copy)]
 pub struct Saved {
     pub refusal: u32,
     pub length: usize,
@@ -46,7 +48,7 @@ pub struct Saved {
 
 // Why reading is refused, or 0, and then the settings and both records that the file has; refused,
 // zero settings and fresh records.
-#[derive(Drop)]
+#[derive(Clone, Copy)]
 pub struct Loaded {
     pub refusal: u32,
     pub settings: Settings,

@@ -2,6 +2,8 @@
 // width that is known, whether its sum is right, its settings, and whether it is laid out as they
 // say. Functions with a `requires` are internal: the test before decides what they require.
 
+#![tactic(auto)]
+
 ghost use Rattle.std.specs.Prelude.{◌≡◌, not, eqb, take};
 ghost use Rattle.record_numbers.specs.Numbers.{coordinator_width};
 ghost use Rattle.checksum.specs.Sums.{byte_sum};

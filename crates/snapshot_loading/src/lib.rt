@@ -1,6 +1,8 @@
 // A bench read from a file (request N3): every test is made on the bytes (crate `snapshot_refusal`)
 // before the first number is stored. Functions with a `requires` are internal.
 
+#![tactic(auto)]
+
 ghost use Rattle.std.specs.Prelude.{◌≡◌};
 ghost use Rattle.model.specs.SiteMemory.{overwrite};
 ghost use Rattle.snapshot_file.specs.Reading.{held_in};

@@ -1,6 +1,8 @@
 // Why reading a file is refused (request N3): 15, 16; 1, 2, 3; 15; 4; 11, in this order. Every test
 // is made on the bytes. Functions with a `requires` are internal.
 
+#![tactic(auto)]
+
 ghost use Rattle.std.specs.Prelude.{◌≡◌};
 ghost use Rattle.model.specs.MessageCounts.{count_at, counts_within};
 ghost use Rattle.model.specs.Held.{held_consistent};

@@ -1,6 +1,8 @@
 // A bench saved to lent bytes (request N3): every test first, then the parts of the file (crate
 // `snapshot_writing`), one after another. Nothing is written before every test has passed.
 
+#![tactic(auto)]
+
 ghost use Rattle.std.specs.Prelude.{◌≡◌};
 ghost use Rattle.model.specs.Held.{held_by};
 ghost use Rattle.snapshot_file.specs.File.{save_refusal};

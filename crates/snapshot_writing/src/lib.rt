@@ -2,6 +2,8 @@
 // by the layout of crate `snapshot_file`. The functions are internal: the tests before them decide
 // what they require (crate `snapshot_saving`).
 
+#![tactic(auto)]
+
 ghost use Rattle.std.specs.Prelude.{◌≡◌, ◌≤◌, length};
 ghost use Rattle.laws.specs.Writing.{written_at};
 ghost use Rattle.record_numbers.specs.Numbers.{settings_numbers};

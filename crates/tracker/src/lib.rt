@@ -2,6 +2,8 @@
 // the call starts; then each arrival is tested and delivered, until one is refused. Its parts are
 // those of crate `tracker_steps`.
 
+#![tactic(auto)]
+
 ghost use Rattle.std.specs.Prelude.{[], ◌∷◌};
 ghost use Rattle.model.specs.Held.{held_by};
 ghost use Rattle.tracker_steps.specs.Steps.{batch_held};

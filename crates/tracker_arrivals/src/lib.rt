@@ -1,6 +1,8 @@
 // One arrival of the batch call after its turn at its site: the answer that counts it, and its
 // messages with full delivery. The functions are internal: the calls of crate `tracker` call them.
 
+#![tactic(auto)]
+
 ghost use Rattle.std.specs.Prelude.{◌≡◌};
 ghost use Rattle.tracker_steps.specs.Steps.{OneAsks, OneSays, batch_held};
 ghost use Rattle.tracker_delivery.specs.UnderwayParts.{resting, ended_of};

@@ -4,6 +4,8 @@
 // nothing, and require what the batch call has tested. Every rule stands in the steps of the site
 // and of the coordinator; the delivery only carries messages.
 
+#![tactic(auto)]
+
 ghost use Rattle.std.specs.Prelude.{◌≡◌, ◌<◌, get_or};
 ghost use Rattle.model.specs.Limits.{most_sites};
 ghost use Rattle.model.specs.Held.{no_record, with_record};
@@ -20,7 +22,7 @@ mod handing;
 
 // A delivery that has come to its end: the records of the network, and the messages written to the
 // log so far.
-#[derive(Drop)]
+#[derive(Clone, Copy)]
 pub struct Ended {
     pub records: [SiteRecord; SITE_RECORDS],
     pub coordinator: CoordinatorRecord,
@@ -30,7 +32,7 @@ pub struct Ended {
 // What a hand-over changes: the record of the site that the head is for, the coordinator's and the
 // messages that wait; and the answer, if `count` is 1. Where the head is for no site, no site's
 // record changes, and that of site 0 stands here as it is.
-#[derive(Drop)]
+#[derive(Clone, Copy)]
 pub struct Change {
     pub site: SiteRecord,
     pub coordinator: CoordinatorRecord,

@@ -1,6 +1,8 @@
 // Whether a whole network is consistent and at rest: what the batch call tests once, when it starts
 // (refusals 1 to 4 and 11). Functions with a `requires` are internal.
 
+#![tactic(auto)]
+
 ghost use Rattle.std.specs.Prelude.{◌≡◌};
 ghost use Rattle.model.specs.NetworkMemory.{network_consistent, network_refusal};
 ghost use Rattle.bench_memory.specs.Promises.{NetworkFits};

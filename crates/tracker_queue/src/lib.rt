@@ -2,6 +2,9 @@
 // last, until it is handed over. The functions are internal: the deliveries of crates
 // `tracker_delivery` and `single_delivery`, and the parts of the batch call, call them, and what
 // they require follows from what these require.
+
+#![tactic(auto)]
+
 ghost use Rattle.std.specs.Prelude.{◌≡◌, ◌+◌, ◌*◌, ◌≤◌, length};
 ghost use Rattle.model.specs.Messages.{message_width};
 ghost use Rattle.tracker_queue.specs.Log.{put_record};
@@ -12,7 +15,7 @@ use model::{MESSAGE_WIDTH, Message, SITE_RECORDS};
 
 // The messages that wait to be handed over, or are to go out: two at most, since an arrival sends
 // two at most, and every hand-over is answered by one at most. An absent one is all zeros.
-#[derive(Drop)]
+#[derive(Clone, Copy)]
 pub struct Queue {
     pub count: u32,
     pub first: Message,
@@ -20,7 +23,7 @@ pub struct Queue {
 }
 
 // The messages of a delivery under way: how many stand in the log, and those that wait.
-#[derive(Drop)]
+#[derive(Clone, Copy)]
 pub struct Traffic {
     pub written: u64,
     pub waiting: Queue,

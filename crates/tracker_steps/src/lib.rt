@@ -3,6 +3,8 @@
 // call them. What some of them require is decided by `open_batch`, with which these calls begin,
 // and holds after each accepted arrival.
 
+#![tactic(auto)]
+
 ghost use Rattle.std.specs.Prelude.{◌≡◌, ◌-◌, ◌/◌};
 ghost use Rattle.model.specs.Messages.{message_width};
 ghost use Rattle.model.specs.Runs.{log_refusal};
@@ -17,7 +19,7 @@ use tracker_queue::Queue;
 
 // What the batch call answers: the refusal that stopped it or 0, the arrivals accepted, touches
 // among them, the messages written to the log, and both records as they are then.
-#[derive(Drop)]
+#[derive(Clone, Copy)]
 pub struct BatchAnswer {
     pub refusal: u32,
     pub accepted: u64,
@@ -29,7 +31,7 @@ pub struct BatchAnswer {
 // The turn of an arrival: why it is refused, or the record of the site that took it, and the
 // messages that are to go out. `taken` is 1 if it is accepted. A touch or a refused one has the
 // record as it was, and no messages.
-#[derive(Drop)]
+#[derive(Clone, Copy)]
 pub struct Turn {
     pub refusal: u32,
     pub taken: u64,

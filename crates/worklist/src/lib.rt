@@ -1,5 +1,7 @@
 // Decimal numbers and worklist lines, read from bytes.
 
+#![tactic(auto)]
+
 ghost use Rattle.std.specs.Prelude.{◌≡◌, true, ◌+◌, ◌-◌, ◌≤◌, ◌<◌, length, drop};
 ghost use Rattle.model.specs.Limits.{number_limit};
 ghost use Rattle.model.specs.Decimal.{is_digit, digit_value, leading_zero};
@@ -8,7 +10,7 @@ ghost use Rattle.worklist.specs.Promises.{not_read, MoreDigitsSays, ReadNumberSa
 use model::{Arrival, LINE_FEED, MALFORMED_LINE, MORE_DIGITS, NINE, NO_REFUSAL, SEMICOLON, ZERO};
 
 // A number that was read: whether one stands there, its value, and the place after it.
-#[derive(Drop)]
+#[derive(Clone, Copy)]
 pub struct NumberRead {
     pub found: bool,
     pub value: u32,
@@ -16,7 +18,7 @@ pub struct NumberRead {
 }
 
 // Three fields that were read: whether they stand there, their values, and the place after them.
-#[derive(Drop)]
+#[derive(Clone, Copy)]
 pub struct ThreeRead {
     pub found: bool,
     pub first: u32,
@@ -26,7 +28,7 @@ pub struct ThreeRead {
 }
 
 // The first line of some bytes: 0 or refusal 13, its arrival, and how many bytes it takes.
-#[derive(Drop)]
+#[derive(Clone, Copy)]
 pub struct LineRead {
     pub refusal: u32,
     pub arrival: Arrival,

@@ -1,5 +1,7 @@
 // Reading the program's input: the settings line, and then a worklist line by line.
 
+#![tactic(auto)]
+
 ghost use Rattle.std.specs.Prelude.{◌≡◌};
 ghost use Rattle.worklist_reader.specs.Promises.{SettingsSays};
 ghost use Rattle.worklist_reader.specs.Reading.{OpenReaderSays, NextSays};
@@ -9,7 +11,7 @@ use model::{Arrival, LINE_FEED, MALFORMED_LINE, NO_REFUSAL, SEMICOLON, Settings}
 use worklist::read_three;
 
 // The settings line: 0 or refusal 13, its settings, and how many bytes it takes.
-#[derive(Drop)]
+#[derive(Clone, Copy)]
 pub struct SettingsRead {
     pub refusal: u32,
     pub settings: Settings,
@@ -19,7 +21,7 @@ pub struct SettingsRead {
 // One step of a walk through a worklist: 0 or refusal 13, whether an arrival was read, the arrival,
 // and where the walk stands after the step: a place in the bytes, and the number of the line there,
 // counted from 0. A walk stays before a malformed line, so `line` is that line's number.
-#[derive(Drop)]
+#[derive(Clone, Copy)]
 pub struct Step {
     pub refusal: u32,
     pub found: bool,
@@ -31,7 +33,7 @@ pub struct Step {
 // A reader of a worklist: its bytes, the place where it stands, and the number of the line there
 // ("The reader walks the file's bytes line by line"). Its functions are thin over `read_at`, which
 // does the work of a line and knows nothing of the walk.
-#[derive(Drop)]
+#[derive(Clone, Copy)]
 pub struct Reader<'a> {
     pub bytes: &'a [u8],
     pub at: usize,

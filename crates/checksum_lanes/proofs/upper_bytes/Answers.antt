@@ -1,0 +1,7 @@
+-- The mask has the lower half of each of four lanes.
+use Prim.Native.Nat.{◌/◌, ◌^◌}
+use Rattle.checksum_lanes.proofs.Masks.{masked}
+use Rattle.checksum_lanes.proofs.upper_bytes.Goals as goal
+
+pub returns : goal.returns
+returns c = masked 8 4 (c.args.word / 2 ^ 8)

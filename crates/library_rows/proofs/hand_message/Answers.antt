@@ -1,0 +1,20 @@
+-- The row where nothing is refused; else nothing.
+use mathlib.Core.Path.{◌∙◌}
+use Rattle.model.proofs.Thresholds.RefusalLaws.{accepts, refuses}
+use Rattle.library_rows.proofs.hand_message.Goals as goal
+
+pub returns-then-refusal-eq-NO_REFUSAL : goal.returns-then-refusal-eq-NO_REFUSAL
+returns-then-refusal-eq-NO_REFUSAL c =
+    let a = c.args in
+    record {
+      out_is = c.message_row.ensures ∙ accepts a.refusal _ _ c.if-refusal-eq-NO_REFUSAL.true;
+      count_is = accepts a.refusal _ _ c.if-refusal-eq-NO_REFUSAL.true;
+    }
+
+pub returns-else-refusal-eq-NO_REFUSAL : goal.returns-else-refusal-eq-NO_REFUSAL
+returns-else-refusal-eq-NO_REFUSAL c =
+    let a = c.args in
+    record {
+      out_is = refuses a.refusal _ _ c.if-refusal-eq-NO_REFUSAL.false;
+      count_is = refuses a.refusal _ _ c.if-refusal-eq-NO_REFUSAL.false;
+    }

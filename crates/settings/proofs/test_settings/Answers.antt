@@ -1,0 +1,45 @@
+-- Each return of the settings test is the row of `settings_refusal` whose test was the first to
+-- hold.
+use mathlib.Core.Path.{refl}
+use Prim.Native.Nat.{ℕ, ◌≤◌}
+use native.Mathlib.Omega.{arith}
+use native.Mathlib.Nat.{mul-le-mul}
+use borrow.Author.Tests.{lt-ltb, le-ltb}
+use borrow.Author.Rules.{rules}
+use Rattle.model.specs.Settings.{settings_refusal}
+use Rattle.model.proofs.Thresholds.RefusalLaws.{Still, begin, pass, refuse, end, told}
+use Rattle.settings.proofs.test_settings.Goals as goal
+use Rattle.settings.proofs.test_settings.Goals.{Else-any_outside, Else-settings}
+
+abbrev answer : Else-any_outside → ℕ
+answer c = settings_refusal c.args.settings
+
+abbrev past_ranges : (c : Else-any_outside) → Still (answer c)
+past_ranges c = pass _ _ _ (begin _) refl (told c.any_outside.ensures c.if-any_outside.false)
+
+abbrev past_phi : (c : Else-settings) → Still (answer c.before.before)
+past_phi c = pass _ _ _ (past_ranges c.before.before) refl (le-ltb _ _ c.if-settings.false)
+
+pub returns-then-any_outside : goal.returns-then-any_outside
+returns-then-any_outside c =
+    refuse _ _ _ (begin _) refl (told c.any_outside.ensures c.if-any_outside.true)
+
+pub returns-then-settings : goal.returns-then-settings
+returns-then-settings c =
+    refuse _ _ _ (past_ranges c.before.before) refl (lt-ltb _ _ c.if-settings.true)
+
+pub overflow_mul-product : goal.overflow_mul-product
+overflow_mul-product c =
+    let s = c.args.settings in
+    let few : s.capacity ≤ 4294967295 = search rules in
+    let small : s.epsilon ≤ 4294967295 = search rules in
+    omega (arith, mul-le-mul few small)
+
+pub returns-then-product-lt-LEAST_PRODUCT : goal.returns-then-product-lt-LEAST_PRODUCT
+returns-then-product-lt-LEAST_PRODUCT c =
+    refuse _ _ _ (past_phi c.before.before.before) refl (lt-ltb _ _ c.if-product-lt-LEAST_PRODUCT.true)
+
+pub returns : goal.returns
+returns c =
+    end (pass _ _ _ (past_phi c.before.before.before) refl (le-ltb _ _ c.if-product-lt-LEAST_PRODUCT.false))
+    refl

@@ -29,7 +29,7 @@ fn open_rows(
     sites: &mut [u64; SITES_NUMBERS],
     coordinator: &mut [u64; COORDINATOR_NUMBERS],
 ) -> Opening
-    ensures { OpenRowsSays settings.now (lent sites) (lent coordinator) result }
+    ensures { OpenRowsSays settings.now (lent sites.old sites.new) (lent coordinator.old coordinator.new) result }
 {
     Opening {
         settings: settings_from(settings),
@@ -46,7 +46,7 @@ fn close_rows(
     coordinator: &mut [u64; COORDINATOR_NUMBERS],
     counts: &mut [u64; COUNTS_NUMBERS],
 ) -> u32
-    ensures { CloseRowsSays done (lent sites) (lent coordinator) (lent counts) result }
+    ensures { CloseRowsSays done (lent sites.old sites.new) (lent coordinator.old coordinator.new) (lent counts.old counts.new) result }
 {
     *counts = [done.accepted, done.written];
     if 0 < done.accepted {
@@ -71,8 +71,8 @@ pub extern "C" fn tracker_run(
     log: &mut [u64],
     counts: &mut [u64; COUNTS_NUMBERS],
 ) -> u32
-    ensures { RunExported (lent settings) (lent decks) (lent desk) draws.now
-        (lent deck_memory) (lent desk_memory) (lent log) (lent counts) result }
+    ensures { RunExported (lent settings.now settings.now) (lent decks.old decks.new) (lent desk.old desk.new) draws.now
+        (lent deck_memory.old deck_memory.new) (lent desk_memory.old desk_memory.new) (lent log.old log.new) (lent counts.old counts.new) result }
 {
     let opening = open_rows(settings, decks, desk);
     let done = tracker::run_batch(

@@ -32,7 +32,7 @@ pub extern "C" fn tracker_start_deck(
     row: &mut [u64; SITE_NUMBERS],
     memory: &mut [Word],
 ) -> u32
-    ensures { StartDeckExported (lent settings) deck (lent row) (lent memory) result }
+    ensures { StartDeckExported (lent settings.now settings.now) deck (lent row.old row.new) (lent memory.old memory.new) result }
 {
     let started = site_start::start_site(settings_from(settings), deck, memory);
     let fresh = started.site;
@@ -52,8 +52,8 @@ pub extern "C" fn tracker_deck_draw(
     out: &mut [u64; TWO_MESSAGES],
     count: &mut u32,
 ) -> u32
-    ensures { DeckDrawExported (lent settings) deck (lent row) (lent memory) code class
-        (lent out) (lent count) result }
+    ensures { DeckDrawExported (lent settings.now settings.now) deck (lent row.old row.new) (lent memory.old memory.new) code class
+        (lent out.old out.new) (lent count.old count.new) result }
 {
     let arrival = Arrival {
         site: deck,
@@ -80,8 +80,8 @@ pub extern "C" fn tracker_deck_message(
     reply: &mut [u64; MESSAGE_WIDTH],
     count: &mut u32,
 ) -> u32
-    ensures { DeckMessageExported (lent settings) deck (lent row) (lent memory)
-        (lent message) (lent reply) (lent count) result }
+    ensures { DeckMessageExported (lent settings.now settings.now) deck (lent row.old row.new) (lent memory.now memory.now)
+        (lent message.now message.now) (lent reply.old reply.new) (lent count.old count.new) result }
 {
     let replied = site::receive(
         settings_from(settings),

@@ -22,8 +22,8 @@ pub extern "C" fn tracker_desk_list(
     codes: &mut [u32],
     count: &mut usize,
 ) -> u32
-    ensures { ListExported (lent settings) (lent desk) (lent memory) (lent codes)
-        (lent count) result }
+    ensures { ListExported (lent settings.now settings.now) (lent desk.now desk.now) (lent memory.now memory.now) (lent codes.old codes.new)
+        (lent count.old count.new) result }
 {
     let listed = coordinator_list::list_heavy_hitters(
         settings_from(settings),
@@ -46,7 +46,7 @@ pub extern "C" fn tracker_desk_margin(
     code: u32,
     margin: &mut i64,
 ) -> u32
-    ensures { MarginExported (lent settings) (lent desk) (lent memory) code (lent margin)
+    ensures { MarginExported (lent settings.now settings.now) (lent desk.now desk.now) (lent memory.now memory.now) code (lent margin.old margin.new)
         result }
 {
     let read = coordinator_reading::read_margin(
@@ -80,7 +80,7 @@ pub extern "C" fn tracker_desk_class(
     memory: &[u64],
     class: &mut u32,
 ) -> u32
-    ensures { ClassExported (lent settings) (lent desk) (lent memory) (lent class) result }
+    ensures { ClassExported (lent settings.now settings.now) (lent desk.now desk.now) (lent memory.now memory.now) (lent class.old class.new) result }
 {
     let read = coordinator_reading::read_quantile(
         settings_from(settings),

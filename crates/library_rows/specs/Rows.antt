@@ -1,24 +1,21 @@
 -- What the calls of the library hand out in rows of numbers: "A refused call changes nothing that
 -- it was lent" (tracker.h).
 --
---   Lent, lent                what a call is lent, before it and after it
+--   Lent, lent before after   what a call is lent, before it and after it
 --   Row, Number               a lent row, or lent memory; a lent number
 --   handed_out refusal x y    x where nothing is refused, else y
 --   HandMessageSays, HandMessagesSays     the messages that a call hands out
 use Rattle.std.specs.Prelude.{◌≡◌, List, ◌++◌, ℕ}
-use Rattle.std.specs.Borrow.{Bor}
-use denote.Triple.Both.{Both}
 use Rattle.model.specs.declared.Message.{Message}
 use Rattle.model.specs.Choice.{if◌then◌else◌, is_zero}
-use Rattle.model.specs.Lent.{before, after}
 use Rattle.record_numbers.specs.Numbers.{message_numbers}
 
 pub record Lent (A : Type 0) : Type 0 where
   pub before : A
   pub after : A
 
-abbrev pub lent : {A : Type 0} → Both (Bor A) (Bor A) → Lent A
-lent what = record { before = before what; after = after what }
+abbrev pub lent : {A : Type 0} → A → A → Lent A
+lent before after = record { before = before; after = after }
 
 abbrev pub Row : Type 0
 Row = Lent (List ℕ)

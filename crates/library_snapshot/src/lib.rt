@@ -17,7 +17,7 @@ use snapshot_file::{Loaded, Saved};
 // How many bytes a file has, by the settings alone.
 #[unsafe(no_mangle)]
 pub extern "C" fn tracker_file_length(settings: &[u32; SETTINGS_NUMBERS], length: &mut usize) -> u32
-    ensures { FileLengthExported (lent settings) (lent length) result }
+    ensures { FileLengthExported (lent settings.now settings.now) (lent length.old length.new) result }
 {
     let rules = settings_from(settings);
     let refusal = settings::test_settings(rules);
@@ -29,7 +29,7 @@ pub extern "C" fn tracker_file_length(settings: &[u32; SETTINGS_NUMBERS], length
 
 // How many bytes the file has, where it was written.
 fn hand_length(saved: Saved, length: &mut usize)
-    ensures { HandLengthSays saved (lent length) }
+    ensures { HandLengthSays saved (lent length.old length.new) }
 {
     if saved.refusal == NO_REFUSAL {
         *length = saved.length;
@@ -47,8 +47,8 @@ pub extern "C" fn tracker_save(
     bytes: &mut [u8],
     length: &mut usize,
 ) -> u32
-    ensures { SaveExported (lent settings) (lent decks) (lent desk)
-        (lent deck_memory) (lent desk_memory) (lent bytes) (lent length) result }
+    ensures { SaveExported (lent settings.now settings.now) (lent decks.now decks.now) (lent desk.now desk.now)
+        (lent deck_memory.now deck_memory.now) (lent desk_memory.now desk_memory.now) (lent bytes.old bytes.new) (lent length.old length.new) result }
 {
     let saved = snapshot_saving::save_bench(
         settings_from(settings),
@@ -83,7 +83,7 @@ fn hand_bench(
     decks: &mut [u64; SITES_NUMBERS],
     desk: &mut [u64; COORDINATOR_NUMBERS],
 )
-    ensures { HandBenchSays loaded (lent settings) (lent decks) (lent desk) }
+    ensures { HandBenchSays loaded (lent settings.old settings.new) (lent decks.old decks.new) (lent desk.old desk.new) }
 {
     if loaded.refusal == NO_REFUSAL {
         let rules = loaded.settings;
@@ -105,8 +105,8 @@ pub extern "C" fn tracker_load(
     deck_memory: &mut [Word],
     desk_memory: &mut [u64],
 ) -> u32
-    ensures { LoadExported (lent file) (lent settings) (lent decks) (lent desk)
-        (lent deck_memory) (lent desk_memory) result }
+    ensures { LoadExported (lent file.now file.now) (lent settings.old settings.new) (lent decks.old decks.new) (lent desk.old desk.new)
+        (lent deck_memory.old deck_memory.new) (lent desk_memory.old desk_memory.new) result }
 {
     let loaded = snapshot_loading::load_bench(file, deck_memory, desk_memory);
     hand_bench(loaded, settings, decks, desk);

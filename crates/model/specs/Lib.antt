@@ -10,7 +10,6 @@ pub mod Messages
 pub mod Counters
 pub mod Draws
 pub mod Site
-pub mod Lent
 pub mod SiteMemory
 pub mod Coordinator
 pub mod CoordinatorMemory

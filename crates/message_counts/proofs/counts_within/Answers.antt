@@ -18,7 +18,7 @@ loop-j-init c = counts_start _ _
 -- There are no more sites than counts.
 pub bounds-counts-j : goal.bounds-counts-j
 bounds-counts-j c =
-    omega (arith, (settled c.args.settings c.requires).sites.at_most, inside c)
+    omega (arith, (settled c.args.settings c.requires).sites.at_most, c.loop-j-test.true)
 
 pub returns-then-counts-j-gt-MESSAGE_LIMIT : goal.returns-then-counts-j-gt-MESSAGE_LIMIT
 returns-then-counts-j-gt-MESSAGE_LIMIT c =

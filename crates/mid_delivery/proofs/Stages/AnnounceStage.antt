@@ -142,7 +142,12 @@ module _ {settings : Settings} {network : Network} {waiting : List Message} {lef
         i = a.i;
         w = suc a.w;
         j = a.j + 1;
-        waits = rw (same_threshold, same_base) joined;
+        waits =
+            subst
+            (λ t. waiting_then ≡ announcements t c'.base a.i (suc a.w)) (sym same_threshold)
+            (subst
+            (λ base. waiting_then ≡ announcements network.coordinator.threshold base a.i (suc a.w))
+            (sym same_base) joined);
         reached = omega (arith, a.reached);
         within = omega arith;
         phase_is = phase-then;

@@ -5,6 +5,7 @@ use mathlib.Core.Logic.{⊎_elim}
 use borrow.Author.Rules.{rules}
 use Rattle.site_search.proofs.Search.{least_start, least_end, least_new, least_old}
 use Rattle.site_search.proofs.least_counter.Goals as goal
+use Rattle.site_search.proofs.least_counter.Goals.{then-is_before, else-is_before}
 
 pub loop-i-init : goal.loop-i-init
 loop-i-init c = least_start c.args.memory.now c.args.used
@@ -17,12 +18,14 @@ loop-i-preserved c =
     let best = c.loop-i.best in
     let scanning = c.loop-i.invariant in
     let order = sym c.is_before.ensures in
-    ⊎_elim
-    (λ w. rw w.1
-    (least_new memory a.used i best scanning (search rules) (order ∙ w.0.taken)))
-    (λ w. rw w.1
-    (least_old memory a.used i best scanning (search rules) (order ∙ w.0.left)))
-    c.if-is_before.branch
+    elim c.if-is_before.branch [
+      then-is_before w ↦
+        rw w.best-is
+        (least_new memory a.used i best scanning (search rules) (order ∙ w.if-is_before.true))
+    | else-is_before w ↦
+        rw w.best-is
+        (least_old memory a.used i best scanning (search rules) (order ∙ w.if-is_before.false))
+    ]
 
 pub returns : goal.returns
 returns c =

@@ -6,21 +6,17 @@ use lib.Dec.{eqb}
 use lib.ListN.{take, drop}
 use Rattle.model.specs.SiteMemory.{sum}
 use Rattle.model.proofs.BetweenArrivals.ReportLaws.{value_count_is}
-use Rattle.site_memory.proofs.values_sum_to.Statement.{statement}
-use Rattle.site_memory.proofs.values_sum_to.Tie as tie
+use Rattle.site_memory.proofs.values_sum_to.Goals as goal
 
-sum_of_counts_requires : tie.Need-sum_of_counts-requires
-sum_of_counts_requires c κs = record {
+pub sum_of_counts-requires : goal.sum_of_counts-requires
+sum_of_counts-requires c = record {
   long_enough = omega (arith, value_count_is);
   few = omega (arith, value_count_is);
 }
 
-returns : tie.Need-returns
+pub returns : goal.returns
 returns c =
-    let a = c.before.before.args in
+    let a = c.args in
     ap (λ (n : ℕ). eqb n a.total) c.sum_of_counts.ensures
     ∙ ap (λ (n : ℕ). eqb (sum (take n (drop a.from a.memory.now))) a.total)
     (sym value_count_is)
-
-pub values_sum_to_spec : {M : Type 1} → statement M
-values_sum_to_spec = tie.close (tie.spec sum_of_counts_requires returns)

@@ -1,6 +1,6 @@
 -- The numbers of a trailer, counted from a file's end.
 --
---   from_end             a number at the front of the last so many bytes
+--   from_end_lem             a number at the front of the last so many bytes
 --   Trailer, trailer_of  the trailer of a file that was made: both pointers, width and sum
 use mathlib.Core.Path.{◌≡◌, sym, ap, ◌∙◌}
 use mathlib.Core.List.{List, [], ◌++◌, append_assoc, append-nil}
@@ -14,11 +14,11 @@ use Rattle.snapshot_file.specs.Layout.{pointer_bytes, width_bytes, sum_bytes, tr
 use Rattle.snapshot_file.specs.Reading.{from_end, desk_pointer, decks_pointer, width_in, sum_in, unsummed}
 
 -- A number at the front of the last bytes.
-pub from_end : (width back n : ℕ) (front tail : List ℕ)
+pub from_end_lem : (width back n : ℕ) (front tail : List ℕ)
     → n < byte_range ^ width
     → width + length tail ≡ back
     → from_end width back (front ++ (little_endian width n ++ tail)) ≡ n
-from_end width back n front tail small long =
+from_end_lem width back n front tail small long =
     let bytes = little_endian width n ++ tail in
     let whole = length-append front bytes in
     let part = length-append (little_endian width n) tail in
@@ -90,16 +90,16 @@ module _ (front : List ℕ) (desk decks width sum : ℕ)
       let all = length-append body last in
       record {
         desk_is = ap desk_pointer from_first
-            ∙ from_end pointer_bytes trailer_length desk front (second ++ (third ++ last)) desk-small
+            ∙ from_end_lem pointer_bytes trailer_length desk front (second ++ (third ++ last)) desk-small
             (omega (arith, two, three, four, rest-1, rest-2));
         decks_is = ap decks_pointer from_second
-            ∙ from_end pointer_bytes (trailer_length - pointer_bytes) decks (front ++ first)
+            ∙ from_end_lem pointer_bytes (trailer_length - pointer_bytes) decks (front ++ first)
             (third ++ last) decks-small (omega (arith, three, four, rest-2));
         width_is = ap width_in from_third
-            ∙ from_end width_bytes (width_bytes + sum_bytes) width ((front ++ first) ++ second) last
+            ∙ from_end_lem width_bytes (width_bytes + sum_bytes) width ((front ++ first) ++ second) last
             width_small (omega (arith, four));
         sum_is = ap sum_in from_last
-            ∙ from_end sum_bytes sum_bytes sum (((front ++ first) ++ second) ++ third) [] sum_small
+            ∙ from_end_lem sum_bytes sum_bytes sum (((front ++ first) ++ second) ++ third) [] sum_small
             (omega arith);
         unsummed_is = take_at body last (length whole - sum_bytes) (omega (arith, all, four));
       }

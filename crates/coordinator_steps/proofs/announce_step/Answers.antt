@@ -23,30 +23,13 @@ overflow_add-site c =
 
 pub returns-then-site-settings : goal.returns-then-site-settings
 returns-then-site-settings c = λ memory.
-    let phase = c.phase-1.given in
     let settings = c.args.settings in
     let more : c.in-Announcing.site + 1 < settings.sites = c.if-site-settings.true in
     rw (c.in-Announcing.is, lt-ltb _ _ more)
     (rw c.announcement_of-out.ensures at c.speak.ensures)
 
-pub returns-in-Idle : goal.returns-in-Idle
-returns-in-Idle c = λ memory.
-    let idle = c.in-Idle.is in
-    rw idle (rw idle at c.keep_silent.ensures)
-
-pub returns-in-Collecting : goal.returns-in-Collecting
-returns-in-Collecting c = λ memory.
-    let collecting = c.in-Collecting.is in
-    rw collecting (rw collecting at c.keep_silent-in-Collecting.ensures)
-
-pub returns-in-Probing : goal.returns-in-Probing
-returns-in-Probing c = λ memory.
-    let probing = c.in-Probing.is in
-    rw probing (rw probing at c.keep_silent-in-Probing.ensures)
-
 pub returns-else-site-settings : goal.returns-else-site-settings
 returns-else-site-settings c = λ memory.
-    let phase = c.phase-1.given in
     let settings = c.args.settings in
     let last : settings.sites ≤ c.in-Announcing.site + 1 = c.if-site-settings.false in
     rw (c.in-Announcing.is, le-ltb _ _ last)

@@ -29,8 +29,9 @@ long : (c : Else-memory-site_words)
     site_words a.settings ≤ length a.memory.now
 long c = omega (arith, c.site_words.ensures, c.if-memory-site_words.false)
 
-abbrev past_length : (c : Else-memory-site_words) → Still (answer c.before.before)
-past_length c = pass _ _ _ (past_settings c.before.before) refl (le-ltb _ _ (long c))
+abbrev past_length : (c : Else-memory-site_words) → Still ((let a = c.args in
+    site_memory_refusal a.settings a.site a.memory.now))
+past_length c = pass _ _ _ ((pass_part _ _ (begin _) refl (told c.test_settings-refusal.ensures c.if-refusal-ne-NO_REFUSAL.false))) refl (le-ltb _ _ (long c))
 
 pub returns-then-refusal-ne-NO_REFUSAL : goal.returns-then-refusal-ne-NO_REFUSAL
 returns-then-refusal-ne-NO_REFUSAL c =

@@ -6,7 +6,8 @@
 --   stored_arrival     the promise of `store_arrival`
 --   observed_step      the promise of `observe_step`
 use Prim.Native.Nat.{ℕ, ◌+◌, ◌*◌, ◌<◌, ◌≤◌}
-use mathlib.Core.Path.{◌≡◌, ap, sym, ◌∙◌, subst₂}
+use Rattle.site_counters.specs.Stored.{PartsWithin}
+use mathlib.Core.Path.{◌≡◌, ap, sym, ◌∙◌, subst, subst₂}
 use mathlib.Core.List.{List}
 use mathlib.Core.Bool.{Bool}
 use native.Mathlib.Nat.{mul-le-mul_right}
@@ -113,7 +114,7 @@ module _
         counted_at.few,
         asks.ready.long_enough,
       );
-      parts_within = rw says.counter counted_at.here.within_count;
+      parts_within = subst PartsWithin (sym says.counter) counted_at.here.within_count;
     }
 
     module _

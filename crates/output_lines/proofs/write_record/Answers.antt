@@ -19,7 +19,7 @@ given start = message start.args.kind start.args.site start.args.a start.args.b
 
 -- What was counted is the length of the line.
 counted : (c : After-spaced_length-4)
-    → let m = given c.before.before.before.before.before in
+    → let m = (message c.args.kind c.args.site c.args.a c.args.b) in
     c.spaced_length.result + c.spaced_length-2.result
     + c.spaced_length-3.result
     + c.spaced_length-4.result
@@ -27,7 +27,7 @@ counted : (c : After-spaced_length-4)
 counted c =
     omega (
       arith,
-      length_message (given c.before.before.before.before.before),
+      length_message ((message c.args.kind c.args.site c.args.a c.args.b)),
       c.spaced_length.ensures.is,
       c.spaced_length-2.ensures.is,
       c.spaced_length-3.ensures.is,
@@ -36,7 +36,7 @@ counted c =
 
 -- Each of the four takes at most 21 bytes.
 few : (c : After-spaced_length-4)
-    → length (message_line (given c.before.before.before.before.before)) ≤ 84
+    → length (message_line ((message c.args.kind c.args.site c.args.a c.args.b))) ≤ 84
 few c =
     omega (
       arith,
@@ -52,26 +52,40 @@ fits : (c : After-has_room)
     → c.has_room.result ≡ true
     →
     let args = c.args in
-    args.at + length (message_line (given c.before.before.before.before.before.before)) ≤ length args.out.now
+    args.at + length (message_line ((message c.args.kind c.args.site c.args.a c.args.b))) ≤ length args.out.now
 fits c enough =
     let args = c.args in
     omega (
       arith,
       room_enough args.at _ (length args.out.now) c.has_room.ensures enough,
-      counted c.before,
+      (omega (
+        arith,
+        length_message ((message c.args.kind c.args.site c.args.a c.args.b)),
+        c.spaced_length.ensures.is,
+        c.spaced_length-2.ensures.is,
+        c.spaced_length-3.ensures.is,
+        c.spaced_length-4.ensures.is,
+      )),
     )
 
 short : (c : After-has_room)
     → c.has_room.result ≡ false
     →
     let args = c.args in
-    length args.out.now < args.at + length (message_line (given c.before.before.before.before.before.before))
+    length args.out.now < args.at + length (message_line ((message c.args.kind c.args.site c.args.a c.args.b)))
 short c lacking =
     let args = c.args in
     omega (
       arith,
       room_short args.at _ (length args.out.now) c.has_room.ensures lacking,
-      counted c.before,
+      (omega (
+        arith,
+        length_message ((message c.args.kind c.args.site c.args.a c.args.b)),
+        c.spaced_length.ensures.is,
+        c.spaced_length-2.ensures.is,
+        c.spaced_length-3.ensures.is,
+        c.spaced_length-4.ensures.is,
+      )),
     )
 
 pub put_message-requires : goal.put_message-requires

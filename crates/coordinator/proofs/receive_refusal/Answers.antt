@@ -1,0 +1,15 @@
+-- Each return is the part of `receive_refusal` that decides.
+use mathlib.Core.Path.{refl}
+use Rattle.model.proofs.Thresholds.RefusalLaws.{begin, pass_part, refuse_part, end, told}
+use Rattle.coordinator.proofs.receive_refusal.Goals as goal
+
+pub returns-then-refusal-ne-NO_REFUSAL : goal.returns-then-refusal-ne-NO_REFUSAL
+returns-then-refusal-ne-NO_REFUSAL c =
+    refuse_part _ _ (begin _) refl c.coordinator_memory_refusal-refusal.ensures
+    c.if-refusal-ne-NO_REFUSAL.true
+
+pub returns : goal.returns
+returns c =
+    end (pass_part _ _ (begin _) refl
+    (told c.coordinator_memory_refusal-refusal.ensures c.if-refusal-ne-NO_REFUSAL.false))
+    (c.message_refusal.ensures c.args.memory.now)

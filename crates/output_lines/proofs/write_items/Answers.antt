@@ -19,21 +19,20 @@ word_fits : (c : After-has_room)
     → c.has_room.result ≡ true
     → let args = c.args in args.at + 7 ≤ length args.out.now
 word_fits c enough =
-    let args = c.args in 
+    let args = c.args in
     room_enough args.at 7 (length args.out.now) c.has_room.ensures enough
 
 -- And for the items.
 line_fits : (c : Then-numbers_fit)
-    → let args = c.args in 
+    → let args = c.args in
     args.at + length (listed_line args.items.now) ≤ length args.out.now
 line_fits c =
-    let args = c.args in 
+    let args = c.args in
     let items-fit : length (spaced args.items.now) ≤ length args.out.now - args.at - 7
     = leb-true _ _ (sym c.numbers_fit.ensures ∙ c.if-numbers_fit.true) in
     omega (
       arith,
-      (let args = c.args in 
-    room_enough args.at 7 (length args.out.now) c.has_room.ensures c.if-has_room.true,)
+      room_enough args.at 7 (length args.out.now) c.has_room.ensures c.if-has_room.true,
       length_listed args.items.now,
     )
 
@@ -48,13 +47,13 @@ put_listed-requires c = line_fits (goal.at.put_listed-requires c).Then-numbers_f
 
 pub returns-then-numbers_fit : goal.returns-then-numbers_fit
 returns-then-numbers_fit c =
-    let args = c.args in 
+    let args = c.args in
     line_put (listed_line args.items.now) args.at args.out.now _ _ (line_fits (goal.at.returns-then-numbers_fit c).Then-numbers_fit)
     c.put_listed.ensures
 
 pub returns-else-numbers_fit : goal.returns-else-numbers_fit
 returns-else-numbers_fit c =
-    let args = c.args in 
+    let args = c.args in
     let items-lack : length args.out.now - args.at - 7 < length (spaced args.items.now)
     = leb-false _ _ (sym c.numbers_fit.ensures ∙ c.if-numbers_fit.false) in
     line_refused (listed_line args.items.now) args.at args.out.now
@@ -62,7 +61,7 @@ returns-else-numbers_fit c =
 
 pub returns-else-has_room : goal.returns-else-has_room
 returns-else-has_room c =
-    let args = c.args in 
+    let args = c.args in
     let word-lacks = room_short args.at 7 (length args.out.now)
     c.has_room.ensures c.if-has_room.false in
     line_refused (listed_line args.items.now) args.at args.out.now

@@ -27,7 +27,7 @@ counted : (c : After-spaced_length-4)
 counted c =
     omega (
       arith,
-      length_message ((message c.args.kind c.args.site c.args.a c.args.b)),
+      length_message (message c.args.kind c.args.site c.args.a c.args.b),
       c.spaced_length.ensures.is,
       c.spaced_length-2.ensures.is,
       c.spaced_length-3.ensures.is,
@@ -36,7 +36,7 @@ counted c =
 
 -- Each of the four takes at most 21 bytes.
 few : (c : After-spaced_length-4)
-    → length (message_line ((message c.args.kind c.args.site c.args.a c.args.b))) ≤ 84
+    → length (message_line (message c.args.kind c.args.site c.args.a c.args.b)) ≤ 84
 few c =
     omega (
       arith,
@@ -52,40 +52,34 @@ fits : (c : After-has_room)
     → c.has_room.result ≡ true
     →
     let args = c.args in
-    args.at + length (message_line ((message c.args.kind c.args.site c.args.a c.args.b))) ≤ length args.out.now
+    args.at + length (message_line (message c.args.kind c.args.site c.args.a c.args.b)) ≤ length args.out.now
 fits c enough =
     let args = c.args in
     omega (
       arith,
       room_enough args.at _ (length args.out.now) c.has_room.ensures enough,
-      (omega (
-        arith,
-        length_message ((message c.args.kind c.args.site c.args.a c.args.b)),
-        c.spaced_length.ensures.is,
-        c.spaced_length-2.ensures.is,
-        c.spaced_length-3.ensures.is,
-        c.spaced_length-4.ensures.is,
-      )),
+      length_message (message args.kind args.site args.a args.b),
+      c.spaced_length.ensures.is,
+      c.spaced_length-2.ensures.is,
+      c.spaced_length-3.ensures.is,
+      c.spaced_length-4.ensures.is,
     )
 
 short : (c : After-has_room)
     → c.has_room.result ≡ false
     →
     let args = c.args in
-    length args.out.now < args.at + length (message_line ((message c.args.kind c.args.site c.args.a c.args.b)))
+    length args.out.now < args.at + length (message_line (message c.args.kind c.args.site c.args.a c.args.b))
 short c lacking =
     let args = c.args in
     omega (
       arith,
       room_short args.at _ (length args.out.now) c.has_room.ensures lacking,
-      (omega (
-        arith,
-        length_message ((message c.args.kind c.args.site c.args.a c.args.b)),
-        c.spaced_length.ensures.is,
-        c.spaced_length-2.ensures.is,
-        c.spaced_length-3.ensures.is,
-        c.spaced_length-4.ensures.is,
-      )),
+      length_message (message args.kind args.site args.a args.b),
+      c.spaced_length.ensures.is,
+      c.spaced_length-2.ensures.is,
+      c.spaced_length-3.ensures.is,
+      c.spaced_length-4.ensures.is,
     )
 
 pub put_message-requires : goal.put_message-requires

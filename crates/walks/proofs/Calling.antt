@@ -7,7 +7,7 @@
 --                        result, at its machine's value, is stored next, by `land`
 -- Letters: κs lifetimes, a the arguments, ws what the parameters were left at, r the result.
 -- Assumes `Logic` and that the callee meets its contract.
-use Rattle.walks.proofs.Kit.{◌≡◌, sym, ap, subst, ℕ, zero, suc, List, [], ◌∷◌, ◌++◌, Ura, Name, Place, Body, Operand, seq, call, Val, SProp, ent, sep, emp, id⊢, via, mono∗, mono_r, snd∗, flft, Env, Calls, Loops, sem, FmC, Lfts, Shares, toks, fact, Item, ‵, raw, ⋆, ◌⊛◌, some, later, push, ++⊢, Post, Seq, runs, lands, ◌$◌, cut, move, drop, use1, pick, split, await, Opds, Denots, Is, Tells, shows, Exit, unchanged, leaves, Last, left, Slot, type_at, types_at, only, peeks, heard, Contract, Triple, calls_at, Ended, Clauses, Lasts, at_exit, lasts, closing, Kepts, Fins, lasts_of, Res, alive, triple_of}
+use Rattle.walks.proofs.Kit.{sym, ap, subst, ℕ, zero, suc, List, [], ◌∷◌, ◌++◌, Ura, Callee, Place, Body, Operand, seq, call, Val, SProp, ent, sep, emp, id⊢, via, mono∗, mono_r, snd∗, flft, Env, Calls, Loops, FmC, Lfts, Shares, toks, fact, Item, ‵, raw, ⋆, ◌⊛◌, some, later, push, ++⊢, Post, Seq, runs, lands, ◌$◌, cut, move, drop, use1, pick, split, await, Opds, Denots, Is, Tells, shows, Exit, unchanged, leaves, Last, left, Slot, type_at, types_at, only, peeks, heard, Contract, Triple, calls_at, Ended, Clauses, Lasts, at_exit, lasts, closing, Kepts, Fins, lasts_of, alive, triple_of}
 use Rattle.walks.proofs.Handing.{Part, Entry, handed, enters}
 use types.Logic.{Logic, sem}
 
@@ -21,7 +21,7 @@ module _ {M : Type 1} {𝓤 : Ura M} where
   abbrev with_left : {D : Type 0} (e : Exit D) (x : D) → Last e x → List (Item 𝓤)
       → List (Item 𝓤)
   with_left unchanged x w Γ = Γ
-  with_left (leaves L l S s) x w Γ = ‵ (l x w) ∷ Γ
+  with_left (leaves L l S s r₀) x w Γ = ‵ (l x w) ∷ Γ
 
   abbrev pub lefts : {n : ℕ} (κs : Lfts n) (ss : List (Slot n)) (ks : Kepts ss)
       (a : Denots (types_at ss κs)) → Fins κs ss ks a → List (Item 𝓤)
@@ -33,7 +33,7 @@ module _ {M : Type 1} {𝓤 : Ura M} (𝓛 : Logic 𝓤) where
   open 𝓛 use {A}
 
   tokens_out : (n : ℕ) (κs : Lfts n) (qs : Shares n)
-      → ent 𝓤 (toks 𝓤 A n κs qs) (⋆ 𝓛 (tokens n κs qs))
+      → ent 𝓤 (toks 𝓛 n κs qs) (⋆ 𝓛 (tokens n κs qs))
   tokens_out zero κs qs = id⊢ 𝓤 (emp 𝓤)
   tokens_out (suc n) κs qs =
       via 𝓤 _ (mono_r 𝓤 (A.lft κs.0 qs.0) (tokens_out n κs.1 qs.1))
@@ -43,7 +43,7 @@ module _ {M : Type 1} {𝓤 : Ura M} (𝓛 : Logic 𝓤) where
       → ent 𝓤 P (⋆ 𝓛 Γ)
       → ent 𝓤 (sep 𝓤 (sem 𝓛 (left e x w)) P) (⋆ 𝓛 (with_left e x w Γ))
   left_out unchanged x w P Γ h = via 𝓤 P (snd∗ 𝓤 (emp 𝓤) P) h
-  left_out (leaves L l S s) x w P Γ h =
+  left_out (leaves L l S s r₀) x w P Γ h =
       via 𝓤 _ (mono_r 𝓤 (sem 𝓛 (l x w)) h) (push 𝓛 (‵ (l x w)) Γ)
 
   lefts_out : {n : ℕ} (κs : Lfts n) (ss : List (Slot n)) (ks : Kepts ss)
@@ -67,7 +67,7 @@ module _ {M : Type 1} {𝓤 : Ura M} (𝓛 : Logic 𝓤) (T : Ended) (cl : Claus
       ++ lefts x.0.0 T.signature.params T.kept x.0.3 ws
 
 module _ {M : Type 1} {𝓤 : Ura M} {𝓛 : Logic 𝓤} {K : Type 0}
-    {Γ : List (Item 𝓤)} {E : Env 𝓤 𝓛.H} {C : Calls 𝓤 𝓛.H} {Λ : Loops 𝓤 𝓛.H} {f : Name}
+    {Γ : List (Item 𝓤)} {E : Env 𝓤 𝓛.H} {C : Calls 𝓤 𝓛.H} {Λ : Loops 𝓤 𝓛.H} {f : Callee}
     {xs : List Operand} {q : Post 𝓤 𝓛.H} {d : Place} {rest : Body} where
   open 𝓛 use {H}
 
@@ -92,7 +92,7 @@ module _ {M : Type 1} {𝓤 : Ura M} {𝓛 : Logic 𝓤} {K : Type 0}
       cut (handed 𝓛 ts ++ handed 𝓛 ps) (raw ((Says 𝓛 T cl).pre x) ∷ []) Γ
       (via 𝓤 _ (enters 𝓛 ts ps) met) $
       calls_at t fm (Says 𝓛 T cl) known x os (λ u.
-      use1 𝓛 (later (some (λ (r : R.Denot). (raw tokened ⊛ ‵ (R.own r (u ∷ [])))
+      use1 𝓛 (later (some (λ (r : R.Denot). (raw tokened ⊛ ‵ (R.own_val r (u ∷ [])))
       ⊛ some (λ (ws : Lasts T κs a). ‵ (lasts T κs a ws)
       ⊛ raw ((cl κs a).ensures x.1 r (at_exit T κs a ws)))))) (id⊢ 𝓤 _) $
       await t tt $ pick t (λ r.

@@ -11,7 +11,7 @@
 --   ends            tokens, parts and a result, of which φ is said: what a walk has at its end
 --   spread          a formula of the context becomes items
 -- Assumes `Logic` where a step of a script is made.
-use Rattle.walks.proofs.Kit.{List, [], ◌∷◌, ◌++◌, Ura, Val, SProp, ent, sep, emp, id⊢, via, comm∗, mono∗, mono_r, emp∗, snd∗, Fml, ftrue, fsep, flft, sem, fact, fact_i, Item, ‵, ⋆, push, pop, ++⊢, ⊢++, Goal, Seq, Step, step, aim}
+use Rattle.walks.proofs.Kit.{List, [], ◌∷◌, ◌++◌, Ura, SProp, ent, sep, emp, id⊢, via, comm∗, mono∗, mono_r, emp∗, snd∗, Fml, ftrue, fsep, flft, fact, fact_i, Item, ‵, ⋆, push, pop, ++⊢, ⊢++, Goal, Step, step}
 use Rattle.walks.proofs.Data.{Data, Good}
 use Rattle.walks.proofs.Lending.{Lending}
 use Rattle.walks.proofs.RefLending.{RefLending}

@@ -14,17 +14,15 @@ pub use lib.ListN.{get_or, length, length-set, set}
 pub use lib.Seq.{set-get_or}
 pub use borrow.Author.Tests.{eq-eqb, eqb-false, eqb-true, le-ltb, lt-ltb}
 pub use borrow.Within.Token.{Rest, within_end, within_token}
-pub use seplogic.Ra.TreeShare.PosShare.{left as PosShare·left}
-pub use seplogic.Ra.TreeShare.PosShare.{right as PosShare·right}
-pub use seplogic.Ra.TreeShare.{full_share}
+pub use base.Fraction.{full_share, left as PosShare·left, right as PosShare·right}
 pub use seplogic.Ra.Ura.{Ura}
-pub use mir.Syntax.{Body, Fn, Lifetime, Local, Name, Opd as Operand, Step as PStep, Place, Ty}
+pub use mir.Syntax.{Body, Callee, Fn, Lifetime, Local, Opd as Operand, Step as PStep, Place, Ty}
 pub use mir.Syntax.{Width, addr_of, aggregate, assign, block, call, cond, copy, deref, erased, exit}
 pub use mir.Syntax.{field, local, loop, mut, named, return, seq, skip, switch, ty_array, ty_bool}
 pub use mir.Syntax.{ty_int, ty_ptr, ty_ref, w32, w64, imm}
 pub use mir.Val.{Fits, Val, WT, bits, has_ty, of_list, vbool, vcons, vint, vnil, vptr, vstruct}
 pub use base.Fml.{Fml, GName, Lft, Share, fat, fauth, fbor, fdead, fdies, feq, flent, flft, fobor}
-pub use base.Fml.{fobs, fres, froom, fsep, fshr_bor, ftrue}
+pub use base.Fml.{fhide, fobs, fres, froom, fsep, fshr_bor, ftrue}
 pub use base.Logic.{SProp, all, all_e, apply∗, assoc', comm∗, emp, emp∗, ent, ex, fst∗, id⊢, mono_r}
 pub use base.Logic.{mono∗, sep, snd∗, via, wand}
 pub use prog.Memory.{Memory, size}
@@ -32,12 +30,12 @@ pub use prog.Model.{elems}
 pub use prog.Routine.{Routine}
 pub use prog.Wp.{Calls, Env, Heap, Loops, Out, Spot, Tables, Wp, WpFn, after_block, after_seq}
 pub use prog.Wp.{at_return, pass, release, spot_of}
-pub use ghost.Atoms.{Atoms, sem}
+pub use ghost.Atoms.{Atoms}
 pub use contract.BorrowLft.{meet_⊑_right}
 pub use contract.Lifetimes.{AllOutlive, Lfts, Shares, toks}
 pub use contract.Monad.{Fun, fact, fact_i}
-pub use contract.Running.{given_of, tables}
-pub use types.Kit.{++⊢, !, Given, Go, Goal, Item, Post, Seq, Soaks, Sq, Step, ◌$◌, ◌∵◌, ◌⊛◌, aim}
+pub use contract.Running.{tables}
+pub use types.Kit.{++⊢, !, Go, Goal, Item, Post, Seq, Soaks, Sq, Step, ◌$◌, ◌∵◌, ◌⊛◌, aim}
 pub use types.Kit.{allocs, any_q, assume, now as at_once, at_ret, await, by, cut, done, drop, each}
 pub use types.Kit.{feq_i, feq_l, fjoin, fjoin3, fpack, fpick, frame, frees, fsplit, fsplit3, given}
 pub use types.Kit.{join, keep, lands, later, learn, mean, move, nth, params', pick, pop, prop, push}
@@ -55,6 +53,8 @@ pub use sound.WpLaws.{FmC, WpFn-mono, fm_of}
 pub use denote.Array.{Array, array_val}
 pub use denote.Builtin.{u32, u64, u8, usize}
 pub use denote.Exit.{Exit, Kept, Last, leaves, left, unchanged, yes}
+pub use denote.Copied.{Copied}
+pub use denote.Opens.{Shut}
 pub use denote.Index.{closes_slice, elem_back, elem_out, looks_slice, opens_slice, others, place}
 pub use denote.Index.{place_is, row, shuts_slice, whole_in, whole_out}
 pub use denote.Laws.{Are, Copy, Is, Ises, Lawful, Makes, Spells, Tells, Tellss, Typed, shows, valss}
@@ -62,12 +62,12 @@ pub use denote.Lend.{Held, LentAgain, comes_back, lends_again, lends_ref, lends_
 pub use denote.Lend.{slice_back}
 pub use denote.Memory.{cell_at, mem, shares, pointee}
 pub use denote.Plain.{UInt, uint_Lawful, uint_Makes, uint_Tells}
-pub use denote.RattleType.{Denots, RattleType, flat, owns}
+pub use denote.RattleType.{Denots, RattleType, RowLaws, flat, owns}
 pub use denote.Ref.{MutRef, NamedLft, Bor, MutBor, ShrRef, mut_Tells, shr_vals, mut_vals, shr_copy, shr_Tells}
 pub use denote.Shadow.{pure_i, pure_l}
 pub use denote.Signature.{AllWithin, Slot, meet_at, mut_ref_to, mut_slice_of, name_of, named_lft, plain}
 pub use denote.Signature.{shr_ref_to, shr_slice_of, type_at, types_at}
-pub use denote.Slice.{MutSlice, Room, ShrSlice, shr_slice_at, mut_slice_at, coded_holeys, finally, heres}
+pub use denote.Slice.{MutSlice, Room, elements_shared, ShrSlice, shr_slice_at, mut_slice_at, coded_holeys, finally, heres}
 pub use denote.Slice.{mut_slice_Tells, shr_slice_copy, shr_slice_Lawful, shr_slice_Tells}
 pub use denote.Slice.{shr_slice_vals, mut_slice_vals, slice_ty, slice_val}
 pub use denote.Steps.{closes, heard, nothing, only, opens, owned, peeks}

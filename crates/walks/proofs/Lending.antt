@@ -4,9 +4,10 @@
 --   lending      a reference as a function is handed it
 --   listed       the reference under a ghost name, at a list
 --   as_lent      the same, as it was lent
+--   as_shared    a `&[T]`, as it was lent
 --   value        the machine's value of it: the pointer and the length
-use denote.Ref.{MutBor}
-use Rattle.walks.proofs.Kit.{ℕ, List, length, Val, Lft, GName, Share, RefT, slice_val}
+use denote.Ref.{Bor, MutBor}
+use Rattle.walks.proofs.Kit.{ℕ, List, length, Val, Lft, GName, Share, slice_val}
 
 -- Its lifetime and the share of the lifetime's token, where it points, its ghost name, and the
 -- list.
@@ -24,6 +25,9 @@ listed e δ xs = record { ref_ptr = (e.block, e.offset); ghost_name = δ; now = 
 abbrev pub as_lent : {X : Type 0} → Lending X → MutBor (List X)
 as_lent e = listed e e.name e.list
 
+abbrev pub as_shared : {X : Type 0} → Lending X → Bor (List X)
+as_shared e = record { ref_ptr = (e.block, e.offset); now = e.list }
+
 abbrev pub value : {X : Type 0} → Lending X → Val
 value e = slice_val (e.block, e.offset) (length e.list)
 
@@ -32,8 +36,8 @@ abbrev pub lending : {X : Type 0} → Lft → Share → MutBor (List X) → Lend
 lending κ q r = record {
   life = κ;
   share = q;
-  block = r.ptr.0;
-  offset = r.ptr.1;
-  name = r.name;
+  block = r.ref_ptr.0;
+  offset = r.ref_ptr.1;
+  name = r.ghost_name;
   list = r.now;
 }

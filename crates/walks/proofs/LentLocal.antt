@@ -30,11 +30,11 @@ module _ (R : RattleType) (ℓ : Lifetime) (κ : Lft) (q : Share) (b o : ℕ) wh
         → ((ν : ℕ) (δ : GName)
         → Seq K 𝓛 (‵ (Lent ν δ h) ∷ ‵ (flft (ν ∷ κ) (PosShare·left q))
         ∷ ‵ (flft κ (PosShare·right q)) ∷ Kept 𝓛 ν δ ∷ Γ) G)
-        → Seq K 𝓛 (‵ (cell_at full_share R.mir vs b o) ∷ ‵ (R.own h vs) ∷ ‵ (flft κ q) ∷ Γ) G
+        → Seq K 𝓛 (‵ (cell_at full_share R.mir vs b o) ∷ ‵ (R.own_val h vs) ∷ ‵ (flft κ q) ∷ Γ) G
     unfolding part_of
     lends t z h vs k =
         fjoin t $
-        fpack t (List Val) (λ us. fsep (cell_at full_share R.mir us b o) (R.own h us)) vs $
+        fpack t (List Val) (λ us. fsep (cell_at full_share R.mir us b o) (R.own_val h us)) vs $
         lft_new t z (λ ν. move t (2 ∷ []) $
         use1 𝓛 (‵ (flft κ (PosShare·left q)) ⊛ ‵ (flft κ (PosShare·right q)))
         (𝓛.lfts.lft_split κ q) $ split t $
@@ -52,7 +52,7 @@ module _ (R : RattleType) (ℓ : Lifetime) (κ : Lft) (q : Share) (b o : ℕ) wh
 
     pub returned : K → Soaks G → (ν : ℕ) (δ : GName) (h : R.Denot)
         → ((vs : List Val)
-        → Seq K 𝓛 (‵ (cell_at full_share R.mir vs b o) ∷ ‵ (R.own h vs) ∷ ‵ (flft κ q) ∷ Γ) G)
+        → Seq K 𝓛 (‵ (cell_at full_share R.mir vs b o) ∷ ‵ (R.own_val h vs) ∷ ‵ (flft κ q) ∷ Γ) G)
         → Seq K 𝓛 (‵ (flft (ν ∷ κ) (PosShare·left q)) ∷ ‵ (flft κ (PosShare·right q))
         ∷ Kept 𝓛 ν δ ∷ ‵ (fres δ (R.coded.code h)) ∷ Γ) G
     unfolding part_of

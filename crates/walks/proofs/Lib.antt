@@ -17,16 +17,16 @@
 --
 -- Which law for which statement of MIR:
 --   _a = &mut *_s of a slice     Reborrow.reborrows (two assignments)
---   _a = &mut *_r of a `&mut T`  Reborrow.reborrows-ref
+--   _a = &mut *_r of a `&mut T`  Reborrow.reborrows_ref
 --   a slice lent to a callee     Again.lends before the call, Again.returned after it; for good:
 --                                its `Held_at` is handed over, and `finally` comes back
---   a `&mut T` lent to a callee  RefAgain.lends, RefAgain.returned; for good: its `Held-ref` is
+--   a `&mut T` lent to a callee  RefAgain.lends, RefAgain.returned; for good: its `Held_ref` is
 --                                handed over, and the last value comes back
 --   a `&[T]` for a callee too    Elem.twice
---   a `&T` for a callee too      RefAgain.twice-ref
+--   a `&T` for a callee too      RefAgain.twice_ref
 --   a local lent as `&mut`       LentLocal.lends, LentLocal.returned
---   _r = f(..)                   Calling.calls-by, then the kit's `land`
---   _a = run[i] of a `&[T]`      Elem.elem-opens, `look_raw`, Elem.elem-shuts
+--   _r = f(..)                   Calling.calls_by, then the kit's `land`
+--   _a = run[i] of a `&[T]`      Elem.elem_opens, `look_raw`, Elem.elem_shuts
 --   _a = s.xs[i], s.xs[i] = _a   InArray.elem, within `look_in` and `store_in`
 --   while                        recursion on what is left of a list, Tail, over the kit's `unroll`
 --   return                       the kit's `returns`, then Locals.freed

@@ -12,7 +12,7 @@
 --   walks_in          the function is entered: its locals are made and its arguments stored
 --   freed             it returns: its locals are freed, whatever they hold
 -- Letters: l the places, b blocks. Assumes `Logic`.
-use Rattle.walks.proofs.Kit.{refl, ℕ, zero, suc, ◌+◌, ◌-◌, List, [], ◌∷◌, ◌++◌, map, Holds, Ura, full_share, Ty, Local, local, Fn, Val, WT, has_ty, SProp, ent, sep, id⊢, via, mono∗, mono_r, assoc', fat, froom, fdies, Heap, Env, Calls, Loops, WpFn, pass, release, Item, ‵, raw, mean, ⋆, push, pop, sel⊢, ++⊢, ⊢++, prop, runs, allocs, frees, params', at_ret, aim, Goal, Go, Seq, Sq, Step, step, ◌$◌, ◌∵◌, !, qed, by, init, enter, alloc1, alloc0}
+use Rattle.walks.proofs.Kit.{refl, ℕ, zero, suc, ◌+◌, ◌-◌, List, [], ◌∷◌, ◌++◌, map, Holds, Ura, full_share, Ty, Local, local, Fn, Val, WT, has_ty, SProp, ent, sep, id⊢, via, mono∗, mono_r, assoc', fat, froom, fdies, Heap, Env, Calls, Loops, WpFn, pass, release, Item, ‵, raw, mean, ⋆, push, pop, sel⊢, ++⊢, ⊢++, prop, runs, allocs, frees, params', at_ret, Goal, Go, Sq, Step, step, ◌$◌, ◌∵◌, !, qed, by, init, enter, alloc1, alloc0}
 use types.Logic.{Logic}
 
 -- ---- Places and contents
@@ -155,7 +155,7 @@ module _ {M : Type 1} {𝓤 : Ura M} (𝓛 : Logic 𝓤) where
       let others = raw (⋆ 𝓛 (cells ls [] (shift l) (d ∷ Γ))) in
       let now : Item 𝓤 = ‵ (fat full_share τ (l 0) 0 v) in
       via 𝓤 _ (taken_out 𝓛 ls [] (shift l) (‵ (froom τ (l 0) 0)) (d ∷ Γ))
-      ((init {K = Go {0}} {W = 𝓛} {Γ = ‵ (froom τ (l 0) 0) ∷ others ∷ []} ! 0 refl ok.0).go _
+      ((init {𝓛 = 𝓛} {K = Go {0}} {Γ = ‵ (froom τ (l 0) 0) ∷ others ∷ []} ! 0 refl ok.0).go _
       (via 𝓤 _ (put_in 𝓛 ls [] (shift l) now (d ∷ Γ))
       (stored ls vs (shift l) (now ∷ d ∷ Γ) P ok.1 h)))
 

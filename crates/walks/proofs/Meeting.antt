@@ -17,7 +17,7 @@
 use types.Logic.{Logic}
 use denote.Slice.{shr_slice_vals, mut_slice_vals}
 use denote.Ref.{shr_vals, mut_vals}
-use Rattle.walks.proofs.Kit.{◌≡◌, ℕ, List, [], ◌∷◌, Ura, Fn, Val, ent, sep, ftrue, Tables, WpFn, Lfts, Shares, AllOutlive, WpFn-mono, RattleType, flat, Is, Ises, Are, Tells, Tellss, Spells, valss, Kept, yes, Last, left, Slot, AllWithin, plain, name_of, meet_at, mut_ref_to, shr_ref_to, shr_slice_of, mut_slice_of, types_at, ptr-vals, mut_Tells, shr_Tells, slice-vals, shr_slice_Tells, mut_slice_Tells, Bound, Ended, Clauses, closing, Kepts, Args, on_entry, Meets, Stay, Stays, stay_none, stay_none_slice, stay_none_ref, stay_ref, stay_slice, gave_slice, gave_ref, Goes, AllGo, Goes-none, Goes-none_slice, Goes-none_ref, Goes-ref, Goes-slice, Goes-gave_slice, Goes-gave_ref, walk_of, walked, walk_Meets}
+use Rattle.walks.proofs.Kit.{◌≡◌, ℕ, List, [], ◌∷◌, Ura, Fn, Val, ent, sep, ftrue, Tables, WpFn, Lfts, Shares, AllOutlive, WpFn-mono, RattleType, flat, Is, Ises, Are, Tells, Tellss, Spells, valss, Kept, yes, Last, left, Slot, AllWithin, plain, name_of, meet_at, mut_ref_to, shr_ref_to, shr_slice_of, mut_slice_of, types_at, mut_Tells, shr_Tells, shr_slice_Tells, mut_slice_Tells, Bound, Ended, Clauses, closing, Kepts, Args, on_entry, Meets, Stay, Stays, stay_none, stay_none_slice, stay_none_ref, stay_ref, stay_slice, gave_slice, gave_ref, Goes, AllGo, Goes-none, Goes-none_slice, Goes-none_ref, Goes-ref, Goes-slice, Goes-gave_slice, Goes-gave_ref, walk_of, walked, walk_Meets}
 use Rattle.walks.proofs.Data.{Data}
 
 infixr 4 ◌&◌

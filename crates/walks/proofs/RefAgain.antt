@@ -4,13 +4,13 @@
 --   Held_ref     the `&mut T` is owned, at a value, by whom it was lent to
 --   Again_ref    it is owned by the callee
 --   Kept_ref     what the holder keeps meanwhile
---   lends        own (the `&mut T` at x) ∗ [κ]_q gives: the callee's at some δ, `Kept-ref`, [ν]
---   returned     [ν] ∗ the last value y under δ ∗ `Kept-ref` gives it back: own (at y) ∗ [κ]_q
+--   lends        own (the `&mut T` at x) ∗ [κ]_q gives: the callee's at some δ, `Kept_ref`, [ν]
+--   returned     [ν] ∗ the last value y under δ ∗ `Kept_ref` gives it back: own (at y) ∗ [κ]_q
 --   Looked_ref   the `&T` is owned
 --   twice_ref    and may be owned twice, once for a callee
 -- Letters: κ lifetimes, q shares, δ ghost names. Assumes `Logic`.
-use Rattle.walks.proofs.Kit.{ℕ, List, [], ◌∷◌, Ura, full_share, Lifetime, GName, Fml, flft, fres, Goal, Soaks, Item, Seq, Step, step, ‵, ◌⊛◌, some, later, ◌$◌, move, use1, use2, use3, split, pick, await, lft_new, lft_end, RattleType, MutRef, ShrRef, shr_copy, LentAgain, lends_again, comes_back}
-use Rattle.walks.proofs.RefLending.{RefLending, at_value, as_lent_ref, pointer}
+use Rattle.walks.proofs.Kit.{ℕ, List, [], ◌∷◌, Ura, full_share, Lifetime, GName, Fml, flft, fres, Goal, Soaks, Item, Seq, Step, step, ‵, ◌⊛◌, some, later, ◌$◌, move, use1, use2, use3, split, pick, await, lft_new, lft_end, RattleType, RowLaws, MutRef, ShrRef, shr_copy, LentAgain, lends_again, comes_back}
+use Rattle.walks.proofs.RefLending.{RefLending, at_value, as_shared_ref, pointer}
 use types.Logic.{Logic}
 
 module _ (R : RattleType) (e : RefLending R.Denot) where
@@ -25,7 +25,7 @@ module _ (R : RattleType) (e : RefLending R.Denot) where
       LentAgain R e.life (ν ∷ []) e.share e.name e.block e.offset δ x
 
   abbrev pub Looked_ref : Lifetime → Fml
-  Looked_ref ℓ = (ShrRef ℓ e.life R).own_val (as_lent_ref e) (pointer e ∷ [])
+  Looked_ref ℓ = (ShrRef ℓ e.life R).own_val (as_shared_ref e) (pointer e ∷ [])
 
   module _ {M : Type 1} {𝓤 : Ura M} {𝓛 : Logic 𝓤} {K : Type 0}
       {Γ : List (Item 𝓤)} {G : Goal 𝓤 𝓛.H} where
@@ -48,8 +48,8 @@ module _ (R : RattleType) (e : RefLending R.Denot) where
         (comes_back 𝓛 R ℓ e.life (ν ∷ []) e.share e.name e.block e.offset δ x
         y) $ await t z $ split t $ s)
 
-    pub twice_ref : K → (ℓ : Lifetime)
+    pub twice_ref : K → RowLaws R → (ℓ : Lifetime)
         → Step K 𝓛 (‵ (Looked_ref ℓ) ∷ ‵ (Looked_ref ℓ) ∷ Γ) G (‵ (Looked_ref ℓ) ∷ Γ) G
-    twice_ref t ℓ = step (λ s.
+    twice_ref t laws ℓ = step (λ s.
         use1 𝓛 (‵ (Looked_ref ℓ) ⊛ ‵ (Looked_ref ℓ))
-        ((shr_copy 𝓛 ℓ e.life R).twice (as_lent_ref e) (pointer e ∷ [])) $ split t $ s)
+        ((shr_copy 𝓛 ℓ e.life R laws).twice (as_shared_ref e) (pointer e ∷ [])) $ split t $ s)

@@ -5,9 +5,10 @@
 --   ref_lending   a reference as a function is handed it
 --   at_value      the reference under a ghost name, at a value
 --   as_lent_ref   the same, as it was lent
+--   as_shared_ref   a `&T`, as it was lent
 --   pointer       the machine's value of it
-use denote.Ref.{MutBor}
-use Rattle.walks.proofs.Kit.{ℕ, Val, vptr, Lft, GName, Share, RefT}
+use denote.Ref.{Bor, MutBor}
+use Rattle.walks.proofs.Kit.{ℕ, Val, vptr, Lft, GName, Share}
 
 -- Its lifetime and the share of the lifetime's token, where it points, its ghost name, and the
 -- value there.
@@ -23,7 +24,10 @@ abbrev pub at_value : {X : Type 0} → RefLending X → GName → X → MutBor X
 at_value e δ x = record { ref_ptr = (e.block, e.offset); ghost_name = δ; now = x }
 
 abbrev pub as_lent_ref : {X : Type 0} → RefLending X → MutBor X
-as_lent_ref e = at_value e e.ghost_name e.now
+as_lent_ref e = at_value e e.name e.now
+
+abbrev pub as_shared_ref : {X : Type 0} → RefLending X → Bor X
+as_shared_ref e = record { ref_ptr = (e.block, e.offset); now = e.now }
 
 abbrev pub pointer : {X : Type 0} → RefLending X → Val
 pointer e = vptr e.block e.offset
@@ -32,8 +36,8 @@ abbrev pub ref_lending : {X : Type 0} → Lft → Share → MutBor X → RefLend
 ref_lending κ q r = record {
   life = κ;
   share = q;
-  block = r.ptr.0;
-  offset = r.ptr.1;
-  name = r.name;
+  block = r.ref_ptr.0;
+  offset = r.ref_ptr.1;
+  name = r.ghost_name;
   now = r.now;
 }

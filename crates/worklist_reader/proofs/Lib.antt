@@ -1,5 +1,4 @@
 -- Laws of reading that the functions' proofs share.
-pub mod StepValue
 pub mod ThreeLaws
 pub mod SettingsLaws
 pub mod StepLaws

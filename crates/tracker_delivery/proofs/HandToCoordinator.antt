@@ -12,7 +12,8 @@ use lib.ListN.{length, get_or}
 use Rattle.model.specs.declared.Settings.{Settings}
 use Rattle.model.specs.declared.Message.{Message}
 use Rattle.model.specs.Messages.{message_width, no_message, to_coordinator}
-use Rattle.model.specs.Coordinator.{Coordinator, CoordinatorStep, coordinator_receives}
+use Rattle.model.specs.Refusals.{no_refusal}
+use Rattle.model.specs.Coordinator.{Coordinator, CoordinatorStep, coordinator_receives, coordinator_refusal}
 use Rattle.model.specs.CoordinatorMemory.{coordinator_in}
 use Rattle.model.specs.Network.{Network, with_coordinator}
 use Rattle.model.specs.DeliveryClaims.{delivery, delivery_step}
@@ -60,7 +61,9 @@ module _ {settings : Settings} {carry : Carrying} (u : Delivering settings carry
         fits.coordinator_memory_long,
       );
       ready = subst⁻¹ (CoordinatorReady settings) c_read (going_ready hand.going);
-      message_accepted = rw c_read (rw way at (head_accepted u hand));
+      message_accepted =
+          subst⁻¹ (λ (d : Coordinator). coordinator_refusal settings d m ≡ no_refusal) c_read
+          (rw way at (head_accepted u hand));
     }
 
     module _ (answer : CoordinatorAnswer.Answered) (memory : List ℕ) (queue : Queue)

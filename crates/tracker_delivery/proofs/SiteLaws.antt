@@ -12,7 +12,8 @@ use lib.ListN.{length, get_or, set, take, drop, length-drop, drop_of_length-le}
 use Rattle.model.specs.declared.Settings.{Settings}
 use Rattle.model.specs.declared.Arrival.{Arrival}
 use Rattle.model.specs.declared.SiteRecord.{SiteRecord}
-use Rattle.model.specs.Site.{Site, SiteStep, observed}
+use Rattle.model.specs.Refusals.{no_refusal}
+use Rattle.model.specs.Site.{Site, SiteStep, observed, arrival_refusal}
 use Rattle.model.specs.Limits.{most_sites, most_site_words}
 use Rattle.model.specs.SiteMemory.{site_words, site_in, site_record, site_memory}
 use Rattle.model.specs.Network.{site_at}
@@ -84,7 +85,9 @@ module _ {settings : Settings} {arrival : Arrival} {carry : Carrying}
         site_sound = subst⁻¹ (SoundSite settings) read
             (u.accepting.sound.sites_sound j site_known);
       };
-      not_refused = rw read u.accepting.taken;
+      not_refused =
+          subst⁻¹ (λ (s : Site). arrival_refusal settings s arrival ≡ no_refusal) read
+          u.accepting.taken;
     }
 
     module _ (answer : Observed) (part-after : List ℕ)

@@ -22,7 +22,7 @@ returns-then-site_numbers-all c =
     }
 
 pub returns : goal.returns
-returns-then-site_numbers-all c =
+returns c =
     let a = c.args in
     let all = ap (λ (z : ℕ). a.settings.sites * z) c.site_words.ensures in
     record {

@@ -1,28 +1,15 @@
 -- `bench_memory::sites_consistent` meets its contract. The invariant: the sites before j are
 -- consistent.
 use mathlib.Core.Path.{◌≡◌, refl, sym, ap, ◌∙◌}
-use mathlib.Core.List.{List}
-use Prim.Native.Nat.{ℕ, ◌*◌}
+use Prim.Native.Nat.{◌*◌}
 use native.Mathlib.Omega.{arith}
 use lib.ListN.{get_or, drop}
-use Rattle.model.specs.declared.Settings.{Settings}
-use Rattle.model.specs.declared.SiteRecord.{SiteRecord}
 use Rattle.model.specs.SiteMemory.{site_words, site_consistent}
 use Rattle.model.specs.Held.{no_record}
 use Rattle.bench_memory.proofs.PartLaws.{PartStarts, site_few, starts_at, own_is, part_fits}
-use Rattle.bench_memory.proofs.SitesLaws.{Passing, passing_start, passing_on, passing_fails, passing_end}
+use Rattle.bench_memory.proofs.SitesLaws.{passing_start, passing_on, passing_fails, passing_end}
 use Rattle.bench_memory.proofs.sites_consistent.Goals as goal
 use Rattle.bench_memory.proofs.sites_consistent.Goals.{After-site_consistent, In-loop-j}
-
--- The numbers that the code computed before the loop, and the sites so far.
-record Walked
-    (settings : Settings)
-    (records : List SiteRecord)
-    (memory : List ℕ)
-    (count words j : ℕ) : Type 0 where
-  count_is : count ≡ settings.sites
-  words_are : words ≡ site_words settings
-  passing : Passing count settings records memory j
 
 -- The part of the site looked at starts within the memory, as the code counts its words.
 starts : (tested : In-loop-j)
@@ -96,7 +83,7 @@ returns-else-site_consistent c =
     (own_decides (goal.at.returns-else-site_consistent c).After-site_consistent ∙ c.if-site_consistent.false)
 
 pub returns : goal.returns
-returns-else-site_consistent c =
+returns c =
     let a = c.args in
     passing_end a.settings.sites a.settings a.sites.records a.memory.now
     c.loop-j.j c.loop-j.invariant.passing c.loop-j-test.false

@@ -38,12 +38,13 @@ hand_over-by-requires c =
           ∙ c.loop-settings-test.true;
     }
 
-pub offset_bounds-records-which-in-loop-settings : goal.offset_bounds-records-which-in-loop-settings
-offset_bounds-records-which-in-loop-settings c = mul_own (goal.at.offset_bounds-records-which-in-loop-settings c).After-own-1
-
 pub bounds-records-which-in-loop-settings : goal.bounds-records-which-in-loop-settings
 bounds-records-which-in-loop-settings c =
-    array_copy_out_own (goal.at.bounds-records-which-in-loop-settings c).After-own-1
+    let u = c.requires in
+    rw c.site_of_head-which.ensures (head_few (delivering_after u (c.loop-settings.invariant u)))
+
+pub offset_bounds-records-which-in-loop-settings : goal.offset_bounds-records-which-in-loop-settings
+offset_bounds-records-which-in-loop-settings c = omega (arith, bounds-records-which-in-loop-settings c)
 
 pub send_answer-traffic-requires : goal.send_answer-traffic-requires
 send_answer-traffic-requires c =

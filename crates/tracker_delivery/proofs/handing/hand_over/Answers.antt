@@ -52,7 +52,7 @@ offset_bounds-site_memory-start c =
     omega (arith, small)
 
 pub overflow_mul-start : goal.overflow_mul-start
-overflow_mul-start c = omega (arith, (offset_bounds-site_memory-start c).ranges)
+overflow_mul-start c = omega (arith, (offset_bounds-site_memory-start c).fits)
 
 pub slice_bounds-part-count : goal.slice_bounds-part-count
 slice_bounds-part-count c =

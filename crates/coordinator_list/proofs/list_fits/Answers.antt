@@ -7,6 +7,7 @@ use Rattle.coordinator_list.proofs.CallLaws.{listed_is}
 use Rattle.coordinator_list.proofs.ListLaws.{fitting_yes, fitting_no, fits_all, fits_not, fits_end}
 use Rattle.model.specs.CoordinatorMemory.{coordinator_in}
 use Rattle.coordinator_list.proofs.list_fits.Goals as goal
+use Rattle.coordinator_list.proofs.list_fits.Goals.{then-is_listed+else-places-count, else-is_listed}
 
 pub returns-then-items-places : goal.returns-then-items-places
 returns-then-items-places c =
@@ -64,12 +65,15 @@ loop-item-preserved c =
     let inside = c.loop-item-test.true in
     let rule = sym (c.is_listed.ensures ∙ listed_is settings numbers memory item
     inside) in
-    ⊎_elim
-    (λ w. rw w.2
-    (fitting_yes settings here places count item so_far inside (rule ∙ w.0.taken) w.1.left))
-    (λ w. rw w.1
-    (fitting_no settings here places count item so_far inside (rule ∙ w.0.left)))
-    c.if-is_listed.branch
+    elim c.if-is_listed.branch [
+      then-is_listed+else-places-count w ↦
+        rw w.count-is
+        (fitting_yes settings here places count item so_far inside (rule ∙ w.if-is_listed.true)
+        w.if-places-count.false)
+    | else-is_listed w ↦
+        rw w.count-is
+        (fitting_no settings here places count item so_far inside (rule ∙ w.if-is_listed.false))
+    ]
 
 pub returns : goal.returns
 returns c =

@@ -13,6 +13,7 @@ use Rattle.coordinator_list.proofs.WriteLaws.{writing_start, writing_yes, writin
 use Rattle.model.proofs.Thresholds.SettingsLaws.{settled}
 use Rattle.model.specs.CoordinatorMemory.{coordinator_in}
 use Rattle.coordinator_list.proofs.write_listed.Goals as goal
+use Rattle.coordinator_list.proofs.write_listed.Goals.{then-is_listed, else-is_listed}
 use Rattle.coordinator_list.proofs.write_listed.Goals.{Then-is_listed}
 
 -- A listed item has a place.
@@ -87,20 +88,22 @@ loop-next-preserved c =
     let inside = c.loop-next-test.true in
     let rule = sym (c.is_listed.ensures ∙ listed_is settings numbers memory item
     inside) in
-    ⊎_elim
-    (λ w. rw (w.1, w.2)
-    (writing_yes settings here before c.loop-next.list count item c.loop-next.invariant inside
-    (rule ∙ w.0.taken)
-    (omega (
-      arith,
-      c.requires.places,
-      one_more_listed settings here count item c.loop-next.invariant.counting inside
-          (rule ∙ w.0.taken),
-    ))))
-    (λ w. rw (w.1, w.2)
-    (writing_no settings here before c.loop-next.list count item c.loop-next.invariant inside
-    (rule ∙ w.0.left)))
-    c.if-is_listed.branch
+    elim c.if-is_listed.branch [
+      then-is_listed w ↦
+        rw (w.list-is, w.count-is)
+        (writing_yes settings here before c.loop-next.list count item c.loop-next.invariant inside
+        (rule ∙ w.if-is_listed.true)
+        (omega (
+          arith,
+          c.requires.places,
+          one_more_listed settings here count item c.loop-next.invariant.counting inside
+              (rule ∙ w.if-is_listed.true),
+        )))
+    | else-is_listed w ↦
+        rw (w.list-is, w.count-is)
+        (writing_no settings here before c.loop-next.list count item c.loop-next.invariant inside
+        (rule ∙ w.if-is_listed.false))
+    ]
 
 pub overflow_cast-result : goal.overflow_cast-result
 overflow_cast-result c =

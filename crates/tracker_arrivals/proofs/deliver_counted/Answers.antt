@@ -6,7 +6,7 @@ use Rattle.tracker_arrivals.proofs.deliver_counted.Goals as goal
 
 pub deliver_turn-after-requires : goal.deliver_turn-after-requires
 deliver_turn-after-requires c =
-    messages_ask c.pre
+    messages_ask c.requires
 
 pub returns : goal.returns
 returns c =

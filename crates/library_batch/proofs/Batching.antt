@@ -1,34 +1,15 @@
--- The row of a record, and the whole of the three calls.
+-- The whole of the three calls.
 --
---   row_written    the record's numbers, where an arrival was accepted
---   row_kept       the row as it was, where none was
 --   run_exported   what the three calls say makes the promise
-use Prim.Native.Nat.{ℕ, ◌<◌, ◌≤◌}
-use native.Mathlib.Omega.{arith}
-use mathlib.Core.Path.{◌≡◌, ◌∙◌, subst}
+use Prim.Native.Nat.{ℕ}
+use mathlib.Core.Path.{subst}
 use mathlib.Core.List.{List}
-use borrow.Author.Tests.{eq-eqb, ne_eqb}
 use Rattle.model.specs.declared.Arrival.{Arrival}
 use Rattle.library_rows.specs.Rows.{Row}
 use Rattle.tracker_steps.specs.declared.BatchAnswer.{BatchAnswer}
 use Rattle.tracker.specs.Batch.{batch_held, BatchSays}
 use Rattle.library_batch.specs.declared.Opening.{Opening}
-use Rattle.library_batch.specs.Batch.{OpenRowsSays, row_after, CloseRowsSays, call_of, RunExported}
-
--- ---- A record's row
-
-module _ (accepted : ℕ) (numbers row : List ℕ) where
-  pub row_written : (last : List ℕ)
-      → 0 < accepted
-      → last ≡ numbers
-      → last ≡ row_after accepted numbers row
-  row_written last some written =
-      written ∙ rw (ne_eqb accepted 0 (λ none. omega (arith, some, none)))
-
-  pub row_kept : accepted ≤ 0 → row ≡ row_after accepted numbers row
-  row_kept none = rw (eq-eqb accepted 0 (omega (arith, none)))
-
--- ---- The whole
+use Rattle.library_batch.specs.Batch.{OpenRowsSays, CloseRowsSays, call_of, RunExported}
 
 -- A row, from what it held to what it holds.
 abbrev pub change : List ℕ → List ℕ → Row

@@ -29,7 +29,8 @@ fn open_rows(
     sites: &mut [u64; SITES_NUMBERS],
     coordinator: &mut [u64; COORDINATOR_NUMBERS],
 ) -> Opening
-    ensures { OpenRowsSays settings.now (lent sites.old sites.new) (lent coordinator.old coordinator.new) result }
+    ensures { OpenRowsSays settings.now (lent sites.old sites.new)
+        (lent coordinator.old coordinator.new) result }
 {
     Opening {
         settings: settings_from(settings),
@@ -46,7 +47,8 @@ fn close_rows(
     coordinator: &mut [u64; COORDINATOR_NUMBERS],
     counts: &mut [u64; COUNTS_NUMBERS],
 ) -> u32
-    ensures { CloseRowsSays done (lent sites.old sites.new) (lent coordinator.old coordinator.new) (lent counts.old counts.new) result }
+    ensures { CloseRowsSays done (lent sites.old sites.new) (lent coordinator.old coordinator.new)
+        (lent counts.old counts.new) result }
 {
     *counts = [done.accepted, done.written];
     if 0 < done.accepted {
@@ -58,10 +60,8 @@ fn close_rows(
     done.refusal
 }
 
-// `tracker::run_batch`. The borrow checker does not cover a `&[Arrival]`: this function is walked
-// by hand, and so it does nothing but call.
-#[unsafe(no_mangle)]
-pub extern "C" fn tracker_run(
+// `tracker::run_batch`, with the records made from their rows before it and written back after it.
+pub fn tracker_run(
     settings: &[u32; SETTINGS_NUMBERS],
     decks: &mut [u64; SITES_NUMBERS],
     desk: &mut [u64; COORDINATOR_NUMBERS],
@@ -71,8 +71,10 @@ pub extern "C" fn tracker_run(
     log: &mut [u64],
     counts: &mut [u64; COUNTS_NUMBERS],
 ) -> u32
-    ensures { RunExported (lent settings.now settings.now) (lent decks.old decks.new) (lent desk.old desk.new) draws.now
-        (lent deck_memory.old deck_memory.new) (lent desk_memory.old desk_memory.new) (lent log.old log.new) (lent counts.old counts.new) result }
+    ensures { RunExported (lent settings.now settings.now) (lent decks.old decks.new)
+        (lent desk.old desk.new) draws.now (lent deck_memory.old deck_memory.new)
+        (lent desk_memory.old desk_memory.new) (lent log.old log.new) (lent counts.old counts.new)
+        result }
 {
     let opening = open_rows(settings, decks, desk);
     let done = tracker::run_batch(

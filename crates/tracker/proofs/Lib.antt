@@ -1,5 +1,4 @@
 -- The laws of the batch call.
-pub mod Types
-pub mod Records
 pub mod WalkLaws
+pub mod Turning
 pub mod Edges

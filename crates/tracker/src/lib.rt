@@ -112,7 +112,8 @@ pub fn run_batch(
                 log,
                 &mut counts,
             );
-            answer.sites.records = after.records;
+            let records = after.records;
+            answer.sites.records = records;
             answer.coordinator = after.coordinator;
             answer.written = after.written;
         }

@@ -1,10 +1,9 @@
--- Laws for walks by hand. A walk proves a function that the borrow checker does not cover, one that
--- has a `&[S]`, a `&mut S` or a struct with a reference in its signature, along its MIR (`rt mir`):
--- from what it is handed, statement by statement, to what its contract promises. Scripts are those
--- of `types.Kit` and `types.Run`; these laws are the larger steps that every walk takes.
+-- Laws for walks by hand. A walk proves a function that the borrow checker does not cover, along its
+-- MIR (`rt check --generated FOLDER --start F` writes it): from what it is handed, statement by
+-- statement, to what its contract promises. Scripts are those of `types.Kit` and `types.Run`; these
+-- laws are the larger steps that every walk takes. No function needs one today.
 --
--- How to walk, in this order (`tracker/proofs/run_batch` is the example with a loop,
--- `library_batch/proofs/tracker_run` the one of three calls in a row):
+-- How to walk, in this order:
 --   1. The structs of the signature as `Data.struct`; a number is `Data.number`.
 --   2. The parameters as `Meeting.Params` (`by_value`, `shared`, `kept`, `given`; `shared_ref`,
 --      `kept_ref`, `given_ref`), and as a record of values, `Lending`s and `RefLending`s; what is

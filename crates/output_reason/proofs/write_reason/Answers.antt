@@ -9,39 +9,35 @@ use borrow.Author.Tests.{le-leb, lt-leb}
 use Rattle.output_lines.specs.Promises.{written_to}
 use Rattle.output_reason.specs.Reason.{reason_room, reason_line}
 use Rattle.output_reason.proofs.ReasonLaws.{reason_few}
-use Rattle.output_reason.proofs.write_reason.Statement.{statement}
-use Rattle.output_reason.proofs.write_reason.Tie as tie
-
-returns : tie.Need-returns
-returns c =
-    let out = c.before.before.args.out.now in
-    record { is = rw (lt-leb reason_room (length out) c.if1.true) }
+use Rattle.output_reason.proofs.write_reason.Goals as goal
+use Rattle.output_reason.proofs.write_reason.Goals.{Else-out-lt-REASON_BYTES}
 
 -- There is room for any line, and so for this one.
-fits : (c : tie.Else1)
-    → let args = c.before.before.args in
+fits : (c : Else-out-lt-REASON_BYTES)
+    → let args = c.args in
     length (reason_line args.line args.refusal) ≤ length args.out.now
 fits c =
-    let args = c.before.before.args in
+    let args = c.args in
     let line_small : args.line < 2 ^ 64 = search rules in
     let small : args.refusal < 2 ^ 64 = search rules in
-    omega (arith, reason_few args.line args.refusal line_small small, c.if1.false)
+    omega (arith, reason_few args.line args.refusal line_small small, c.if-out-lt-REASON_BYTES.false)
 
-put_reason_requires : tie.Need-put_reason-requires
-put_reason_requires c κs = fits c.before
+pub returns-then-out-lt-REASON_BYTES : goal.returns-then-out-lt-REASON_BYTES
+returns-then-out-lt-REASON_BYTES c =
+    let out = c.args.out.now in
+    record { is = rw (lt-leb reason_room (length out) c.if-out-lt-REASON_BYTES.true) }
 
-returns_2 : tie.Need-returns-2
-returns_2 c =
-    let args = c.before.before.before.before.before.before.args in
-    let put = c.before.before.put_reason.ensures in
+pub put_reason-requires : goal.put_reason-requires
+put_reason-requires c = fits (goal.at.put_reason-requires c).Else-out-lt-REASON_BYTES
+
+pub returns : goal.returns
+returns c =
+    let args = c.args in
+    let put = c.put_reason.ensures in
     let line = reason_line args.line args.refusal in
     let length_is = put.place_after ∙ zero-add (length line) in
-    let long = c.before.before.before.before.if1.false in
+    let long = c.if-out-lt-REASON_BYTES.false in
     record {
       is = rw (le-leb reason_room (length args.out.now) long)
           (λ i. written_to (length_is i) (put.out i));
     }
-
-pub write_reason_spec : {M : Type 1} → statement M
-write_reason_spec =
-    tie.close (tie.spec returns put_reason_requires (λ c. search rules) returns_2)

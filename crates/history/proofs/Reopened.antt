@@ -43,14 +43,14 @@ use Rattle.history.proofs.MachineNumbers.{of_machine}
 pub record ReadBack
     (settings : Settings)
     (held : Held)
-    (site_memory coordinator_memory site_after coordinator_after : List ℕ)
+    (site_before coordinator_before site_after coordinator_after : List ℕ)
     (loaded : Loaded) : Type 0 where
   pub settings_are : loaded.settings ≡ settings
   pub sites_are : loaded.sites ≡ (closed settings held).sites
   pub coordinator_is : loaded.coordinator ≡ held.coordinator
-  pub site_memory : site_after ≡ front_in (sites_words settings) held.site_memory site_memory
+  pub site_memory : site_after ≡ front_in (sites_words settings) held.site_memory site_before
   pub coordinator_memory : coordinator_after
-      ≡ front_in (coordinator_words settings) held.coordinator_memory coordinator_memory
+      ≡ front_in (coordinator_words settings) held.coordinator_memory coordinator_before
 
 -- Numbers written over a memory, by how many they are.
 overwrite_is : (words : ℕ) (numbers memory : List ℕ)

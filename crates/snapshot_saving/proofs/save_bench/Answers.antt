@@ -52,7 +52,7 @@ long : (c : Else-refusal-ne-NO_REFUSAL)
     held_by a.sites a.coordinator a.site_memory.now a.coordinator_memory.now))
 long c =
     let all : length c.args.sites.records ≡ 32 =
-    sym (length-map c.args.sites.records _) ∙ c.well_formed.1.0.1.1.0.1.0.1 in
+    c.well_formed.1.0.1.1.0.1.0.1 in
     let all_counts : length c.args.sites.messages ≡ 32 = search rules in
     record {
       records_enough = omega (

@@ -11,20 +11,19 @@
 --   standing_quiet, standing_sent    after it, without messages and with them
 --   standing_done, standing_stopped  the end: no arrival is left, or one was refused
 use mathlib.Core.Path.{◌≡◌, refl, ap, ◌∙◌, subst, subst⁻¹}
-use mathlib.Core.List.{List, [], ◌∷◌}
+use mathlib.Core.List.{List, ◌∷◌}
 use Prim.Native.Nat.{ℕ, suc, ◌+◌, ◌^◌, ◌≤◌, ◌<◌}
 use native.Mathlib.Omega.{arith}
-use lib.ListN.{length, get_or, set, drop}
+use lib.ListN.{length, get_or, drop}
 use lib.Seq.{drop-cons}
 use Rattle.std.proofs.Common.{drop_of_length-le}
-use Rattle.model.specs.declared.Settings.{Settings}
 use Rattle.model.specs.declared.Arrival.{Arrival}
 use Rattle.model.specs.declared.SiteRecord.{SiteRecord}
 use Rattle.model.specs.Refusals.{no_refusal}
 use Rattle.model.specs.Held.{no_record}
 use Rattle.tracker_delivery.specs.declared.Ended.{Ended}
 use Rattle.tracker_delivery.specs.UnderwayParts.{resting, ended_of}
-use Rattle.tracker_delivery.specs.Holding.{Carrying, carrying}
+use Rattle.tracker_delivery.specs.Holding.{carrying}
 use Rattle.tracker_delivery.specs.Arriving.{MessagesAsk}
 use Rattle.tracker_steps.specs.declared.BatchAnswer.{BatchAnswer}
 use Rattle.tracker_steps.specs.declared.Turn.{Turn}

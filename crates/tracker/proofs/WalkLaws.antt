@@ -154,7 +154,8 @@ walked_start call = by_refusal (ℕ_discrete (start_refusal call) 0)
     by_refusal (no some) = refused (record { start_refused = some; now_is = refl })
 
 -- The memory as the start's tests left it, which only read it.
-pub walked_open : (call : BatchCall) (answer : BatchAnswer) (site_memory coordinator_memory : List ℕ)
+pub walked_open : (call : BatchCall) (answer : BatchAnswer)
+    (site_memory coordinator_memory : List ℕ)
     → OpenBatchSays call.settings call.held.sites call.held.coordinator
     call.held.site_memory call.held.coordinator_memory answer site_memory coordinator_memory
     → Walked call call.arrivals (batch_held answer site_memory coordinator_memory call.log)

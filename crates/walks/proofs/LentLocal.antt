@@ -16,7 +16,8 @@ use types.SemTy.{Body}
 module _ (R : RattleType) (ℓ : Lifetime) (κ : Lft) (q : Share) (b o : ℕ) where
   abbrev pub Lent : ℕ → GName → R.Denot → Fml
   Lent ν δ h =
-      (MutRef ℓ (ν ∷ κ) R).own_val (record { ref_ptr = (b, o); ghost_name = δ; now = h }) (vptr b o ∷ [])
+      (MutRef ℓ (ν ∷ κ) R).own_val (record { ref_ptr = (b, o); ghost_name = δ; now = h })
+      (vptr b o ∷ [])
 
   -- The way from the call's token to the whole token of ν, and the lender's part.
   abbrev pub Kept : {M : Type 1} {𝓤 : Ura M} (𝓛 : Logic 𝓤) → ℕ → GName

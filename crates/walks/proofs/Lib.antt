@@ -1,5 +1,5 @@
--- Laws for walks by hand. A walk proves a function that the borrow checker does not cover, along its
--- MIR (`rt check --generated FOLDER --start F` writes it): from what it is handed, statement by
+-- Laws for walks by hand. A walk proves a function that the borrow checker does not cover, along
+-- its MIR (`rt check --generated FOLDER --start F` writes it): from what it is handed, statement by
 -- statement, to what its contract promises. Scripts are those of `types.Kit` and `types.Run`; these
 -- laws are the larger steps that every walk takes. No function needs one today.
 --

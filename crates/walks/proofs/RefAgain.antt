@@ -31,7 +31,8 @@ module _ (R : RattleType) (e : RefLending R.Denot) where
       {Γ : List (Item 𝓤)} {G : Goal 𝓤 𝓛.H} where
     pub lends : K → Soaks G → (ℓ ℓ' : Lifetime) (x : R.Denot)
         → ((ν : ℕ) (δ : GName)
-        → Seq K 𝓛 (‵ (Again_ref ℓ' ν δ x) ∷ ‵ (Kept_ref ν δ x) ∷ ‵ (flft (ν ∷ []) full_share) ∷ Γ) G)
+        → Seq K 𝓛 (‵ (Again_ref ℓ' ν δ x) ∷ ‵ (Kept_ref ν δ x) ∷ ‵ (flft (ν ∷ []) full_share)
+        ∷ Γ) G)
         → Seq K 𝓛 (‵ (Held_ref ℓ x) ∷ ‵ (flft e.life e.share) ∷ Γ) G
     lends t z ℓ ℓ' x k = lft_new t z (λ ν. move t (1 ∷ 2 ∷ []) $
         use2 𝓛 (later (some (λ (δ : GName). ‵ (Again_ref ℓ' ν δ x) ⊛ ‵ (Kept_ref ν δ x))))

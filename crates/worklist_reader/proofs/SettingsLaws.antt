@@ -75,7 +75,8 @@ module _ (bytes : List ℕ) (first : ThreeRead)
         → read_fields 3 (drop first.next bytes) ≡ found
         → read_fields 6 bytes ≡ with_fields (three_values first) found
     by_second found here =
-        by_first _ (three_found Reads-first found_first) ∙ ap (with_fields (three_values first)) here
+        by_first _ (three_found Reads-first found_first)
+        ∙ ap (with_fields (three_values first)) here
 
     pub settings_missing_second : second.found ≡ false → SettingsSays bytes no_settings
     settings_missing_second missing =

@@ -16,9 +16,10 @@ take_turn-turn-requires c =
 
 pub overflow_add-answer : goal.overflow_add-answer
 overflow_add-answer c =
-    record { fits =
-        accepted_fits c.loop-i.invariant (omega arith) c.loop-i-test.true
-        c.if-answer-eq-NO_REFUSAL.true c.place_of-which.ensures c.take_turn-turn.ensures
+    record {
+      fits =
+          accepted_fits c.loop-i.invariant (omega arith) c.loop-i-test.true
+          c.if-answer-eq-NO_REFUSAL.true c.place_of-which.ensures c.take_turn-turn.ensures;
     }
 
 pub deliver_turn-after-requires : goal.deliver_turn-after-requires
@@ -30,21 +31,23 @@ deliver_turn-after-requires c =
 pub loop-i-preserved : goal.loop-i-preserved
 loop-i-preserved c =
     elim c.if-turn-ne0.branch [
-    then-turn-ne0 w ↦
-    let sent = w.deliver_turn-after in
-    standing_at w.answer-is w.counts-is w.site_memory-is w.coordinator_memory-is w.log-is
-    (standing_sent c.loop-i.invariant (omega arith) c.loop-i-test.true
-    c.if-answer-eq-NO_REFUSAL.true c.place_of-which.ensures c.take_turn-turn.ensures
-    w.if-turn-ne0.true sent.result _ _ _ _ sent.ensures)
-    | else-turn-ne0 w ↦
-    standing_at w.answer-is w.counts-is w.site_memory-is w.coordinator_memory-is w.log-is
-    (standing_quiet c.loop-i.invariant (omega arith) c.loop-i-test.true
-    c.if-answer-eq-NO_REFUSAL.true c.place_of-which.ensures c.take_turn-turn.ensures
-    w.if-turn-ne0.false) ]
+      | then-turn-ne0 w ↦
+          let sent = w.deliver_turn-after in
+          standing_at w.answer-is w.counts-is w.site_memory-is w.coordinator_memory-is w.log-is
+          (standing_sent c.loop-i.invariant (omega arith) c.loop-i-test.true
+          c.if-answer-eq-NO_REFUSAL.true c.place_of-which.ensures c.take_turn-turn.ensures
+          w.if-turn-ne0.true sent.result _ _ _ _ sent.ensures)
+      | else-turn-ne0 w ↦
+          standing_at w.answer-is w.counts-is w.site_memory-is w.coordinator_memory-is w.log-is
+          (standing_quiet c.loop-i.invariant (omega arith) c.loop-i-test.true
+          c.if-answer-eq-NO_REFUSAL.true c.place_of-which.ensures c.take_turn-turn.ensures
+          w.if-turn-ne0.false)
+    ]
 
 pub returns : goal.returns
 returns c =
     elim c.loop-i-test.branch [
-    then-loop-i-test+else-answer-eq-NO_REFUSAL w ↦
-    standing_stopped c.loop-i.invariant w.if-answer-eq-NO_REFUSAL.false
-    | else-loop-i-test w ↦ standing_done c.loop-i.invariant (omega (arith, w.loop-i-test.false)) ]
+      | then-loop-i-test+else-answer-eq-NO_REFUSAL w ↦
+          standing_stopped c.loop-i.invariant w.if-answer-eq-NO_REFUSAL.false
+      | else-loop-i-test w ↦ standing_done c.loop-i.invariant (omega (arith, w.loop-i-test.false))
+    ]

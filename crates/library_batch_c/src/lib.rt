@@ -24,8 +24,10 @@ pub extern "C" fn tracker_run(
     log: &mut [u64],
     counts: &mut [u64; COUNTS_NUMBERS],
 ) -> u32
-    ensures { RunExported (lent settings) (lent decks) (lent desk) draws.now
-        (lent deck_memory) (lent desk_memory) (lent log) (lent counts) result }
+    ensures { RunExported (lent settings.now settings.now) (lent decks.old decks.new)
+        (lent desk.old desk.new) draws.now (lent deck_memory.old deck_memory.new)
+        (lent desk_memory.old desk_memory.new) (lent log.old log.new) (lent counts.old counts.new)
+        result }
 {
     library_batch::tracker_run(
         settings,

@@ -39,7 +39,8 @@ pub extern "C" fn tracker_start_deck(
     row: &mut [u64; SITE_NUMBERS],
     memory: &mut [Word],
 ) -> u32
-    ensures { StartDeckExported (lent settings) deck (lent row) (lent memory) result }
+    ensures { StartDeckExported (lent settings.now settings.now) deck (lent row.old row.new)
+        (lent memory.old memory.new) result }
 {
     library_deck::tracker_start_deck(settings, deck, row, memory)
 }
@@ -56,8 +57,9 @@ pub extern "C" fn tracker_deck_draw(
     out: &mut [u64; TWO_MESSAGES],
     count: &mut u32,
 ) -> u32
-    ensures { DeckDrawExported (lent settings) deck (lent row) (lent memory) code class
-        (lent out) (lent count) result }
+    ensures { DeckDrawExported (lent settings.now settings.now) deck (lent row.old row.new)
+        (lent memory.old memory.new) code class (lent out.old out.new) (lent count.old count.new)
+        result }
 {
     library_deck::tracker_deck_draw(settings, deck, row, memory, code, class, out, count)
 }
@@ -73,8 +75,9 @@ pub extern "C" fn tracker_deck_message(
     reply: &mut [u64; MESSAGE_WIDTH],
     count: &mut u32,
 ) -> u32
-    ensures { DeckMessageExported (lent settings) deck (lent row) (lent memory)
-        (lent message) (lent reply) (lent count) result }
+    ensures { DeckMessageExported (lent settings.now settings.now) deck (lent row.old row.new)
+        (lent memory.now memory.now) (lent message.now message.now) (lent reply.old reply.new)
+        (lent count.old count.new) result }
 {
     library_deck::tracker_deck_message(settings, deck, row, memory, message, reply, count)
 }
@@ -86,7 +89,8 @@ pub extern "C" fn tracker_start_decks(
     decks: &mut [u64; SITES_NUMBERS],
     memory: &mut [Word],
 ) -> u32
-    ensures { StartDecksExported (lent settings) (lent decks) (lent memory) result }
+    ensures { StartDecksExported (lent settings.now settings.now) (lent decks.old decks.new)
+        (lent memory.old memory.new) result }
 {
     library_decks::tracker_start_decks(settings, decks, memory)
 }
@@ -101,8 +105,9 @@ pub extern "C" fn tracker_decks_draw(
     out: &mut [u64; TWO_MESSAGES],
     count: &mut u32,
 ) -> u32
-    ensures { DecksDrawExported (lent settings) (lent decks) (lent memory) (lent draw)
-        (lent out) (lent count) result }
+    ensures { DecksDrawExported (lent settings.now settings.now) (lent decks.old decks.new)
+        (lent memory.old memory.new) (lent draw.now draw.now) (lent out.old out.new)
+        (lent count.old count.new) result }
 {
     library_decks::tracker_decks_draw(settings, decks, memory, draw, out, count)
 }
@@ -117,8 +122,9 @@ pub extern "C" fn tracker_decks_message(
     reply: &mut [u64; MESSAGE_WIDTH],
     count: &mut u32,
 ) -> u32
-    ensures { DecksMessageExported (lent settings) (lent decks) (lent memory)
-        (lent message) (lent reply) (lent count) result }
+    ensures { DecksMessageExported (lent settings.now settings.now) (lent decks.old decks.new)
+        (lent memory.now memory.now) (lent message.now message.now) (lent reply.old reply.new)
+        (lent count.old count.new) result }
 {
     library_decks::tracker_decks_message(settings, decks, memory, message, reply, count)
 }
@@ -130,7 +136,8 @@ pub extern "C" fn tracker_start_desk(
     desk: &mut [u64; COORDINATOR_NUMBERS],
     memory: &mut [u64],
 ) -> u32
-    ensures { StartDeskExported (lent settings) (lent desk) (lent memory) result }
+    ensures { StartDeskExported (lent settings.now settings.now) (lent desk.old desk.new)
+        (lent memory.old memory.new) result }
 {
     library_desk::tracker_start_desk(settings, desk, memory)
 }
@@ -145,8 +152,9 @@ pub extern "C" fn tracker_desk_message(
     out: &mut [u64; MESSAGE_WIDTH],
     count: &mut u32,
 ) -> u32
-    ensures { DeskMessageExported (lent settings) (lent desk) (lent memory) (lent message)
-        (lent out) (lent count) result }
+    ensures { DeskMessageExported (lent settings.now settings.now) (lent desk.old desk.new)
+        (lent memory.old memory.new) (lent message.now message.now) (lent out.old out.new)
+        (lent count.old count.new) result }
 {
     library_desk::tracker_desk_message(settings, desk, memory, message, out, count)
 }
@@ -159,8 +167,8 @@ pub extern "C" fn tracker_desk_announcement(
     memory: &[u64],
     out: &mut [u64; MESSAGE_WIDTH],
 ) -> u32
-    ensures { AnnouncementExported (lent settings) (lent desk) (lent memory) (lent out)
-        result }
+    ensures { AnnouncementExported (lent settings.now settings.now) (lent desk.old desk.new)
+        (lent memory.now memory.now) (lent out.old out.new) result }
 {
     library_desk::tracker_desk_announcement(settings, desk, memory, out)
 }
@@ -174,8 +182,8 @@ pub extern "C" fn tracker_desk_list(
     codes: &mut [u32],
     count: &mut usize,
 ) -> u32
-    ensures { ListExported (lent settings) (lent desk) (lent memory) (lent codes)
-        (lent count) result }
+    ensures { ListExported (lent settings.now settings.now) (lent desk.now desk.now)
+        (lent memory.now memory.now) (lent codes.old codes.new) (lent count.old count.new) result }
 {
     library_reading::tracker_desk_list(settings, desk, memory, codes, count)
 }
@@ -189,8 +197,8 @@ pub extern "C" fn tracker_desk_margin(
     code: u32,
     margin: &mut i64,
 ) -> u32
-    ensures { MarginExported (lent settings) (lent desk) (lent memory) code (lent margin)
-        result }
+    ensures { MarginExported (lent settings.now settings.now) (lent desk.now desk.now)
+        (lent memory.now memory.now) code (lent margin.old margin.new) result }
 {
     library_reading::tracker_desk_margin(settings, desk, memory, code, margin)
 }
@@ -203,7 +211,8 @@ pub extern "C" fn tracker_desk_class(
     memory: &[u64],
     class: &mut u32,
 ) -> u32
-    ensures { ClassExported (lent settings) (lent desk) (lent memory) (lent class) result }
+    ensures { ClassExported (lent settings.now settings.now) (lent desk.now desk.now)
+        (lent memory.now memory.now) (lent class.old class.new) result }
 {
     library_reading::tracker_desk_class(settings, desk, memory, class)
 }
@@ -219,8 +228,10 @@ pub extern "C" fn tracker_deliver(
     draw: &[u32; ARRIVAL_NUMBERS],
     delivery: &mut [u64; DELIVERY_NUMBERS],
 ) -> u32
-    ensures { DeliveryExported (lent settings) (lent decks) (lent desk)
-        (lent deck_memory) (lent desk_memory) (lent draw) (lent delivery) result }
+    ensures { DeliveryExported (lent settings.now settings.now) (lent decks.old decks.new)
+        (lent desk.old desk.new) (lent deck_memory.old deck_memory.new)
+        (lent desk_memory.old desk_memory.new) (lent draw.now draw.now)
+        (lent delivery.old delivery.new) result }
 {
     library_delivery::tracker_deliver(
         settings,
@@ -236,7 +247,8 @@ pub extern "C" fn tracker_deliver(
 // How many bytes a file has, by the settings alone.
 #[unsafe(no_mangle)]
 pub extern "C" fn tracker_file_length(settings: &[u32; SETTINGS_NUMBERS], length: &mut usize) -> u32
-    ensures { FileLengthExported (lent settings) (lent length) result }
+    ensures { FileLengthExported (lent settings.now settings.now) (lent length.old length.new)
+        result }
 {
     library_snapshot::tracker_file_length(settings, length)
 }
@@ -252,8 +264,10 @@ pub extern "C" fn tracker_save(
     bytes: &mut [u8],
     length: &mut usize,
 ) -> u32
-    ensures { SaveExported (lent settings) (lent decks) (lent desk)
-        (lent deck_memory) (lent desk_memory) (lent bytes) (lent length) result }
+    ensures { SaveExported (lent settings.now settings.now) (lent decks.now decks.now)
+        (lent desk.now desk.now) (lent deck_memory.now deck_memory.now)
+        (lent desk_memory.now desk_memory.now) (lent bytes.old bytes.new)
+        (lent length.old length.new) result }
 {
     library_snapshot::tracker_save(
         settings,
@@ -276,8 +290,9 @@ pub extern "C" fn tracker_load(
     deck_memory: &mut [Word],
     desk_memory: &mut [u64],
 ) -> u32
-    ensures { LoadExported (lent file) (lent settings) (lent decks) (lent desk)
-        (lent deck_memory) (lent desk_memory) result }
+    ensures { LoadExported (lent file.now file.now) (lent settings.old settings.new)
+        (lent decks.old decks.new) (lent desk.old desk.new) (lent deck_memory.old deck_memory.new)
+        (lent desk_memory.old desk_memory.new) result }
 {
     library_snapshot::tracker_load(file, settings, decks, desk, deck_memory, desk_memory)
 }

@@ -4,36 +4,43 @@
 # target/sums/libsums_plain.a, compiled without vector instructions, its names with plain_ before
 # them.
 #
-# rt has no word for that: the second is made with a kit of links to the kit's files, whose clang is
-# told not to use them.
+# rt has no word for that: the second is built by the kit's own prover, over the libraries that the
+# first was built over, with a clang that is told not to use them.
 set -eu
 cd "$(dirname "$0")/.."
 kit=$(dirname "$(dirname "$(readlink -f "$(command -v rt)")")")
-own=on/$(uname -m)
+crate=crates/checksum_singly_c
 made=target/staticlib/libchecksum_singly.a
-rt check checksum_singly 2>&1 | tail -n 1
+mkdir -p target/staticlib target/sums
+(cd "$crate" && rt lib 2>&1) | tail -n 1
+# Every function begins at a multiple of 64 bytes, as in libtracker.a.
+objcopy --set-section-alignment '.text.*=64' "$crate/out/libchecksum_singly_c.a" "$made"
 
 plain=$(mktemp -d)
 trap 'rm -rf "$plain"' EXIT
-mkdir -p "$plain/$own/toolchain/bin" target/sums
-for file in "$kit"/*; do [ "${file##*/}" = on ] || ln -s "$file" "$plain/"; done
-for file in "$kit/$own"/*; do [ "${file##*/}" = toolchain ] || ln -s "$file" "$plain/$own/"; done
-ln -s "$kit/$own/toolchain/lib" "$plain/$own/toolchain/"
-for tool in ld.lld llvm-ar; do
-  ln -s "$kit/$own/toolchain/bin/$tool" "$plain/$own/toolchain/bin/"
+mkdir -p "$plain/bin"
+ln -s "$kit/toolchain/lib" "$plain/lib"
+for tool in "$kit/toolchain/bin"/*; do
+  [ "${tool##*/}" = clang ] || ln -s "$tool" "$plain/bin/"
 done
-printf '#!/bin/sh\nexec %s "$@" -fno-vectorize -fno-slp-vectorize\n' \
-  "$kit/$own/toolchain/bin/clang" >"$plain/$own/toolchain/bin/clang"
-chmod +x "$plain/$own/toolchain/bin/clang"
+printf '#!/bin/sh\nexec %s "$@" -fno-vectorize -fno-slp-vectorize\n' "$kit/toolchain/bin/clang" \
+  >"$plain/bin/clang"
+chmod +x "$plain/bin/clang"
 
-# Every function begins at a multiple of 64 bytes, as in libtracker.a.
-RATTLE_HOME=$plain rt staticlib checksum_singly >/dev/null 2>&1
-objcopy --prefix-symbols=plain_ --set-section-alignment '.text.*=64' "$made" \
+words=()
+for library in core io libc os std; do words+=(--extern "$library=$kit/rlibs/$library.rlib"); done
+for library in checksum checksum_singly; do
+  words+=(--extern "$library=$PWD/crates/$library/out/rlib/$library.rlib")
+done
+for folder in "$kit/rlibs" "$PWD"/crates/*/out/rlib; do words+=(-L "dependency=$folder"); done
+(cd "$crate" && "$kit/bin/rattle" build --crate-name checksum_singly_c src/lib.rt "${words[@]}" \
+  --antt-project "$kit/rattle/logic/antt-project.json" --logic-built "$kit/logic_built" --jobs 1 \
+  --links checksum_singly_c= --crate-type staticlib --toolchain "$plain" --backend llvm \
+  -o "$plain/plain.a" 2>&1) | tail -n 1
+objcopy --prefix-symbols=plain_ --set-section-alignment '.text.*=64' "$plain/plain.a" \
   target/sums/libsums_plain.a
 if objdump -d target/sums/libsums_plain.a | grep -q '%[xyz]mm'; then
   echo "the plain sums use vector instructions" >&2
   exit 1
 fi
-rt staticlib checksum_singly >/dev/null 2>&1
-objcopy --set-section-alignment '.text.*=64' "$made"
 echo "$made and target/sums/libsums_plain.a"

@@ -1,24 +1,20 @@
 #!/usr/bin/env bash
-# build.sh [join]: the product's archives, from any current folder.
+# build.sh [join]: makes the product's archives, from any current folder.
 #
-# Proves and compiles the crates below, two at a time, and joins what they export into
-# target/library/libtracker.a; libcontroller.a, with its three calls, comes beside it. The archive
-# of the sums that tests and benchmarks compare (request N4) is made too, and stays in
-# target/staticlib. With `join` the archives that stand there are joined as they are, without a
-# proof: for whoever has just proved them. The last line is 'N passed, M failed': one for each
-# crate, and three for the joined archives.
+# Proves the crates below with all that they stand on, compiles them (crates/NAME/out/libNAME.a),
+# and joins what they export into target/library/libtracker.a; libcontroller.a, with its three
+# calls, comes beside it. The archive of the sums that tests and benchmarks compare (request N4) is
+# made too, and stays in target/staticlib. With `join` the archives that stand in target/staticlib
+# are joined as they are, without a proof: for whoever has just proved them. The last line is
+# 'N passed, M failed': one for each crate, and three for the joined archives.
 set -u
 export LC_ALL=C
 cd "$(dirname "$0")/.." || exit 1
 
-# Those that are made here, and those that are made beside them, in a tree of their own: each run
-# of `rt` writes 'failed' to target/log before it looks at a crate, so a second run in the same tree
-# may take a proved crate for a failed one.
-here="library_decks library_desk library_deck controller"
-beside="library_batch library_delivery library_reading library_snapshot library_lengths"
-crates="$here $beside"
+# Static libraries that only export: each stands on the libraries whose calls it passes on.
+crates="controller_c tracker_c library_batch_c"
 # For tests and benchmarks, joined to nothing.
-apart="checksum_singly"
+apart="checksum_singly_c"
 headers=library/include
 made=target/staticlib
 out=target/library
@@ -33,64 +29,41 @@ finish() {
   exit
 }
 
-for tool in rt ld objcopy ar nm; do
+for tool in rt ld objcopy ar nm nproc; do
   command -v "$tool" >/dev/null || fail "no $tool on this machine"
 done
 [ "$failed" -eq 0 ] || finish
 
-# prove TREE CRATE: the last line of a proof counts what it assumes, if anything: a library assumes
-# nothing.
+# How many crates are proved at once: one for each processor, and for each 3 GB of memory.
+at_once=$(awk '/^MemAvailable:/ { print int($2 / 3000000) }' /proc/meminfo)
+[ "$at_once" -lt "$(nproc)" ] || at_once=$(nproc)
+[ "$at_once" -gt 0 ] || at_once=1
+
+# prove CRATE: first all that it stands on, side by side. The last line of a proof counts what it
+# assumes, if anything: a library assumes nothing. Archives lose the end of their crate's name.
 prove() {
   local log status verdict started=$SECONDS
   log=$(mktemp)
-  (cd "$1" && rt staticlib "$2") >"$log" 2>&1
+  if ! (cd "crates/$1" && rt all check --jobs "$at_once") >"$log" 2>&1; then
+    fail "what $1 stands on is not proved"
+    grep -E 'error|^fn .*: no|: failed|: not run' "$log" | head -n 20
+    rm -f "$log"
+    return
+  fi
+  (cd "crates/$1" && rt lib) >"$log" 2>&1
   status=$?
   verdict=$(grep -E '^logic=' "$log" | tail -n 1)
-  case "$status $verdict" in
-    *axioms=* | *foreign=*) fail "lib$2.a assumes contracts: $verdict" ;;
-    "0 logic=proved "*) pass; echo "lib$2.a, $((SECONDS - started)) s: $verdict" ;;
-    *) fail "rt staticlib $2 (exit $status): $verdict"; tail -n 20 "$log" ;;
+  assumed=$(grep -E '^axioms ' "$log" | grep -v ': none reached')
+  case "$status $verdict $assumed" in
+    *axioms=* | *foreign=* | *axioms\ *) fail "lib$1.a assumes contracts: $verdict $assumed" ;;
+    "0 logic=proved "*)
+      mkdir -p "$made" && cp "crates/$1/out/lib$1.a" "$made/lib${1%_c}.a" || return
+      pass
+      echo "lib$1.a, $((SECONDS - started)) s: $verdict"
+      ;;
+    *) fail "rt lib in crates/$1 (exit $status): $verdict"; tail -n 20 "$log" ;;
   esac
   rm -f "$log"
-}
-
-# A second tree: the same crates, and what is proved of them to read.
-second_tree() {
-  second=$(mktemp -d) && trap 'rm -rf "$second"' EXIT &&
-    mkdir "$second/target" && cp crates.txt "$second/" && cp -R target/stamp "$second/target/" &&
-    ln -s "$PWD/crates" "$second/crates" && ln -s "$PWD/target/rlib" "$second/target/rlib"
-}
-
-prove_all() {
-  local crate log ok bad
-  echo "proving what the library stands on"
-  log=$(mktemp)
-  # shellcheck disable=SC2086
-  if ! rt check $crates $apart >"$log" 2>&1; then
-    fail "rt check: $(grep -E '^rt: FAILED' "$log")"
-    grep -E 'error' "$log" | head -n 20
-  fi
-  rm -f "$log"
-  [ "$failed" -eq 0 ] || return
-  second_tree || { fail "no second tree could be made"; return; }
-  echo "proving once more and compiling $crates $apart"
-  (
-    passed=0
-    failed=0
-    for crate in $beside; do prove "$second" "$crate"; done
-    echo "$passed $failed" >"$second/counts"
-  ) >"$second/said" 2>&1 &
-  for crate in $here $apart; do prove . "$crate"; done
-  wait
-  cat "$second/said"
-  if read -r ok bad <"$second/counts"; then
-    passed=$((passed + ok))
-    failed=$((failed + bad))
-  else
-    fail "the second tree came to no end"
-  fi
-  mkdir -p "$made"
-  for crate in $beside; do mv "$second/target/staticlib/lib$crate.a" "$made/" || return; done
 }
 
 # An archive of an earlier run is never taken for this one's.
@@ -99,7 +72,9 @@ rm -f "$out/libtracker.a" "$out/libcontroller.a"
 if [ "${1-}" = join ]; then
   echo "joining what stands in $made, proved or not"
 else
-  prove_all
+  for crate in $crates $apart; do rm -f "$made/lib${crate%_c}.a"; done
+  echo "proving what the library stands on, and compiling $crates $apart"
+  for crate in $crates $apart; do prove "$crate"; done
 fi
 [ "$failed" -eq 0 ] || finish
 
@@ -117,7 +92,8 @@ asked() { nm --undefined-only "$1" | awk 'NF == 2 { print $2 }' | sort -u; }
 aligned() {
   local crate
   for crate in $crates; do
-    objcopy --set-section-alignment '.text.*=64' "$made/lib$crate.a" "$out/parts/$crate.a" || return
+    objcopy --set-section-alignment '.text.*=64' "$made/lib${crate%_c}.a" \
+      "$out/parts/$crate.a" || return
   done
 }
 rm -rf "$out/parts"

@@ -1,4 +1,4 @@
-// Links the proved sums, which `rt staticlib checksum_singly` makes before the tests.
+// Links the proved sums, which `bash library/build.sh` makes before the tests.
 use std::path::Path;
 
 fn main() {

@@ -11,8 +11,7 @@ use checksum::{SUM_RANGE, byte_sum, sum_taken};
 use little_endian::wide;
 
 // The sum of all bytes, byte by byte.
-#[unsafe(no_mangle)]
-pub extern "C" fn byte_sum_singly(bytes: &[u8]) -> u64
+pub fn byte_sum_singly(bytes: &[u8]) -> u64
     ensures { result ≡ byte_sum bytes.now }
 {
     let mut sum: u64 = 0;
@@ -25,32 +24,28 @@ pub extern "C" fn byte_sum_singly(bytes: &[u8]) -> u64
 }
 
 // The same as a file holds it, in two bytes: the compiler may then take several bytes at once.
-#[unsafe(no_mangle)]
-pub extern "C" fn byte_sum_singly_held(bytes: &[u8]) -> u16
+pub fn byte_sum_singly_held(bytes: &[u8]) -> u16
     ensures { result ≡ byte_sum bytes.now }
 {
     byte_sum_singly(bytes) as u16
 }
 
 // The sum of all bytes, by words.
-#[unsafe(no_mangle)]
-pub extern "C" fn byte_sum_by_words(bytes: &[u8]) -> u64
+pub fn byte_sum_by_words(bytes: &[u8]) -> u64
     ensures { result ≡ byte_sum bytes.now }
 {
     byte_sum(bytes)
 }
 
 // The same as a file holds it, in two bytes.
-#[unsafe(no_mangle)]
-pub extern "C" fn byte_sum_by_words_held(bytes: &[u8]) -> u16
+pub fn byte_sum_by_words_held(bytes: &[u8]) -> u16
     ensures { result ≡ byte_sum bytes.now }
 {
     byte_sum(bytes) as u16
 }
 
 // The sum of all bytes by words, and how it was taken.
-#[unsafe(no_mangle)]
-pub extern "C" fn byte_sum_taken(bytes: &[u8], rounds: &mut usize, singles: &mut usize) -> u64
+pub fn byte_sum_taken(bytes: &[u8], rounds: &mut usize, singles: &mut usize) -> u64
     ensures { TakenExported bytes.now result rounds.new singles.new }
 {
     let taken = sum_taken(bytes);
@@ -60,8 +55,7 @@ pub extern "C" fn byte_sum_taken(bytes: &[u8], rounds: &mut usize, singles: &mut
 }
 
 // Whether both sums are equal: of whatever bytes, they are.
-#[unsafe(no_mangle)]
-pub extern "C" fn byte_sums_agree(bytes: &[u8]) -> bool
+pub fn byte_sums_agree(bytes: &[u8]) -> bool
     ensures { result ≡ true }
 {
     byte_sum(bytes) == byte_sum_singly(bytes)

@@ -32,8 +32,7 @@ fn settings_from(
 }
 
 // The settings test: 0, or refusal 1, 2 or 3.
-#[unsafe(no_mangle)]
-pub extern "C" fn tracker_test_settings(
+pub fn tracker_test_settings(
     sites: u32,
     epsilon: u32,
     phi: u32,
@@ -47,8 +46,7 @@ pub extern "C" fn tracker_test_settings(
 }
 
 // The allowance of `arrivals` draws into `messages`, or the refusal of the settings.
-#[unsafe(no_mangle)]
-pub extern "C" fn tracker_allowance(
+pub fn tracker_allowance(
     sites: u32,
     epsilon: u32,
     phi: u32,
@@ -70,8 +68,7 @@ pub extern "C" fn tracker_allowance(
 }
 
 // The line test: deck, code and class of the first line and the bytes it takes, or refusal 13.
-#[unsafe(no_mangle)]
-pub extern "C" fn tracker_test_line(
+pub fn tracker_test_line(
     bytes: &[u8],
     site: &mut u32,
     item: &mut u32,

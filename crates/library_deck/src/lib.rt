@@ -25,8 +25,7 @@ fn hand_site(refusal: u32, site: SiteRecord, row: &mut [u64; SITE_NUMBERS])
 }
 
 // `site_start::start_site`.
-#[unsafe(no_mangle)]
-pub extern "C" fn tracker_start_deck(
+pub fn tracker_start_deck(
     settings: &[u32; SETTINGS_NUMBERS],
     deck: u32,
     row: &mut [u64; SITE_NUMBERS],
@@ -41,8 +40,7 @@ pub extern "C" fn tracker_start_deck(
 }
 
 // `site::observe`, of a draw that names this deck.
-#[unsafe(no_mangle)]
-pub extern "C" fn tracker_deck_draw(
+pub fn tracker_deck_draw(
     settings: &[u32; SETTINGS_NUMBERS],
     deck: u32,
     row: &mut [u64; SITE_NUMBERS],
@@ -70,8 +68,7 @@ pub extern "C" fn tracker_deck_draw(
 }
 
 // `site::receive`.
-#[unsafe(no_mangle)]
-pub extern "C" fn tracker_deck_message(
+pub fn tracker_deck_message(
     settings: &[u32; SETTINGS_NUMBERS],
     deck: u32,
     row: &mut [u64; SITE_NUMBERS],

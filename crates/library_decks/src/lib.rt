@@ -20,8 +20,7 @@ use record_numbers::{
 use site_numbers::{SITES_NUMBERS, site_at, sites_row, store_site};
 
 // `site_start::start_sites`.
-#[unsafe(no_mangle)]
-pub extern "C" fn tracker_start_decks(
+pub fn tracker_start_decks(
     settings: &[u32; SETTINGS_NUMBERS],
     decks: &mut [u64; SITES_NUMBERS],
     memory: &mut [Word],
@@ -92,8 +91,7 @@ fn draw_at(
 }
 
 // A draw at the deck that it names.
-#[unsafe(no_mangle)]
-pub extern "C" fn tracker_decks_draw(
+pub fn tracker_decks_draw(
     settings: &[u32; SETTINGS_NUMBERS],
     decks: &mut [u64; SITES_NUMBERS],
     memory: &mut [Word],
@@ -139,8 +137,7 @@ fn message_at(
 }
 
 // A message at the deck that it names.
-#[unsafe(no_mangle)]
-pub extern "C" fn tracker_decks_message(
+pub fn tracker_decks_message(
     settings: &[u32; SETTINGS_NUMBERS],
     decks: &mut [u64; SITES_NUMBERS],
     memory: &[Word],

@@ -34,8 +34,7 @@ fn hand_delivery(
 }
 
 // `single_delivery::deliver_arrival`.
-#[unsafe(no_mangle)]
-pub extern "C" fn tracker_deliver(
+pub fn tracker_deliver(
     settings: &[u32; SETTINGS_NUMBERS],
     decks: &mut [u64; SITES_NUMBERS],
     desk: &mut [u64; COORDINATOR_NUMBERS],

@@ -36,8 +36,7 @@ fn hand_one(refusal: u32, message: Message, out: &mut [u64; MESSAGE_WIDTH])
 }
 
 // `coordinator::start_coordinator`.
-#[unsafe(no_mangle)]
-pub extern "C" fn tracker_start_desk(
+pub fn tracker_start_desk(
     settings: &[u32; SETTINGS_NUMBERS],
     desk: &mut [u64; COORDINATOR_NUMBERS],
     memory: &mut [u64],
@@ -51,8 +50,7 @@ pub extern "C" fn tracker_start_desk(
 }
 
 // `coordinator::receive`.
-#[unsafe(no_mangle)]
-pub extern "C" fn tracker_desk_message(
+pub fn tracker_desk_message(
     settings: &[u32; SETTINGS_NUMBERS],
     desk: &mut [u64; COORDINATOR_NUMBERS],
     memory: &mut [u64],
@@ -77,8 +75,7 @@ pub extern "C" fn tracker_desk_message(
 }
 
 // `coordinator::next_announcement`.
-#[unsafe(no_mangle)]
-pub extern "C" fn tracker_desk_announcement(
+pub fn tracker_desk_announcement(
     settings: &[u32; SETTINGS_NUMBERS],
     desk: &mut [u64; COORDINATOR_NUMBERS],
     memory: &[u64],

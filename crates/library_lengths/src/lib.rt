@@ -48,8 +48,7 @@ fn lengths_of(settings: Settings) -> [u64; LENGTHS]
 }
 
 // The lengths of all that is lent go to `lengths`, or the refusal of the settings.
-#[unsafe(no_mangle)]
-pub extern "C" fn tracker_test_lengths(
+pub fn tracker_test_lengths(
     settings: &[u32; SETTINGS_NUMBERS],
     lengths: &mut [u64; LENGTHS],
 ) -> u32

@@ -14,8 +14,7 @@ use record_numbers::{SETTINGS_NUMBERS, settings_from};
 pub const NO_CLASS: u32 = 4294967295;
 
 // `coordinator_list::list_heavy_hitters`.
-#[unsafe(no_mangle)]
-pub extern "C" fn tracker_desk_list(
+pub fn tracker_desk_list(
     settings: &[u32; SETTINGS_NUMBERS],
     desk: &[u64; COORDINATOR_NUMBERS],
     memory: &[u64],
@@ -38,8 +37,7 @@ pub extern "C" fn tracker_desk_list(
 }
 
 // `coordinator_reading::read_margin`.
-#[unsafe(no_mangle)]
-pub extern "C" fn tracker_desk_margin(
+pub fn tracker_desk_margin(
     settings: &[u32; SETTINGS_NUMBERS],
     desk: &[u64; COORDINATOR_NUMBERS],
     memory: &[u64],
@@ -73,8 +71,7 @@ fn class_number(quantile: Quantile) -> u32
 }
 
 // `coordinator_reading::read_quantile`.
-#[unsafe(no_mangle)]
-pub extern "C" fn tracker_desk_class(
+pub fn tracker_desk_class(
     settings: &[u32; SETTINGS_NUMBERS],
     desk: &[u64; COORDINATOR_NUMBERS],
     memory: &[u64],

@@ -15,8 +15,7 @@ use site_numbers::{SITES_NUMBERS, sites_from, sites_row};
 use snapshot_file::{Loaded, Saved};
 
 // How many bytes a file has, by the settings alone.
-#[unsafe(no_mangle)]
-pub extern "C" fn tracker_file_length(settings: &[u32; SETTINGS_NUMBERS], length: &mut usize) -> u32
+pub fn tracker_file_length(settings: &[u32; SETTINGS_NUMBERS], length: &mut usize) -> u32
     ensures { FileLengthExported (lent settings.now settings.now) (lent length.old length.new) result }
 {
     let rules = settings_from(settings);
@@ -37,8 +36,7 @@ fn hand_length(saved: Saved, length: &mut usize)
 }
 
 // `snapshot_saving::save_bench`.
-#[unsafe(no_mangle)]
-pub extern "C" fn tracker_save(
+pub fn tracker_save(
     settings: &[u32; SETTINGS_NUMBERS],
     decks: &[u64; SITES_NUMBERS],
     desk: &[u64; COORDINATOR_NUMBERS],
@@ -96,8 +94,7 @@ fn hand_bench(
 }
 
 // `snapshot_loading::load_bench`.
-#[unsafe(no_mangle)]
-pub extern "C" fn tracker_load(
+pub fn tracker_load(
     file: &[u8],
     settings: &mut [u32; SETTINGS_NUMBERS],
     decks: &mut [u64; SITES_NUMBERS],

@@ -47,9 +47,9 @@ fn below_root(path: &str) -> PathBuf {
     Path::new(env!("CARGO_MANIFEST_DIR")).join("../..").join(path)
 }
 
-/// Where the gate leaves the proved program, which has no exit status.
+/// Where `bash examples/run.sh` leaves the proved program, which has no exit status.
 pub fn proved_program() -> PathBuf {
-    below_root("target/bin/drawtrack")
+    below_root("crates/drawtrack/out/drawtrack")
 }
 
 /// Where library/drawtrack/build.sh leaves the same run under a `main` of C.
@@ -77,7 +77,7 @@ pub fn run(program: &Path, input: &[u8]) -> Answer {
         .stdout(Stdio::piped())
         .stderr(Stdio::piped())
         .spawn()
-        .expect("rt check drawtrack and library/drawtrack/build.sh have built the programs");
+        .expect("examples/run.sh and library/drawtrack/build.sh have built the programs");
     let mut stdin = child.stdin.take().expect("its input is a pipe");
     let bytes = input.to_vec();
     // The program reads no more than it needs, so a longer input may meet a closed pipe.

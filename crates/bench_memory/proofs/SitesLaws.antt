@@ -70,7 +70,8 @@ module _ (k : ℕ) (settings : Settings) (records : List SiteRecord) (memory : L
 
   consistent_on : (j : ℕ) → j < k
       → later_consistent k settings records memory j
-      ≡ (site_consistent settings (get_or records j no_record) (drop (j * site_words settings) memory)
+      ≡ (site_consistent settings (get_or records j no_record)
+      (drop (j * site_words settings) memory)
       && later_consistent k settings records memory (suc j))
   consistent_on j j< = by_length (dec_lt j (length records))
     where
@@ -102,7 +103,8 @@ module _ (k : ℕ) (settings : Settings) (records : List SiteRecord) (memory : L
 
   module _ (j : ℕ) (passing : Passing j) where
     pub passing_on : j < k
-        → site_consistent settings (get_or records j no_record) (drop (j * site_words settings) memory)
+        → site_consistent settings (get_or records j no_record)
+        (drop (j * site_words settings) memory)
         ≡ true
         → Passing (j + 1)
     passing_on j< holds =
@@ -113,7 +115,8 @@ module _ (k : ℕ) (settings : Settings) (records : List SiteRecord) (memory : L
         }
 
     pub passing_fails : j < k
-        → site_consistent settings (get_or records j no_record) (drop (j * site_words settings) memory)
+        → site_consistent settings (get_or records j no_record)
+        (drop (j * site_words settings) memory)
         ≡ false
         → false ≡ sites_consistent k settings records memory
     passing_fails j< fails = sym (passing.later_decide ∙ consistent_on j j< ∙ rw fails)
@@ -132,7 +135,10 @@ module _ (k : ℕ) (settings : Settings) (records : List SiteRecord) (memory : L
 
   pub same_start : (threshold : ℕ) → Same threshold 0
   same_start threshold =
-      record { within = omega arith; later_decide = ap (same_threshold threshold) (sym sites_start) }
+      record {
+        within = omega arith;
+        later_decide = ap (same_threshold threshold) (sym sites_start);
+      }
 
   module _ (threshold j : ℕ) (same : Same threshold j) where
     abbrev here : SiteRecord

@@ -14,9 +14,10 @@ pub record SitesFit (settings : Settings) (memory : List ℕ) : Type 0 where
   pub settings_accepted : settings_refusal settings ≡ no_refusal
   pub long_enough : sites_words settings ≤ length memory
 
-pub record NetworkFits (settings : Settings) (site_memory coordinator_memory : List ℕ) : Type 0 where
-  pub sites_fit : SitesFit settings site_memory
-  pub coordinator_long : coordinator_words settings ≤ length coordinator_memory
+pub record NetworkFits (settings : Settings) (site_memory coordinator_memory : List ℕ) : Type 0
+  where
+    pub sites_fit : SitesFit settings site_memory
+    pub coordinator_long : coordinator_words settings ≤ length coordinator_memory
 
 -- Memory of these lengths is shorter than the settings ask for.
 pub record ShortSays

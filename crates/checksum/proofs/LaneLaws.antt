@@ -47,7 +47,8 @@ add_fields (suc count) x y m n room p q =
       sum_is = rw (low, high) (omega (arith, rest.sum_is));
     }
 
-pub fields_fit : (word bound : ℕ) → bound < lane_range → FieldsWithin 16 bound 4 word → word < 2 ^ 64
+pub fields_fit : (word bound : ℕ) → bound < lane_range → FieldsWithin 16 bound 4 word → word < 2 ^
+    64
 fields_fit word bound room p = omega (arith, p.0, p.1.0, p.1.1.0, p.1.1.1)
 
 -- ---- Two words of lanes

@@ -33,7 +33,8 @@ module _ (settings : Settings) (numbers : CoordinatorRecord) (memory : List ℕ)
   pub memory_item : (m : Message)
       → m.a < settings.universe
       → set memory m.a (get_or memory m.a 0 + m.b)
-      ≡ coordinator_memory (takes_item_report (coordinator_in settings numbers memory) m).coordinator
+      ≡ coordinator_memory (takes_item_report (coordinator_in settings numbers memory)
+      m).coordinator
       memory
   memory_item m known =
       rw (get_or-take settings.universe memory m.a 0 known)
@@ -52,7 +53,8 @@ module _ (settings : Settings) (numbers : CoordinatorRecord) (memory : List ℕ)
           → eqb numbers.threshold 1 ≡ is_one
           → (if eqb numbers.threshold 1
           then one_more_at memory (settings.universe + m.b) else memory)
-          ≡ coordinator_memory (takes_count_report settings (coordinator_in settings numbers memory) m
+          ≡ coordinator_memory (takes_count_report settings
+          (coordinator_in settings numbers memory) m
           ).coordinator memory
       by_threshold true test =
           let within = known (eqb-true numbers.threshold 1 test) in
@@ -89,6 +91,7 @@ pub written_coordinator : (settings : Settings) (c : Coordinator) (memory : List
 written_coordinator settings c memory estimates_long histogram_long =
     let estimates : take settings.universe (coordinator_memory c memory) ≡ c.estimates =
     rw (← estimates_long) (first_written c.estimates c.histogram memory) in
-    let histogram : take value_count (drop settings.universe (coordinator_memory c memory)) ≡ c.histogram =
+    let histogram : take value_count (drop settings.universe (coordinator_memory c memory)) ≡
+    c.histogram =
     rw (← estimates_long, ← histogram_long) (second_written c.estimates c.histogram memory) in
     rw (estimates, histogram)

@@ -31,7 +31,8 @@ pub record ListEdges : Type 0 where
   pub three_in_two : list_refusal_after settings800 thirty_six 2 ≡ 12
   -- "for the list 12 comes last": base 1 with total 1 and threshold 0 is inconsistent
   pub eleven_before_twelve :
-      list_refusal settings_a (coordinator_numbers 1 1 0 0 0 Idle) (memory_after settings_a (draws 1)) 0
+      list_refusal settings_a (coordinator_numbers 1 1 0 0 0 Idle)
+      (memory_after settings_a (draws 1)) 0
       ≡ 11
   pub four_before_twelve :
       list_refusal settings_a (coordinator_record (coordinator_after settings_a (draws 1)))

@@ -34,7 +34,8 @@ pub record NothingWrong (c : Coordinator) (m : Message) : Type 0 where
       (is_probe_answer m && (not (eqb m.a (asked_value c.phase)) || ltb site_limit m.b)) ≡
       false
 
-nothing_wrong : (c : Coordinator) (m : Message) → wrong_at_coordinator c m ≡ false → NothingWrong c m
+nothing_wrong : (c : Coordinator) (m : Message) → wrong_at_coordinator c m ≡ false → NothingWrong c
+    m
 nothing_wrong c m fails =
     let four = neither_of_or _ _ fails in
     let three = neither_of_or _ _ four.first_false in

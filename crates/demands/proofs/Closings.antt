@@ -125,7 +125,8 @@ module _ {settings : Settings} (passes : settings_refusal settings ≡ no_refusa
         file_claims.saved_accepted settings
         (lending state.held (fronts site_count coordinator_count)) (file_length settings) site_room
         coordinator_room
-        (saves site_count coordinator_count sites_enough enough (file_length settings) (omega arith))
+        (saves site_count coordinator_count sites_enough enough (file_length settings)
+        (omega arith))
         (of_machine passes state start now site_count coordinator_count
         (sites_long site_count coordinator_count sites_enough enough))
         sites-room room;

@@ -100,7 +100,8 @@ module _ {settings : Settings} {before : State} (earlier : Reachable settings be
       let on = stepped before there earlier other in
       record {
         on = subst (Reachable settings) is on;
-        same_start = moved is (λ (state : State) (h : Reachable settings state). held_at_start h) on;
+        same_start = moved is (λ (state : State) (h : Reachable settings state). held_at_start h)
+            on;
         accepts_draws =
             moved is (λ (state : State) (h : Reachable settings state). accepted_in h) on
             ∙ ap (λ (xs : List Arrival). accepted_in earlier ++ xs) draws;

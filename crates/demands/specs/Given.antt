@@ -136,7 +136,8 @@ abbrev pub kept_out_by : {settings : Settings} {before after : State}
 kept_out_by step = drop (handed_by step).count (handed_by step).arrivals
 
 -- In the order of the calls; a closing is given none.
-abbrev pub given_in : {settings : Settings} {state : State} → Reachable settings state → List Arrival
+abbrev pub given_in : {settings : Settings} {state : State} → Reachable settings state → List
+    Arrival
 given_in (started _ _ _ _ _ _ _ _ _ _ _ _) = []
 given_in (stepped before after earlier step) = given_in earlier ++ given_by step
 given_in (reopened _ _ _ _ _ _ _ _ _ _ _ earlier _ _ _ _) = given_in earlier

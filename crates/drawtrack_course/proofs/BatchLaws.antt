@@ -38,7 +38,8 @@ module _ (settings : Settings) (room : ℕ) (network : Network) (arrival : Arriv
   test_is : batch_refusal settings network (room - 0) arrival ≡ refusal
   test_is =
       rw (le-ltb (room - 0) (most_messages settings) (omega arith))
-      (ap (λ (later : ℕ). refusal or_else later) (either_way (is_draw arrival)) ∙ or_accepted refusal)
+      (ap (λ (later : ℕ). refusal or_else later) (either_way (is_draw arrival)) ∙ or_accepted
+      refusal)
     where
       either_way : (drawn : Bool) → (if drawn then no_refusal else no_refusal) ≡ no_refusal
       either_way true = refl

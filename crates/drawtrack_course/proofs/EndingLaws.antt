@@ -35,7 +35,8 @@ use Rattle.drawtrack_course.proofs.Standing.{ahead, Stands}
 pub from_begins : (settings : Settings) (run : Run) (worklist : Worklist)
     → Front (message_lines run.messages) (transcript_from settings run worklist)
 from_begins settings run ended = record { rest = result_lines settings run; is = refl }
-from_begins settings run (malformed_at line) = record { rest = refused_line malformed_line; is = refl }
+from_begins settings run (malformed_at line) = record
+    { rest = refused_line malformed_line; is = refl }
 from_begins settings run (next arrival others) =
     by_refusal (is_zero (line_refusal_in settings run.network arrival)) refl
     (from_begins settings (run_one settings run arrival) others)

@@ -33,14 +33,16 @@ session_claims = record {
       (stands_of input n session site_memory coordinator_memory bytes short course);
   writes_transcript = λ input n session site_memory coordinator_memory bytes short course over.
       (stands_of input n session site_memory coordinator_memory bytes short course).ended over;
-  reads_enough = λ most whole n session site_memory coordinator_memory bytes enough short course over.
+  reads_enough = λ most whole n session site_memory coordinator_memory bytes enough short course
+      over.
       let few : length (take most whole) ≤ last_line =
       omega (arith, length-take most whole, short) in
       (stands_of (take most whole) n session site_memory coordinator_memory bytes few course
       ).ended over
       ∙ transcript_claims.input_enough most whole enough;
   ends = λ input n session site_memory coordinator_memory bytes short course going.
-      ((stands_of input n session site_memory coordinator_memory bytes short course).goes going).few;
+      ((stands_of input n session site_memory coordinator_memory bytes short course).goes
+      going).few;
   ends_so = λ input n session site_memory coordinator_memory bytes short course over.
       (stands_of input n session site_memory coordinator_memory bytes short course).ended_so over;
   ending_enough = λ most whole enough. ending_enough_of most whole (omega (arith, enough));

@@ -75,7 +75,8 @@ module _ (log : List ℕ) (count : ℕ) (first before after : List ℕ) (place d
       let more = count - (done + 1) in
       let m = message_at log (message_width * done) in
       let one_more : count - done ≡ suc more = omega arith in
-      let after_it : message_width * done + message_width ≡ message_width * (done + 1) = omega arith in
+      let after_it : message_width * done + message_width ≡ message_width * (done + 1) = omega
+      arith in
       let split : left log count done ≡ m ∷ left log count (done + 1) =
       ap (λ (n : ℕ). messages_in n (drop (message_width * done) log)) one_more
       ∙ next_message log (message_width * done) more

@@ -14,7 +14,8 @@ use Rattle.drawtrack_steps.specs.Output.{lines_of}
 use Rattle.drawtrack_steps.specs.Outcome.{with_out, outcome, ended, refused_of, Buffers}
 use Rattle.drawtrack_steps.specs.declared.Moved.{Moved}
 
-pub joined_messages : (messages : List Message) → joined (lines_of messages) ≡ message_lines messages
+pub joined_messages : (messages : List Message) → joined (lines_of messages) ≡ message_lines
+    messages
 joined_messages [] = refl
 joined_messages (message ∷ messages) =
     ap (λ (later : List ℕ). message_line message ++ later) (joined_messages messages)

@@ -80,7 +80,8 @@ pub record DroppedInstances : Type 0 where
   pub twice_reported : reported_after seventeen_draws ≡ 6
   pub twice_unreported : unreported_in (site_after seventeen_draws).counters ≡ 5
   -- the sums go by site
-  pub dropped_at_lem : dropped_at 1 (left 0 4 ∷ record { site = 1; item = 3; unreported = 2 } ∷ []) ≡ 2
+  pub dropped_at_lem : dropped_at 1 (left 0 4 ∷ record { site = 1; item = 3; unreported = 2 } ∷ [])
+      ≡ 2
   pub count_at : count_at 1 (arrival_with 1 0 1 ∷ arrival_with 0 1 1 ∷ arrival_with 1 9 9 ∷ []) ≡ 2
   -- memory that never arose: it passes, its draw is accepted, and then its sum is above its draws
   pub forged_passes : site_memory_refusal settings_a forged_record forged_memory ≡ 0

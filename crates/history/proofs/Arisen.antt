@@ -95,7 +95,8 @@ module _ {settings : Settings} (passes : settings_refusal settings ≡ no_refusa
         from = from_step passes before now.ok (held_at_start earlier) now.from after step;
       }
   lasting state
-      (reopened before site_count coordinator_count bytes written saved site_memory memory site_after
+      (reopened before site_count coordinator_count bytes written saved site_memory memory
+      site_after
       after loaded earlier save_says save_accepted load_says load-accepted) =
       lasting_reopened passes before (held_at_start earlier) (lasting before earlier) site_count
       coordinator_count bytes written saved site_memory memory site_after after loaded save_says

@@ -54,7 +54,8 @@ module _ {settings : Settings} (passes : settings_refusal settings ≡ no_refusa
   long = rw sound.all_sites lengths.sites_long
 
   -- It is read back as it was written.
-  pub network_written_lem : network_of settings (network_written settings held network counts) ≡ network
+  pub network_written_lem : network_of settings (network_written settings held network counts) ≡
+      network
   network_written_lem =
       let enough : length network.sites ≤ length held.sites.records =
       omega (arith, sound.all_sites, lengths.all_records, fit.sites.at_most) in

@@ -60,7 +60,8 @@ module _ (settings : Settings) (n : ℕ) (memory part : List ℕ) (answer : Star
     (says : SiteStarts.StartSitesSays settings (take n memory) part answer)
     (accepts : answer.refusal ≡ no_refusal) where
   -- The contract of the whole memory lent.
-  pub start_says_whole : SiteStarts.StartSitesSays settings memory (with_part memory 0 n part) answer
+  pub start_says_whole : SiteStarts.StartSitesSays settings memory (with_part memory 0 n part)
+      answer
   start_says_whole =
       let words = sites_words settings in
       let none : SiteStarts.start_refusal settings (take n memory) ≡ no_refusal =

@@ -99,12 +99,14 @@ module _ (settings : Settings) (numbers : CoordinatorRecord) (n : ℕ) (memory :
       λ i.
       settings_refusal settings
       or_else when (short i) memory_too_short
-      or_else when (not (coordinator_consistent settings (coordinator_in_front i))) memory_inconsistent
+      or_else when (not (coordinator_consistent settings (coordinator_in_front i)))
+      memory_inconsistent
       or_else no_refusal
 
   -- So what depends on both tells neither.
   pub on_front : {A : Type 0} (of : ℕ → Coordinator → A)
-      → of (coordinator_memory_refusal settings numbers front) (coordinator_in settings numbers front)
+      → of (coordinator_memory_refusal settings numbers front)
+      (coordinator_in settings numbers front)
       ≡ of (coordinator_memory_refusal settings numbers memory)
       (coordinator_in settings numbers memory)
   on_front of = λ i. of (memory_refusal_front i) (coordinator_in_front i)

@@ -68,13 +68,14 @@ pub record StepKeeps (before after : State) : Type 0 where
 pub step_keeps : {settings : Settings} (before after : State)
     → Delivers settings before after
     → StepKeeps before after
-step_keeps before after (to_coordinator_lem m later words part answer waits way says accepts) = record {
-  same_accepted = refl;
-  same_log = refl;
-  same_logged = refl;
-  same_counts = refl;
-  no_fewer = omega (arith, length-append before.messages (received_out answer));
-}
+step_keeps before after (to_coordinator_lem m later words part answer waits way says accepts) =
+    record {
+      same_accepted = refl;
+      same_log = refl;
+      same_logged = refl;
+      same_counts = refl;
+      no_fewer = omega (arith, length-append before.messages (received_out answer));
+    }
 step_keeps before after (to_site m later words answer waits way says accepts) = record {
   same_accepted = refl;
   same_log = refl;

@@ -17,7 +17,8 @@ pub record LogGrows (before after : Delivery) : Type 0 where
   pub log_is : after.log ≡ before.log ++ more
 
 step_grows : (settings : Settings) (network : Network) (waiting log : List Message)
-    → LogGrows (delivery network waiting log) (delivery_step settings (delivery network waiting log))
+    → LogGrows (delivery network waiting log) (delivery_step settings
+    (delivery network waiting log))
 step_grows settings network (m ∷ waiting) log =
     record { more = (hand_over settings network m).messages; log_is = refl }
 step_grows settings network [] log = by_phase (is_announcing network.coordinator.phase) refl

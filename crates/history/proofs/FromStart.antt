@@ -64,7 +64,8 @@ pub record FromStart (settings : Settings) (start held : Held) : Type 0 where
 -- ---- At the start
 
 -- What is read and written again at once changes nothing.
-pub from_self : {settings : Settings} (passes : settings_refusal settings ≡ no_refusal) (held : Held)
+pub from_self : {settings : Settings} (passes : settings_refusal settings ≡ no_refusal)
+    (held : Held)
     → Lengths settings held
     → SitesSound settings held
     → FromStart settings held held
@@ -147,10 +148,12 @@ module _ {settings : Settings} (passes : settings_refusal settings ≡ no_refusa
     single_over =
         let j = arrival.site in
         let old = rest.sound in
-        let site = Single.site passes state rest arrival words part answer says is_draw_lem accepts in
+        let site = Single.site passes state rest arrival words part answer says is_draw_lem accepts
+        in
         let fits = Single.site_fits passes state rest arrival words part answer says is_draw_lem
         accepts in
-        let known = Single.known passes state rest arrival words part answer says is_draw_lem accepts in
+        let known = Single.known passes state rest arrival words part answer says is_draw_lem
+        accepts in
         let read = Single.network_then passes state rest arrival words part answer says is_draw_lem
         accepts in
         subst (λ (s : State). Over s.held)

@@ -86,131 +86,132 @@ network_kept settings held lengths network sound counts same_counts =
 
 -- ---- From any sound network
 
-module _ {settings : Settings} (passes : settings_refusal settings ≡ no_refusal) (state : State) where
-  -- ---- A single arrival
+module _ {settings : Settings} (passes : settings_refusal settings ≡ no_refusal) (state : State)
+  where
+    -- ---- A single arrival
 
-  module _ (rest : SoundRest settings state)
-      (arrival : Arrival) (words : ℕ) (part : List ℕ) (answer : Observed)
-      (says : ObserveSays settings (record_at state.held arrival.site) arrival
-      (site_part settings state.held arrival.site words) part answer)
-      (is_draw_lem : is_draw arrival ≡ true)
-      (accepts : answer.refusal ≡ no_refusal) where
-    abbrev j : ℕ
-    j = arrival.site
+    module _ (rest : SoundRest settings state)
+        (arrival : Arrival) (words : ℕ) (part : List ℕ) (answer : Observed)
+        (says : ObserveSays settings (record_at state.held arrival.site) arrival
+        (site_part settings state.held arrival.site words) part answer)
+        (is_draw_lem : is_draw arrival ≡ true)
+        (accepts : answer.refusal ≡ no_refusal) where
+      abbrev j : ℕ
+      j = arrival.site
 
-    abbrev state_then : State
-    state_then = Single.after passes state rest arrival words part answer says is_draw_lem accepts
+      abbrev state_then : State
+      state_then = Single.after passes state rest arrival words part answer says is_draw_lem accepts
 
-    abbrev site : Site
-    site = Single.site passes state rest arrival words part answer says is_draw_lem accepts
+      abbrev site : Site
+      site = Single.site passes state rest arrival words part answer says is_draw_lem accepts
 
-    known : j < settings.sites
-    known = Single.known passes state rest arrival words part answer says is_draw_lem accepts
+      known : j < settings.sites
+      known = Single.known passes state rest arrival words part answer says is_draw_lem accepts
 
-    within : site_start settings j + site_words settings ≤ length state.held.site_memory
-    within =
-        in_memory passes state.held rest.lengths rest.sound.sites_sound j known
+      within : site_start settings j + site_words settings ≤ length state.held.site_memory
+      within =
+          in_memory passes state.held rest.lengths rest.sound.sites_sound j known
 
-    memory_is : state_then.held.site_memory
-        ≡ written settings (site_start settings j) site state.held.site_memory
-    memory_is =
-        let fits = Single.site_fits passes state rest arrival words part answer says is_draw_lem
-        accepts in
-        memory_then passes state.held rest.lengths rest.sound.sites_sound j known site
-        fits words
-        (Single.long passes state rest arrival words part answer says is_draw_lem accepts)
+      memory_is : state_then.held.site_memory
+          ≡ written settings (site_start settings j) site state.held.site_memory
+      memory_is =
+          let fits = Single.site_fits passes state rest arrival words part answer says is_draw_lem
+          accepts in
+          memory_then passes state.held rest.lengths rest.sound.sites_sound j known site
+          fits words
+          (Single.long passes state rest arrival words part answer says is_draw_lem accepts)
 
-    behind : drop (site_start settings j + site_words settings) state_then.held.site_memory
-        ≡ drop (site_start settings j + site_words settings) state.held.site_memory
-    behind =
-        let fits = Single.site_fits passes state rest arrival words part answer says is_draw_lem
-        accepts in
-        ap (drop (site_start settings j + site_words settings)) memory_is
-        ∙ drop_written settings site fits
-        (site_start settings j) state.held.site_memory within
+      behind : drop (site_start settings j + site_words settings) state_then.held.site_memory
+          ≡ drop (site_start settings j + site_words settings) state.held.site_memory
+      behind =
+          let fits = Single.site_fits passes state rest arrival words part answer says is_draw_lem
+          accepts in
+          ap (drop (site_start settings j + site_words settings)) memory_is
+          ∙ drop_written settings site fits
+          (site_start settings j) state.held.site_memory within
 
-    others_then : OthersKept settings j state.held state_then.held
-    others_then =
-        let fits = Single.site_fits passes state rest arrival words part answer says is_draw_lem
-        accepts in
-        record {
-          earlier_parts =
-              ap (take (site_start settings j)) memory_is
-              ∙ take_written settings site fits
-              (site_start settings j) state.held.site_memory within;
-          later_parts = behind;
-          other_records = λ other elsewhere.
-              get_or-set_other state.held.sites.records j other (site_record site)
-              no_record elsewhere;
-          coordinator = refl;
-          coordinator_memory = refl;
-        }
+      others_then : OthersKept settings j state.held state_then.held
+      others_then =
+          let fits = Single.site_fits passes state rest arrival words part answer says is_draw_lem
+          accepts in
+          record {
+            earlier_parts =
+                ap (take (site_start settings j)) memory_is
+                ∙ take_written settings site fits
+                (site_start settings j) state.held.site_memory within;
+            later_parts = behind;
+            other_records = λ other elsewhere.
+                get_or-set_other state.held.sites.records j other (site_record site)
+                no_record elsewhere;
+            coordinator = refl;
+            coordinator_memory = refl;
+          }
 
-    tails_then : TailsKept settings state.held state_then.held
-    tails_then = record {
-      records = drop-set-lt settings.sites state.held.sites.records j _ known;
-      counts = refl;
-      site_memory =
-          let next : j + 1 ≤ settings.sites = omega (arith, known) in
-          drop_later (site_start settings j + site_words settings) (sites_words settings) _ _
-          (omega (arith, mul-le-mul_right (site_words settings) next)) behind;
-      coordinator_memory = refl;
-    }
+      tails_then : TailsKept settings state.held state_then.held
+      tails_then = record {
+        records = drop-set-lt settings.sites state.held.sites.records j _ known;
+        counts = refl;
+        site_memory =
+            let next : j + 1 ≤ settings.sites = omega (arith, known) in
+            drop_later (site_start settings j + site_words settings) (sites_words settings) _ _
+            (omega (arith, mul-le-mul_right (site_words settings) next)) behind;
+        coordinator_memory = refl;
+      }
 
-    same : after_single settings state arrival words part answer ≡ state_then
-    same = Single.after_is passes state rest arrival words part answer says is_draw_lem accepts
+      same : after_single settings state arrival words part answer ≡ state_then
+      same = Single.after_is passes state rest arrival words part answer says is_draw_lem accepts
 
-    -- The claim on the other sites.
-    pub others_kept : OthersKept settings j state.held
-        (after_single settings state arrival words part answer).held
-    others_kept =
-        subst (λ (then : State). OthersKept settings j state.held then.held) (sym same)
-        others_then
+      -- The claim on the other sites.
+      pub others_kept : OthersKept settings j state.held
+          (after_single settings state arrival words part answer).held
+      others_kept =
+          subst (λ (then : State). OthersKept settings j state.held then.held) (sym same)
+          others_then
 
-    -- What lies past the network.
-    pub single_kept : TailsKept settings state.held
-        (after_single settings state arrival words part answer).held
-    single_kept =
-        subst (λ (then : State). TailsKept settings state.held then.held) (sym same)
-        tails_then
+      -- What lies past the network.
+      pub single_kept : TailsKept settings state.held
+          (after_single settings state arrival words part answer).held
+      single_kept =
+          subst (λ (then : State). TailsKept settings state.held then.held) (sym same)
+          tails_then
 
-  -- ---- A step of delivery
+    -- ---- A step of delivery
 
-  module _ {origin : Network} {arrival : Arrival} {past : List Message} {n : ℕ}
-      (mid : Underway settings origin arrival past n state) where
-    -- What lies past the network.
-    pub delivery_kept : (after : State) → Delivers settings state after
-        → TailsKept settings state.held after.held
-    delivery_kept after (to_coordinator_lem m later words part answer waits way says accepts) =
-        let memory = with_part state.held.coordinator_memory 0 words part in
-        let all-lent = receives_whole settings state.held.coordinator m words
-        state.held.coordinator_memory part answer says accepts in
-        let sound = ToCoordinator.sound_then passes state mid m later memory answer waits way
-        all-lent accepts in
-        subst (TailsKept settings state.held)
-        (sym (ToCoordinator.held_is passes state mid m later memory answer waits way all-lent
-        accepts))
-        (record {
-          records = refl;
-          counts = refl;
-          site_memory = refl;
-          coordinator_memory =
-              tail_coordinator_memory settings
-              (coordinator_receives settings (network_of settings state.held).coordinator m
-              ).coordinator
-              state.held.coordinator_memory
-              sound.numbers.estimates_length sound.numbers.histogram_length;
-        })
-    delivery_kept after (to_site m later words answer waits way says accepts) = record {
-      records =
-          drop-set-lt settings.sites state.held.sites.records m.site answer.site
-          (ToSite.known passes state mid m later words answer waits way says accepts);
-      counts = refl;
-      site_memory = refl;
-      coordinator_memory = refl;
-    }
-    delivery_kept after (next_announcement words answer says accepts) =
-        record { records = refl; counts = refl; site_memory = refl; coordinator_memory = refl }
+    module _ {origin : Network} {arrival : Arrival} {past : List Message} {n : ℕ}
+        (mid : Underway settings origin arrival past n state) where
+      -- What lies past the network.
+      pub delivery_kept : (after : State) → Delivers settings state after
+          → TailsKept settings state.held after.held
+      delivery_kept after (to_coordinator_lem m later words part answer waits way says accepts) =
+          let memory = with_part state.held.coordinator_memory 0 words part in
+          let all-lent = receives_whole settings state.held.coordinator m words
+          state.held.coordinator_memory part answer says accepts in
+          let sound = ToCoordinator.sound_then passes state mid m later memory answer waits way
+          all-lent accepts in
+          subst (TailsKept settings state.held)
+          (sym (ToCoordinator.held_is passes state mid m later memory answer waits way all-lent
+          accepts))
+          (record {
+            records = refl;
+            counts = refl;
+            site_memory = refl;
+            coordinator_memory =
+                tail_coordinator_memory settings
+                (coordinator_receives settings (network_of settings state.held).coordinator m
+                ).coordinator
+                state.held.coordinator_memory
+                sound.numbers.estimates_length sound.numbers.histogram_length;
+          })
+      delivery_kept after (to_site m later words answer waits way says accepts) = record {
+        records =
+            drop-set-lt settings.sites state.held.sites.records m.site answer.site
+            (ToSite.known passes state mid m later words answer waits way says accepts);
+        counts = refl;
+        site_memory = refl;
+        coordinator_memory = refl;
+      }
+      delivery_kept after (next_announcement words answer says accepts) =
+          record { records = refl; counts = refl; site_memory = refl; coordinator_memory = refl }
 
 -- ---- In a history
 
@@ -244,7 +245,8 @@ module _ {settings : Settings} (passes : settings_refusal settings ≡ no_refusa
       (kept_self settings state.held)
       (batch_kept arrivals log _ rest)
   tails_kept after (arrives (single arrival words part answer rest is_draw_lem says accepts)) =
-      single_kept passes state (sound_rest_of passes ok rest) arrival words part answer says is_draw_lem
+      single_kept passes state (sound_rest_of passes ok rest) arrival words part answer says
+      is_draw_lem
       accepts
   tails_kept after (delivers step) = by_standing ok.standing
     where

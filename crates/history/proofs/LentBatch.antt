@@ -119,7 +119,8 @@ module _ {settings : Settings} (passes : settings_refusal settings ≡ no_refusa
         ∙ ap (λ (batch : Batch). sites_memory settings batch.network.sites sites_front)
         batch_same)
         ∙ front_then held.site_memory site_count (sites_memory settings sites sites_front)
-        ∙ sym (sites_memory_front settings sites sites_front (drop site_count held.site_memory) room)
+        ∙ sym (sites_memory_front settings sites sites_front (drop site_count held.site_memory)
+        room)
         ∙ ap (sites_memory settings sites) (take-append-drop site_count held.site_memory)
 
     coordinator_then : back.held.coordinator_memory

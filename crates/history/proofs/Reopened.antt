@@ -98,8 +98,10 @@ module _ (settings : Settings) (held : Held) (bytes written : List ℕ) (saved :
         coordinator_after loaded
         → loaded.refusal ≡ no_refusal
         → ReadBack settings held site_memory coordinator_memory site_after coordinator_after loaded
-    read_back site_memory coordinator_memory site_after coordinator_after loaded load_says accepted =
-        let says : LoadSays file site_memory coordinator_memory site_after coordinator_after loaded =
+    read_back site_memory coordinator_memory site_after coordinator_after loaded load_says accepted
+    =
+        let says : LoadSays file site_memory coordinator_memory site_after coordinator_after loaded
+        =
         subst (λ (theirs : List ℕ).
         LoadSays theirs site_memory coordinator_memory site_after coordinator_after loaded)
         file_back load_says in
@@ -199,7 +201,8 @@ module _ {settings : Settings} (passes : settings_refusal settings ≡ no_refusa
     long : Passed settings lent (length bytes)
     long = passed_save settings lent bytes written saved save_says save_accepted
 
-    pub back : ReadBack settings lent site_memory coordinator_memory site_after coordinator_after loaded
+    pub back : ReadBack settings lent site_memory coordinator_memory site_after coordinator_after
+    loaded
     back =
         read_back settings lent bytes written saved save_says save_accepted
         (of_machine passes state start now site_count coordinator_count

@@ -60,7 +60,8 @@ site_memory_append settings site xs ys fits long =
 
 -- No counter in use, and zeros for value counts.
 pub site_in_fresh : (settings : Settings) (rest : List ℕ)
-    → site_in settings (site_record fresh_site) (replicate (site_words settings) 0 ++ rest) ≡ fresh_site
+    → site_in settings (site_record fresh_site) (replicate (site_words settings) 0 ++ rest) ≡
+    fresh_site
 site_in_fresh settings rest =
     let words = counter_words settings in
     let zeros : replicate (site_words settings) 0 ++ rest

@@ -115,7 +115,8 @@ module _ (settings : Settings) where
     sites_in_written (suc k) j [] numbers default memory long small = refl
     sites_in_written (suc k) zero (first ∷ others) numbers default memory long small =
         ap (λ (rest : List ℕ).
-        site_in settings numbers (site_memory settings site memory) ∷ sites_in k settings others rest)
+        site_in settings numbers (site_memory settings site memory) ∷ sites_in k settings others
+        rest)
         (drop_site_memory memory (omega arith))
     sites_in_written (suc k) (suc j) (first ∷ others) numbers default memory long small =
         let start = offset words j in

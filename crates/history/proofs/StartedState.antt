@@ -127,7 +127,8 @@ module _ (settings : Settings) (passes : settings_refusal settings ≡ no_refusa
 
 -- ---- The start calls
 
-module _ (settings : Settings) (sitesBefore sites_after coordinatorBefore coordinator_after : List ℕ)
+module _ (settings : Settings) (sitesBefore sites_after coordinatorBefore coordinator_after : List
+    ℕ)
     (sites : StartedSites) (coordinator : StartedCoordinator)
     (sites-say : SiteStarts.StartSitesSays settings sitesBefore sites_after sites)
     (sites_accepted : sites.refusal ≡ no_refusal)

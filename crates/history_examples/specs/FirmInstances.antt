@@ -48,7 +48,8 @@ halved_at value count = probe 0 value ∷ (probe_answer 0 value count ∷ [])
 abbrev pub sixth_messages : List Message
 sixth_messages =
     (item_report 0 1 1 ∷ (count_report 0 1 1 ∷ (poll 0 ∷ (poll_answer 0 0 ∷ []))))
-    ++ (halved_at 511 6 ++ (halved_at 255 6 ++ (halved_at 127 6 ++ (halved_at 63 6 ++ (halved_at 31 6
+    ++ (halved_at 511 6 ++ (halved_at 255 6 ++
+    (halved_at 127 6 ++ (halved_at 63 6 ++ (halved_at 31 6
     ++ (halved_at 15 6 ++ (halved_at 7 6 ++ (halved_at 3 6 ++ (halved_at 1 6 ++ (halved_at 0 0
     ++ (announcement 0 2 6 ∷ [])))))))))))
 

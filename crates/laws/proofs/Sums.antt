@@ -27,7 +27,8 @@ pub sum_below_same : (f g : ℕ → ℕ) (k : ℕ)
     → sum_below f k ≡ sum_below g k
 sum_below_same f g zero same = refl
 sum_below_same f g (suc k) same =
-    let front : sum_below f k ≡ sum_below g k = sum_below_same f g k (λ i i<k. same i (omega arith)) in
+    let front : sum_below f k ≡ sum_below g k = sum_below_same f g k
+    (λ i i<k. same i (omega arith)) in
     omega (arith, same k (omega arith))
 
 -- A function that is nowhere larger has no larger sum.
@@ -36,7 +37,8 @@ pub sum_below_le : (f g : ℕ → ℕ) (k : ℕ)
     → sum_below f k ≤ sum_below g k
 sum_below_le f g zero less = omega arith
 sum_below_le f g (suc k) less =
-    let front : sum_below f k ≤ sum_below g k = sum_below_le f g k (λ i i<k. less i (omega arith)) in
+    let front : sum_below f k ≤ sum_below g k = sum_below_le f g k (λ i i<k. less i (omega arith))
+    in
     omega (arith, less k (omega arith))
 
 -- The same number k times.
@@ -120,7 +122,8 @@ module _ {A : Type 0} where
       omega (arith, sum_of_set f default ys i x (omega arith))
 
   -- One element added at the end.
-  pub sum_of_snoc : (f : A → ℕ) (xs : List A) (x : A) → sum_of f (xs ++ (x ∷ [])) ≡ sum_of f xs + f x
+  pub sum_of_snoc : (f : A → ℕ) (xs : List A) (x : A) → sum_of f (xs ++ (x ∷ [])) ≡ sum_of f xs + f
+      x
   unfolding sum_of
   sum_of_snoc f [] x = omega arith
   sum_of_snoc f (y ∷ ys) x = omega (arith, sum_of_snoc f ys x)

@@ -55,7 +55,8 @@ module _ {A : Type 0} (default : A) (change : A → A) where
       within = omega (arith, length_change_first n xs)
 
       by_place : Dec (i ≡ n)
-          → (i < n → get_or (change_first default change n xs) i default ≡ change (get_or xs i default))
+          → (i < n → get_or (change_first default change n xs) i default ≡ change
+          (get_or xs i default))
           → get_or (change_first default change (suc n) xs) i default ≡ change (get_or xs i default)
       by_place (yes same) earlier =
           rw (← same)
@@ -68,7 +69,8 @@ module _ {A : Type 0} (default : A) (change : A → A) where
   -- A part that the change keeps is as it was, at every place, past the end too.
   module _ {B : Type 0} (part : A → B) (kept : (x : A) → part (change x) ≡ part x) where
     change_keeps : (xs : List A) (n i : ℕ)
-        → part (get_or (set xs n (change (get_or xs n default))) i default) ≡ part (get_or xs i default)
+        → part (get_or (set xs n (change (get_or xs n default))) i default) ≡ part
+        (get_or xs i default)
     change_keeps [] n i = refl
     change_keeps (x ∷ xs) zero zero = kept x
     change_keeps (x ∷ xs) zero (suc i) = refl

@@ -31,7 +31,8 @@ pub fn tracker_start_deck(
     row: &mut [u64; SITE_NUMBERS],
     memory: &mut [Word],
 ) -> u32
-    ensures { StartDeckExported (lent settings.now settings.now) deck (lent row.old row.new) (lent memory.old memory.new) result }
+    ensures { StartDeckExported (lent settings.now settings.now) deck (lent row.old row.new)
+        (lent memory.old memory.new) result }
 {
     let started = site_start::start_site(settings_from(settings), deck, memory);
     let fresh = started.site;
@@ -50,7 +51,8 @@ pub fn tracker_deck_draw(
     out: &mut [u64; TWO_MESSAGES],
     count: &mut u32,
 ) -> u32
-    ensures { DeckDrawExported (lent settings.now settings.now) deck (lent row.old row.new) (lent memory.old memory.new) code class
+    ensures { DeckDrawExported (lent settings.now settings.now) deck (lent row.old row.new)
+        (lent memory.old memory.new) code class
         (lent out.old out.new) (lent count.old count.new) result }
 {
     let arrival = Arrival {
@@ -77,7 +79,8 @@ pub fn tracker_deck_message(
     reply: &mut [u64; MESSAGE_WIDTH],
     count: &mut u32,
 ) -> u32
-    ensures { DeckMessageExported (lent settings.now settings.now) deck (lent row.old row.new) (lent memory.now memory.now)
+    ensures { DeckMessageExported (lent settings.now settings.now) deck (lent row.old row.new)
+        (lent memory.now memory.now)
         (lent message.now message.now) (lent reply.old reply.new) (lent count.old count.new) result }
 {
     let replied = site::receive(

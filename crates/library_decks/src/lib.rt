@@ -25,7 +25,8 @@ pub fn tracker_start_decks(
     decks: &mut [u64; SITES_NUMBERS],
     memory: &mut [Word],
 ) -> u32
-    ensures { StartDecksExported (lent settings.now settings.now) (lent decks.old decks.new) (lent memory.old memory.new) result }
+    ensures { StartDecksExported (lent settings.now settings.now) (lent decks.old decks.new)
+        (lent memory.old memory.new) result }
 {
     let started = site_start::start_sites(settings_from(settings), memory);
     if started.refusal == NO_REFUSAL {
@@ -75,7 +76,8 @@ fn draw_at(
     count: &mut u32,
 ) -> u32
     requires { NamedAsks settings draw.site memory.old }
-    ensures { DecksDrawn settings draw (lent decks.old decks.new) (lent memory.old memory.new) (lent out.old out.new)
+    ensures { DecksDrawn settings draw (lent decks.old decks.new) (lent memory.old memory.new)
+        (lent out.old out.new)
         (lent count.old count.new) result }
 {
     let which = draw.site as usize;
@@ -99,7 +101,8 @@ pub fn tracker_decks_draw(
     out: &mut [u64; TWO_MESSAGES],
     count: &mut u32,
 ) -> u32
-    ensures { DecksDrawExported (lent settings.now settings.now) (lent decks.old decks.new) (lent memory.old memory.new) (lent draw.now draw.now)
+    ensures { DecksDrawExported (lent settings.now settings.now) (lent decks.old decks.new)
+        (lent memory.old memory.new) (lent draw.now draw.now)
         (lent out.old out.new) (lent count.old count.new) result }
 {
     let rules = settings_from(settings);
@@ -121,7 +124,8 @@ fn message_at(
     count: &mut u32,
 ) -> u32
     requires { NamedAsks settings message.site memory.now }
-    ensures { DecksReplied settings message memory.now (lent decks.old decks.new) (lent reply.old reply.new)
+    ensures { DecksReplied settings message memory.now (lent decks.old decks.new)
+        (lent reply.old reply.new)
         (lent count.old count.new) result }
 {
     let which = message.site as usize;
@@ -145,7 +149,8 @@ pub fn tracker_decks_message(
     reply: &mut [u64; MESSAGE_WIDTH],
     count: &mut u32,
 ) -> u32
-    ensures { DecksMessageExported (lent settings.now settings.now) (lent decks.old decks.new) (lent memory.now memory.now)
+    ensures { DecksMessageExported (lent settings.now settings.now) (lent decks.old decks.new)
+        (lent memory.now memory.now)
         (lent message.now message.now) (lent reply.old reply.new) (lent count.old count.new) result }
 {
     let rules = settings_from(settings);

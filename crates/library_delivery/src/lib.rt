@@ -22,7 +22,8 @@ fn hand_delivery(
     desk: &mut [u64; COORDINATOR_NUMBERS],
     delivery: &mut [u64; DELIVERY_NUMBERS],
 )
-    ensures { HandDeliverySays done (lent decks.old decks.new) (lent desk.old desk.new) (lent delivery.old delivery.new) }
+    ensures { HandDeliverySays done (lent decks.old decks.new) (lent desk.old desk.new)
+        (lent delivery.old delivery.new) }
 {
     if done.refusal == NO_REFUSAL {
         let sites = done.sites;
@@ -43,8 +44,10 @@ pub fn tracker_deliver(
     draw: &[u32; ARRIVAL_NUMBERS],
     delivery: &mut [u64; DELIVERY_NUMBERS],
 ) -> u32
-    ensures { DeliveryExported (lent settings.now settings.now) (lent decks.old decks.new) (lent desk.old desk.new)
-        (lent deck_memory.old deck_memory.new) (lent desk_memory.old desk_memory.new) (lent draw.now draw.now) (lent delivery.old delivery.new) result }
+    ensures { DeliveryExported (lent settings.now settings.now) (lent decks.old decks.new)
+        (lent desk.old desk.new)
+        (lent deck_memory.old deck_memory.new) (lent desk_memory.old desk_memory.new)
+        (lent draw.now draw.now) (lent delivery.old delivery.new) result }
 {
     let done = single_delivery::deliver_arrival(
         settings_from(settings),

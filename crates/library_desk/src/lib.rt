@@ -41,7 +41,8 @@ pub fn tracker_start_desk(
     desk: &mut [u64; COORDINATOR_NUMBERS],
     memory: &mut [u64],
 ) -> u32
-    ensures { StartDeskExported (lent settings.now settings.now) (lent desk.old desk.new) (lent memory.old memory.new) result }
+    ensures { StartDeskExported (lent settings.now settings.now) (lent desk.old desk.new)
+        (lent memory.old memory.new) result }
 {
     let started = coordinator::start_coordinator(settings_from(settings), memory);
     let fresh = started.coordinator;
@@ -58,7 +59,8 @@ pub fn tracker_desk_message(
     out: &mut [u64; MESSAGE_WIDTH],
     count: &mut u32,
 ) -> u32
-    ensures { DeskMessageExported (lent settings.now settings.now) (lent desk.old desk.new) (lent memory.old memory.new) (lent message.now message.now)
+    ensures { DeskMessageExported (lent settings.now settings.now) (lent desk.old desk.new)
+        (lent memory.old memory.new) (lent message.now message.now)
         (lent out.old out.new) (lent count.old count.new) result }
 {
     let received = coordinator::receive(
@@ -81,7 +83,8 @@ pub fn tracker_desk_announcement(
     memory: &[u64],
     out: &mut [u64; MESSAGE_WIDTH],
 ) -> u32
-    ensures { AnnouncementExported (lent settings.now settings.now) (lent desk.old desk.new) (lent memory.now memory.now) (lent out.old out.new)
+    ensures { AnnouncementExported (lent settings.now settings.now) (lent desk.old desk.new)
+        (lent memory.now memory.now) (lent out.old out.new)
         result }
 {
     let received = coordinator::next_announcement(

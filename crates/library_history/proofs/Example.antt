@@ -114,10 +114,13 @@ example_use = record {
     };
   };
   list_is = refl;
-  closed = load settings_a (bench_in after_item_report) elsewhere after_item_report draws_on 1049 1035
+  closed = load settings_a (bench_in after_item_report) elsewhere after_item_report draws_on 1049
+      1035
       deck_room_lem desk_room_lem;
-  closed_used = closed_used settings_a (bench_in after_item_report) elsewhere after_item_report draws_on
+  closed_used = closed_used settings_a (bench_in after_item_report) elsewhere after_item_report
+      draws_on
       1049 1035 deck_room_lem desk_room_lem;
-  closed_same = closed_same settings_a (bench_in after_item_report) elsewhere after_item_report draws_on
+  closed_same = closed_same settings_a (bench_in after_item_report) elsewhere after_item_report
+      draws_on
       1049 1035 deck_room_lem desk_room_lem;
 }

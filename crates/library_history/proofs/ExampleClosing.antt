@@ -43,7 +43,8 @@ module _ (settings : Settings) (bench : Bench) where
   abbrev saved : Saved
   saved = record {
     refusal = save_refusal settings lent (length eights);
-    length = if is_zero (save_refusal settings lent (length eights)) then file_length settings else 0;
+    length = if is_zero (save_refusal settings lent (length eights)) then file_length settings else
+        0;
   }
 
   abbrev pub saving : SaveCall bench

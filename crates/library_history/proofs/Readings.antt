@@ -60,7 +60,8 @@ module _ (settings : Settings) (bench : Bench) (state : State)
             right.listed_firm (inner none) code
             (subst (λ (l : List ℕ). contains code l ≡ true) (sym (codes none)) listed);
         rising = λ none i inside.
-            subst (λ (l : List ℕ). i + 1 < length l → get_or l i 0 < get_or l (i + 1) 0) (codes none)
+            subst (λ (l : List ℕ). i + 1 < length l → get_or l i 0 < get_or l (i + 1) 0)
+            (codes none)
             (right.rising (inner none) i) inside;
       }
 

@@ -52,5 +52,6 @@ length_sites_numbers sites =
     ∙ (λ i. length_records_numbers most_sites sites.records i
     + length_counts_from most_sites 0 sites.messages i)
 
-pub length_coordinator_numbers : (c : CoordinatorRecord) → length (coordinator_numbers c) ≡ desk_width
+pub length_coordinator_numbers : (c : CoordinatorRecord) → length (coordinator_numbers c) ≡
+    desk_width
 length_coordinator_numbers c = refl

@@ -94,7 +94,8 @@ module _ (decks : List ℕ) (which : ℕ) (site : SiteRecord)
       by_place i below there (yes same) =
           subst (λ (n : ℕ). deck_at stored n
           ≡ get_or (set (records_from most_sites decks) which site) n no_record) (sym same)
-          (same_deck ∙ sym (get_or-set_same (records_from most_sites decks) which site no_record there))
+          (same_deck ∙ sym (get_or-set_same (records_from most_sites decks) which site no_record
+          there))
       by_place i below there (no other) =
           other_deck i other
           ∙ sym (get_d_records_from most_sites decks i below)

@@ -28,19 +28,20 @@ use Rattle.library_history.proofs.RecordRows.{length_sites_numbers, length_coord
 
 -- ---- A row after the run
 
-module _ (own row rowThen : List ℕ) (accepted : ℕ) (are : rowThen ≡ row_after accepted own row) where
-  row_stays : accepted ≡ 0 → rowThen ≡ row
-  row_stays none = are ∙ rw (eq-eqb accepted 0 none)
+module _ (own row rowThen : List ℕ) (accepted : ℕ) (are : rowThen ≡ row_after accepted own row)
+  where
+    row_stays : accepted ≡ 0 → rowThen ≡ row
+    row_stays none = are ∙ rw (eq-eqb accepted 0 none)
 
-  row_written : (accepted ≡ 0 → ⊥) → rowThen ≡ own
-  row_written some = are ∙ rw (ne_eqb accepted 0 some)
+    row_written : (accepted ≡ 0 → ⊥) → rowThen ≡ own
+    row_written some = are ∙ rw (ne_eqb accepted 0 some)
 
-  row_long : (width : ℕ) → length own ≡ width → length row ≡ width → length rowThen ≡ width
-  row_long width own-long long = by_count (ℕ_discrete accepted 0)
-    where
-      by_count : Dec (accepted ≡ 0) → length rowThen ≡ width
-      by_count (yes none) = ap length (row_stays none) ∙ long
-      by_count (no some) = ap length (row_written some) ∙ own-long
+    row_long : (width : ℕ) → length own ≡ width → length row ≡ width → length rowThen ≡ width
+    row_long width own-long long = by_count (ℕ_discrete accepted 0)
+      where
+        by_count : Dec (accepted ≡ 0) → length rowThen ≡ width
+        by_count (yes none) = ap length (row_stays none) ∙ long
+        by_count (no some) = ap length (row_written some) ∙ own-long
 
 module _ {bench : Bench} (call : RunCall bench) where
   abbrev given : Settings

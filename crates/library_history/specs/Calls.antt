@@ -3,7 +3,8 @@
 -- of its own (settings, draw, messages, counts) may hold anything before it.
 --
 --   Under settings row             the settings' row is that of these settings
---   out_of places out count         the messages that came out: of a row of so many places the first
+--   out_of places out count         the messages that came out: of a row of so many places the
+-- first
 --   StartDecksCall, StartDeskCall  the two starts
 --   DrawCall, DeckMessageCall      at the deck that draw or message names
 --   DeskMessageCall, AnnouncementCall   at the desk

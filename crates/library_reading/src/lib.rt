@@ -21,7 +21,8 @@ pub fn tracker_desk_list(
     codes: &mut [u32],
     count: &mut usize,
 ) -> u32
-    ensures { ListExported (lent settings.now settings.now) (lent desk.now desk.now) (lent memory.now memory.now) (lent codes.old codes.new)
+    ensures { ListExported (lent settings.now settings.now) (lent desk.now desk.now)
+        (lent memory.now memory.now) (lent codes.old codes.new)
         (lent count.old count.new) result }
 {
     let listed = coordinator_list::list_heavy_hitters(
@@ -44,7 +45,8 @@ pub fn tracker_desk_margin(
     code: u32,
     margin: &mut i64,
 ) -> u32
-    ensures { MarginExported (lent settings.now settings.now) (lent desk.now desk.now) (lent memory.now memory.now) code (lent margin.old margin.new)
+    ensures { MarginExported (lent settings.now settings.now) (lent desk.now desk.now)
+        (lent memory.now memory.now) code (lent margin.old margin.new)
         result }
 {
     let read = coordinator_reading::read_margin(
@@ -77,7 +79,8 @@ pub fn tracker_desk_class(
     memory: &[u64],
     class: &mut u32,
 ) -> u32
-    ensures { ClassExported (lent settings.now settings.now) (lent desk.now desk.now) (lent memory.now memory.now) (lent class.old class.new) result }
+    ensures { ClassExported (lent settings.now settings.now) (lent desk.now desk.now)
+        (lent memory.now memory.now) (lent class.old class.new) result }
 {
     let read = coordinator_reading::read_quantile(
         settings_from(settings),

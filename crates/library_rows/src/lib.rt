@@ -19,7 +19,8 @@ pub fn hand_message(
     out: &mut [u64; MESSAGE_WIDTH],
     count: &mut u32,
 )
-    ensures { HandMessageSays refusal sent message (lent out.old out.new) (lent count.old count.new) }
+    ensures { HandMessageSays refusal sent message (lent out.old out.new)
+        (lent count.old count.new) }
 {
     if refusal == NO_REFUSAL {
         *out = message_row(message);
@@ -36,7 +37,8 @@ pub fn hand_messages(
     out: &mut [u64; TWO_MESSAGES],
     count: &mut u32,
 )
-    ensures { HandMessagesSays refusal sent first second (lent out.old out.new) (lent count.old count.new) }
+    ensures { HandMessagesSays refusal sent first second (lent out.old out.new)
+        (lent count.old count.new) }
 {
     if refusal == NO_REFUSAL {
         *out = [

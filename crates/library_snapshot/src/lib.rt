@@ -16,7 +16,8 @@ use snapshot_file::{Loaded, Saved};
 
 // How many bytes a file has, by the settings alone.
 pub fn tracker_file_length(settings: &[u32; SETTINGS_NUMBERS], length: &mut usize) -> u32
-    ensures { FileLengthExported (lent settings.now settings.now) (lent length.old length.new) result }
+    ensures { FileLengthExported (lent settings.now settings.now) (lent length.old length.new)
+        result }
 {
     let rules = settings_from(settings);
     let refusal = settings::test_settings(rules);
@@ -45,8 +46,10 @@ pub fn tracker_save(
     bytes: &mut [u8],
     length: &mut usize,
 ) -> u32
-    ensures { SaveExported (lent settings.now settings.now) (lent decks.now decks.now) (lent desk.now desk.now)
-        (lent deck_memory.now deck_memory.now) (lent desk_memory.now desk_memory.now) (lent bytes.old bytes.new) (lent length.old length.new) result }
+    ensures { SaveExported (lent settings.now settings.now) (lent decks.now decks.now)
+        (lent desk.now desk.now)
+        (lent deck_memory.now deck_memory.now) (lent desk_memory.now desk_memory.now)
+        (lent bytes.old bytes.new) (lent length.old length.new) result }
 {
     let saved = snapshot_saving::save_bench(
         settings_from(settings),
@@ -81,7 +84,8 @@ fn hand_bench(
     decks: &mut [u64; SITES_NUMBERS],
     desk: &mut [u64; COORDINATOR_NUMBERS],
 )
-    ensures { HandBenchSays loaded (lent settings.old settings.new) (lent decks.old decks.new) (lent desk.old desk.new) }
+    ensures { HandBenchSays loaded (lent settings.old settings.new) (lent decks.old decks.new)
+        (lent desk.old desk.new) }
 {
     if loaded.refusal == NO_REFUSAL {
         let rules = loaded.settings;
@@ -102,7 +106,8 @@ pub fn tracker_load(
     deck_memory: &mut [Word],
     desk_memory: &mut [u64],
 ) -> u32
-    ensures { LoadExported (lent file.now file.now) (lent settings.old settings.new) (lent decks.old decks.new) (lent desk.old desk.new)
+    ensures { LoadExported (lent file.now file.now) (lent settings.old settings.new)
+        (lent decks.old decks.new) (lent desk.old desk.new)
         (lent deck_memory.old deck_memory.new) (lent desk_memory.old desk_memory.new) result }
 {
     let loaded = snapshot_loading::load_bench(file, deck_memory, desk_memory);

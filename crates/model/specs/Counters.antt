@@ -98,7 +98,8 @@ replacing counter item = record {
 }
 
 abbrev pub counters_after : Placement → List Counter → ℕ → List Counter
-counters_after (own place) counters item = set counters place (one_more_of (counter_at counters place))
+counters_after (own place) counters item = set counters place
+    (one_more_of (counter_at counters place))
 counters_after unused counters item = counters ++ (first_of item ∷ [])
 counters_after (replaced place) counters item =
     set counters place (replacing (counter_at counters place) item)

@@ -128,7 +128,8 @@ pub record Instances : Type 0 where
   -- "P5 A, codes 0 to 6 once each: code 0 leaves; code 6 has count 2, overcount 1, sent 0, unsent 1
   -- and says nothing."
   pub p5_counters : counters_after_all settings_a (items_once 7)
-      ≡ counter_with 6 2 1 0 ∷ seen_once 1 ∷ seen_once 2 ∷ seen_once 3 ∷ seen_once 4 ∷ seen_once 5 ∷ []
+      ≡ counter_with 6 2 1 0 ∷ seen_once 1 ∷ seen_once 2 ∷ seen_once 3 ∷ seen_once 4 ∷ seen_once 5
+      ∷ []
   pub p5_unreported : unreported (counter_at (counters_after_all settings_a (items_once 7)) 0) ≡ 1
   pub p5_silent : messages_of settings_a (items_once 6) (arrival_with 0 6 3) ≡ []
   -- "P6 k 2, e 100: base 118 gives 1, 120 gives 2, 180 gives 3."
@@ -142,8 +143,10 @@ pub record Instances : Type 0 where
   pub p8_above : margin settings_a (coordinator_after settings_a (draws 1)) 7 ≡ pos 1000
   pub p8_below : margin settings_a (coordinator_after settings_a (draws 1)) 8 ≡ negsuc 999
   -- "P9 A but for q, one draw each of classes 3 and 9: q 500 gives 3, q 501 gives 9."
-  pub p9_lower : quantile_of (settings_p9 500) (coordinator_after (settings_p9 500) draws_p9) ≡ Value 3
-  pub p9_upper : quantile_of (settings_p9 501) (coordinator_after (settings_p9 501) draws_p9) ≡ Value 9
+  pub p9_lower : quantile_of (settings_p9 500) (coordinator_after (settings_p9 500) draws_p9) ≡
+      Value 3
+  pub p9_upper : quantile_of (settings_p9 501) (coordinator_after (settings_p9 501) draws_p9) ≡
+      Value 9
   -- "P10 A: allowance 600 at n 6, 150 at n 0."
   pub p10_six : allowance settings_a 6 ≡ 600
   pub p10_none : allowance settings_a 0 ≡ 150

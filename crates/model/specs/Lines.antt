@@ -26,7 +26,8 @@ pub data Fields : Type 0 where
 abbrev pub before_mark : ℕ → Number → Number
 before_mark mark no_number = no_number
 before_mark mark (number value []) = no_number
-before_mark mark (number value (byte ∷ rest)) = if eqb byte mark then number value rest else no_number
+before_mark mark (number value (byte ∷ rest)) = if eqb byte mark then number value rest else
+    no_number
 
 abbrev pub read_field : ℕ → List ℕ → Number
 read_field mark bytes = before_mark mark (read_number bytes)

@@ -3,7 +3,8 @@
 --   when test refusal     the refusal where the test holds, else accepted
 --   first or_else later    the first refusal where there is one, else the later
 --
--- A chain `when .. or_else when .. or_else accepted` is an ordered list of tests with their numbers.
+-- A chain `when .. or_else when .. or_else accepted` is an ordered list of tests with their
+-- numbers.
 use Rattle.std.specs.Prelude.{Bool, true, false, ℕ, zero, suc}
 
 infixr 15 ◌or_else◌

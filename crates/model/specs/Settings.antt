@@ -49,7 +49,10 @@ threshold_of settings base = max 1 (settings.epsilon * base / (3000 * settings.s
 -- halvings; n of them are always enough.
 abbrev pub digits_within : ℕ → ℕ → ℕ
 digits_within zero n = 0
-digits_within (suc more) n = elim (is_zero n) [ true ↦ 0 | false ↦ suc (digits_within more (n / 2)) ]
+digits_within (suc more) n = elim (is_zero n) [
+  | true ↦ 0
+  | false ↦ suc (digits_within more (n / 2))
+]
 
 abbrev pub digits : ℕ → ℕ
 digits n = digits_within n n

@@ -95,7 +95,8 @@ leaving_for settings site arrival = leaving_by (placement_in settings site arriv
 -- "If unsent reaches the threshold, kind 1 goes out and sent grows by it."
 abbrev pub reports_item : Settings → Site → Arrival → Bool
 reports_item settings site arrival =
-    let counter = counter_at (counters_with settings site arrival) (place_for settings site arrival) in
+    let counter = counter_at (counters_with settings site arrival)
+    (place_for settings site arrival) in
     leb site.threshold (unreported counter)
 
 abbrev pub report_at : ℕ → ℕ → List Counter → List Counter

@@ -72,7 +72,8 @@ pub record TouchInstances : Type 0 where
   pub both_messages : (run_of settings_a draw_then_touch).messages ≡ messages_p2
   pub both_listed : heavy_hitters settings_a (coordinator_after settings_a draw_then_touch) ≡ 7 ∷ []
   pub both_class : quantile_of settings_a (coordinator_after settings_a draw_then_touch) ≡ Value 3
-  pub both_network : (run_of settings_a draw_then_touch).network ≡ (run_of settings_a (draws 1)).network
+  pub both_network : (run_of settings_a draw_then_touch).network ≡
+      (run_of settings_a (draws 1)).network
   -- one draw, none of it of code 8
   pub both_counted : counted (run_of settings_a draw_then_touch).accepted ≡ 1
   pub both_of_8 : count_of 8 (run_of settings_a draw_then_touch).accepted ≡ 0
@@ -84,10 +85,13 @@ pub record TouchInstances : Type 0 where
   pub behind_accepted : (batch_of settings_a 25 fresh (touch ∷ draw ∷ [])).accepted ≡ 2
   pub behind_written : (batch_of settings_a 25 fresh (touch ∷ draw ∷ [])).messages ≡ messages_p2
   pub stopped : (batch_of settings_a 100 fresh (draw ∷ touch_of 0 10 ∷ draw ∷ [])).refusal ≡ 6
-  pub stopped_accepted : (batch_of settings_a 100 fresh (draw ∷ touch_of 0 10 ∷ draw ∷ [])).accepted ≡ 1
+  pub stopped_accepted : (batch_of settings_a 100 fresh
+      (draw ∷ touch_of 0 10 ∷ draw ∷ [])).accepted ≡ 1
   -- "A, `0;7;0` alone: nothing listed, class none, 0 messages, allowance of n = 0"
-  pub alone_listed : heavy_hitters settings_a (coordinator_after settings_a (touch_of 0 7 ∷ [])) ≡ []
-  pub alone_class : quantile_of settings_a (coordinator_after settings_a (touch_of 0 7 ∷ [])) ≡ Nothing
+  pub alone_listed : heavy_hitters settings_a (coordinator_after settings_a (touch_of 0 7 ∷ [])) ≡
+      []
+  pub alone_class : quantile_of settings_a (coordinator_after settings_a (touch_of 0 7 ∷ [])) ≡
+      Nothing
   pub alone_margin : margin settings_a (coordinator_after settings_a (touch_of 0 7 ∷ [])) 7 ≡ pos 0
   pub alone_messages : (run_of settings_a (touch_of 0 7 ∷ [])).messages ≡ []
   pub alone_counted : counted (run_of settings_a (touch_of 0 7 ∷ [])).accepted ≡ 0

@@ -253,7 +253,8 @@ site_written (suc n) records rest i inside =
         ≡ get_or records i no_record
     by_place (yes last) earlier =
         ap
-        (λ (j : ℕ). site_at (records_numbers n records ++ record_and records n rest) (site_width * j))
+        (λ (j : ℕ). site_at (records_numbers n records ++ record_and records n rest)
+        (site_width * j))
         last
         ∙ site_behind (records_numbers n records) (record_and records n rest) (site_width * n)
         (length_records_numbers n records)

@@ -133,7 +133,8 @@ sites_from numbers = record {
 -- The numbers of the first n records.
 abbrev pub records_numbers : ℕ → List SiteRecord → List ℕ
 records_numbers zero records = []
-records_numbers (suc n) records = records_numbers n records ++ site_numbers (get_or records n no_record)
+records_numbers (suc n) records = records_numbers n records ++ site_numbers
+    (get_or records n no_record)
 
 -- Those of all 32, then the 32 counts.
 abbrev pub sites_numbers : Sites → List ℕ

@@ -50,7 +50,8 @@ module _ {settings : Settings} {site_memory : List ℕ} {progress : Progress}
   -- No site has that number.
   pub site_unknown : settings.sites ≤ j
       → (memory : List ℕ)
-      → CallStepSays settings site_memory memory memory progress (refused_with progress unknown_site)
+      → CallStepSays settings site_memory memory memory progress
+      (refused_with progress unknown_site)
   site_unknown none-such memory =
       stopped progress unknown_site memory asks.few (λ none. omega arith) refl
       (λ past state stands.
@@ -93,7 +94,8 @@ module _ {settings : Settings} {site_memory : List ℕ} {progress : Progress}
         (take rest (drop (j * site_words settings) site_memory)) answer) numbers_are at_words in
         let at-sites = subst
         (λ (s : Sites). SiteCalls.SiteReceiveSays settings (record_in s j) j message
-        (take rest (drop (j * site_words settings) site_memory)) answer) (sym sites_are) at-record in
+        (take rest (drop (j * site_words settings) site_memory)) answer) (sym sites_are) at-record
+        in
         subst (λ (m : List ℕ). SiteCalls.SiteReceiveSays settings (record_at held j) j message
         (take rest (drop (j * site_words settings) m)) answer) (sym memory_is) at-sites
 

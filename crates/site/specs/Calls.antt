@@ -67,7 +67,8 @@ pub record ObserveSays
       else numbers)
   pub count : answer.count ≡ length (observed_messages settings numbers arrival before)
   pub first : answer.first ≡ get_or (observed_messages settings numbers arrival before) 0 no_message
-  pub second : answer.second ≡ get_or (observed_messages settings numbers arrival before) 1 no_message
+  pub second : answer.second ≡ get_or (observed_messages settings numbers arrival before) 1
+      no_message
   pub memory : after
       ≡ (if observe_takes settings numbers arrival before
       then site_memory settings (observed_step settings numbers arrival before).site before

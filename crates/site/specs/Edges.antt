@@ -10,23 +10,30 @@ use Rattle.site.specs.Calls.{observe_refusal, observe_takes, receive_refusal}
 pub record SiteCallEdges : Type 0 where
   -- a draw: "then 4, 11; for a draw 5, 6, 7, 8". Threshold 0 is inconsistent, A has one site.
   pub draw_accepted :
-      observe_refusal settings_a (site_numbers 0 0 1 0 0) (arrival_with 0 9 1023) (replicate 1048 0) ≡ 0
+      observe_refusal settings_a (site_numbers 0 0 1 0 0) (arrival_with 0 9 1023)
+      (replicate 1048 0) ≡ 0
   pub draw_unknown_site :
-      observe_refusal settings_a (site_numbers 0 0 1 0 0) (arrival_with 1 9 1023) (replicate 1048 0) ≡ 5
+      observe_refusal settings_a (site_numbers 0 0 1 0 0) (arrival_with 1 9 1023)
+      (replicate 1048 0) ≡ 5
   pub draw_four_before_eleven :
-      observe_refusal settings_a (site_numbers 0 0 0 0 0) (arrival_with 1 9 1023) (replicate 1047 0) ≡ 4
+      observe_refusal settings_a (site_numbers 0 0 0 0 0) (arrival_with 1 9 1023)
+      (replicate 1047 0) ≡ 4
   pub draw_eleven_before_five :
       observe_refusal settings_a (site_numbers 0 0 0 0 0) (arrival_with 1 9 1023) (replicate 1048 0)
       ≡ 11
   -- a touch, of class 0: "tested for deck, code and class as before"; and it is not taken
   pub touch_accepted :
-      observe_refusal settings_a (site_numbers 0 0 1 0 0) (arrival_with 0 9 0) (replicate 1048 0) ≡ 0
+      observe_refusal settings_a (site_numbers 0 0 1 0 0) (arrival_with 0 9 0) (replicate 1048 0) ≡
+      0
   pub touch_unknown_site :
-      observe_refusal settings_a (site_numbers 0 0 1 0 0) (arrival_with 1 9 0) (replicate 1048 0) ≡ 5
+      observe_refusal settings_a (site_numbers 0 0 1 0 0) (arrival_with 1 9 0) (replicate 1048 0) ≡
+      5
   pub touch_four_before_eleven :
-      observe_refusal settings_a (site_numbers 0 0 0 0 0) (arrival_with 1 9 0) (replicate 1047 0) ≡ 4
+      observe_refusal settings_a (site_numbers 0 0 0 0 0) (arrival_with 1 9 0) (replicate 1047 0) ≡
+      4
   pub touch_eleven_before_five :
-      observe_refusal settings_a (site_numbers 0 0 0 0 0) (arrival_with 1 9 0) (replicate 1048 0) ≡ 11
+      observe_refusal settings_a (site_numbers 0 0 0 0 0) (arrival_with 1 9 0) (replicate 1048 0) ≡
+      11
   pub touch_not_taken :
       observe_takes settings_a (site_numbers 0 0 1 0 0) (arrival_with 0 9 0) (replicate 1048 0)
       ≡ false
@@ -46,4 +53,5 @@ pub record SiteCallEdges : Type 0 where
   pub message_eleven_before_five :
       receive_refusal settings_a (site_numbers 0 0 0 0 0) 1 (poll 1) (replicate 1048 0) ≡ 11
   pub message_five_before_nine :
-      receive_refusal settings_a (site_numbers 0 0 1 0 0) 1 (item_report 0 9 1) (replicate 1048 0) ≡ 5
+      receive_refusal settings_a (site_numbers 0 0 1 0 0) 1 (item_report 0 9 1) (replicate 1048 0)
+      ≡ 5

@@ -87,7 +87,8 @@ set_counter_suc first x rest i =
 
 pub set_counter_set : (counters : List Counter) (rest : List ℕ) (i : ℕ) (x : Counter)
     → i < length counters
-    → set_counter (counter_numbers counters ++ rest) i x ≡ counter_numbers (set counters i x) ++ rest
+    → set_counter (counter_numbers counters ++ rest) i x ≡ counter_numbers (set counters i x) ++
+    rest
 set_counter_set [] rest i x within = absurd (omega arith)
 set_counter_set (counter ∷ counters) rest zero x within = refl
 set_counter_set (counter ∷ counters) rest (suc i) x within =
@@ -135,7 +136,8 @@ module _ (n : ℕ) (memory : List ℕ) (fits : 4 * n ≤ length memory) where
 counter_numbers_snoc : (counters : List Counter) (x : Counter)
     → counter_numbers counters ++ counter_numbers (x ∷ []) ≡ counter_numbers (counters ++ (x ∷ []))
 counter_numbers_snoc [] x = refl
-counter_numbers_snoc (counter ∷ counters) x = ap (in_front counter) (counter_numbers_snoc counters x)
+counter_numbers_snoc (counter ∷ counters) x = ap (in_front counter)
+    (counter_numbers_snoc counters x)
 
 pub overwrite_append : (n : ℕ) (memory : List ℕ) (x : Counter)
     → 4 * n + 4 ≤ length memory

@@ -60,7 +60,8 @@ module _
 
   placement_own : found < used → placement before capacity used item ≡ own found
   placement_own within =
-      let test : ltb (find item (counters_in used before)) (length (counters_in used before)) ≡ true =
+      let test : ltb (find item (counters_in used before)) (length (counters_in used before)) ≡
+      true =
       rw (length_counters_in used before, ← found_is) (lt-ltb found used within) in
       rw (test, ← found_is)
 
@@ -108,7 +109,8 @@ module _
             ∙ length-set (counters_in used before) place x
             ∙ length_counters_in used before);
         counter = rw (counters-are, place_is)
-            (same-counter ∙ sym (get_or-set_same (counters_in used before) place x no_counter inside));
+            (same-counter ∙ sym (get_or-set_same (counters_in used before) place x no_counter
+            inside));
         leaving = same_left ∙ sym left_is;
         memory = rw counters-are
             (stored

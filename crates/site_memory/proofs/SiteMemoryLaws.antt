@@ -74,7 +74,8 @@ module _
       ap (take value_count) (drop_at front (site.histogram ++ rest) words length_front)
       ∙ take_at site.histogram rest value_count values
 
-  pub site_in_site_memory : site_in settings (site_record site) (site_memory settings site memory) ≡ site
+  pub site_in_site_memory : site_in settings (site_record site) (site_memory settings site memory)
+      ≡ site
   site_in_site_memory = λ i. record {
     counters = counters_back i;
     histogram = values_back i;

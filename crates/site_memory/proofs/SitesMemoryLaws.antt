@@ -50,7 +50,8 @@ module _ (default : SiteRecord) where
 
 pub site_records_set : (sites : List Site) (numbers : List SiteRecord) (j : ℕ) (site : Site)
     → j < length sites
-    → set (site_records sites numbers) j (site_record site) ≡ site_records (set sites j site) numbers
+    → set (site_records sites numbers) j (site_record site) ≡ site_records (set sites j site)
+    numbers
 site_records_set [] numbers j site j< = absurd (omega arith)
 site_records_set (first ∷ sites) [] zero site j< = refl
 site_records_set (first ∷ sites) [] (suc j) site j< = refl

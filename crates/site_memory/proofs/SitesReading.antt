@@ -97,7 +97,8 @@ length_sites_in (suc k) settings [] memory enough = absurd (omega arith)
 length_sites_in (suc k) settings (first ∷ others) memory enough =
     ap suc (length_sites_in k settings others (drop (site_words settings) memory) (omega arith))
 
-pub get_d_sites_in : (default : SiteRecord) (k : ℕ) (settings : Settings) (numbers : List SiteRecord)
+pub get_d_sites_in : (default : SiteRecord) (k : ℕ) (settings : Settings)
+    (numbers : List SiteRecord)
     (memory : List ℕ) (j : ℕ)
     → j < k
     → k ≤ length numbers

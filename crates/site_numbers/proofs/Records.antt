@@ -73,7 +73,8 @@ pub counting_on : (numbers counts : List ℕ) (i : ℕ)
     → i < 32
     → Counting numbers (set counts i (get_or numbers (count_place + i) 0)) (i + 1)
 counting_on numbers counts i counting inside =
-    growing_on (λ (n : ℕ). counts_from n count_place numbers) (replicate 32 0) 32 counts i counting i
+    growing_on (λ (n : ℕ). counts_from n count_place numbers) (replicate 32 0) 32 counts i counting
+    i
     (get_or numbers (count_place + i) 0 ∷ []) inside (length_counts_from i count_place numbers)
     (omega (arith, length-replicate {A = ℕ} 32 0))
     (ap (λ (n : ℕ). counts_from n count_place numbers) (sym (add-one i))) refl
@@ -99,8 +100,10 @@ pub recording_on : (records : List SiteRecord) (numbers : List ℕ) (i : ℕ) {a
     → after ≡ sets numbers (site_width * i) (site_numbers (get_or records i no_record))
     → Recording records after (i + 1)
 recording_on records numbers i recording inside stored =
-    growing_on (λ (n : ℕ). records_numbers n records) (replicate sites_width 0) 32 numbers i recording
-    (site_width * i) (site_numbers (get_or records i no_record)) inside (length_records_numbers i records)
+    growing_on (λ (n : ℕ). records_numbers n records) (replicate sites_width 0) 32 numbers i
+    recording
+    (site_width * i) (site_numbers (get_or records i no_record)) inside
+    (length_records_numbers i records)
     (omega (arith, length-replicate {A = ℕ} sites_width 0))
     (ap (λ (n : ℕ). records_numbers n records) (sym (add-one i))) stored
 

@@ -50,7 +50,8 @@ module _ (settings : Settings) (before : List ℕ) (sites : Sites) (fresh : site
   start_settings refusal same not-accepted =
       refused refusal (refuse_part _ _ (begin _) refl same not-accepted) not-accepted
 
-  abbrev past_settings : settings_refusal settings ≡ no_refusal → Still (start_refusal settings before)
+  abbrev past_settings : settings_refusal settings ≡ no_refusal → Still
+      (start_refusal settings before)
   past_settings none = pass_part _ _ (begin _) refl none
 
   pub start_short : settings_refusal settings ≡ no_refusal

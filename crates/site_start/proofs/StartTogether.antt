@@ -48,6 +48,7 @@ part_same settings memory part which known =
 
 pub start_claims : StartClaims
 start_claims = record {
-  record_same = λ which known. get_or-replicate most_sites which (site_record fresh_site) no_record known;
+  record_same = λ which known. get_or-replicate most_sites which (site_record fresh_site) no_record
+      known;
   part_same = part_same;
 }

@@ -32,7 +32,8 @@ reported_stored : (counters : List Counter) (memory : List ℕ) (place amount : 
     ((counter_at counters place).reported + amount)
     ≡ overwrite (counter_numbers (report_at amount place counters)) memory
 reported_stored counters memory place amount within =
-    let x = with_reported (counter_at counters place) ((counter_at counters place).reported + amount) in
+    let x = with_reported (counter_at counters place)
+    ((counter_at counters place).reported + amount) in
     let same : length (counter_numbers (set counters place x)) ≡ length (counter_numbers counters) =
     length_counter_numbers (set counters place x)
     ∙ ap (λ (l : ℕ). 4 * l) (length-set counters place x)
@@ -79,7 +80,8 @@ module _ (settings : Settings) (site : Site) (arrival : Arrival) where
       by_report : (due : Bool)
           → (if due
           then set stored (4 * place_for settings site arrival + 3)
-          ((counter_at (counters_with settings site arrival) (place_for settings site arrival)).reported
+          ((counter_at (counters_with settings site arrival)
+          (place_for settings site arrival)).reported
           + site.threshold)
           else stored)
           ≡ overwrite
@@ -112,7 +114,8 @@ module _
     before) where
   -- The numbers of the counters end before those of the values.
   numbers_before :
-      length (counter_numbers (counters_reported settings (site_in settings numbers before) arrival))
+      length (counter_numbers (counters_reported settings (site_in settings numbers before)
+      arrival))
       ≤ counter_words settings
   numbers_before =
       let site = site_in settings numbers before in

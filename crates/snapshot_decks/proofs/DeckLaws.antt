@@ -82,7 +82,8 @@ module _ (settings : Settings) where
   -- The decks' test from the front of bytes on, whatever records follow.
   abbrev pub test_of : List SiteRecord → ℕ → List ℕ → Bool
   test_of others k bytes =
-      sites_consistent k settings (records_in k settings bytes ++ others) (words_in k settings bytes)
+      sites_consistent k settings (records_in k settings bytes ++ others)
+      (words_in k settings bytes)
 
   pub decks_step : (others : List SiteRecord) (k : ℕ) (bytes : List ℕ)
       → test_of others (suc k) bytes

@@ -31,7 +31,8 @@ pub number_there : (file : List ℕ) (from count i read : ℕ)
     → read ≡ get_or (numbers_from file from count) i 0
 number_there file from count i read inside is =
     is
-    ∙ ap (λ (l : List ℕ). number_of (take desk_bytes l)) (sym (drop-drop (desk_bytes * i) from file))
+    ∙ ap (λ (l : List ℕ). number_of (take desk_bytes l))
+    (sym (drop-drop (desk_bytes * i) from file))
     ∙ sym (number_in desk_bytes count i (drop from file) inside)
 
 -- ---- The memory

@@ -116,7 +116,8 @@ module _ (settings : Settings) where
       (omega (arith, length_numbers_in deck_bytes (deck_count settings) bytes))
 
   pub decks_again : (k : ℕ) (bytes : List ℕ) (records : List SiteRecord)
-      → deck_sections k settings (records_in k settings bytes ++ records) (words_in k settings bytes)
+      → deck_sections k settings (records_in k settings bytes ++ records)
+      (words_in k settings bytes)
       ≡ sections_in (replicate k (deck_shape settings)) bytes
   decks_again zero bytes records = refl
   decks_again (suc k) bytes records =

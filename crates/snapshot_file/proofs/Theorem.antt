@@ -78,14 +78,17 @@ module _ (settings : Settings) (held : Held) (room : ℕ) (p : Passed settings h
       bytes_append (bench_sections settings held) (trailer_sections settings)
       ∙ ap (λ (l : List ℕ). bench ++ l) ends
 
-  trailer : Trailer file desk_place (decks_place_of settings) deck_bytes (byte_sum (bench ++ pointers))
+  trailer : Trailer file desk_place (decks_place_of settings) deck_bytes
+      (byte_sum (bench ++ pointers))
       (bench ++ pointers)
   trailer =
       let s = settled settings p.settings_accepted in
-      subst (λ (bytes : List ℕ). Trailer (bytes ++ little_endian sum_bytes (byte_sum bytes)) desk_place
+      subst (λ (bytes : List ℕ). Trailer (bytes ++ little_endian sum_bytes (byte_sum bytes))
+      desk_place
       (decks_place_of settings) deck_bytes (byte_sum (bench ++ pointers)) (bench ++ pointers))
       (sym before_sum)
-      (trailer_of bench desk_place (decks_place_of settings) deck_bytes (byte_sum (bench ++ pointers))
+      (trailer_of bench desk_place (decks_place_of settings) deck_bytes
+      (byte_sum (bench ++ pointers))
       (omega arith) (omega (arith, s.universe.at_most, s.sites.at_most, value_count_is))
       (omega arith)
       (mod-lt (sum_of (bench ++ pointers)) (omega arith)))
@@ -116,7 +119,8 @@ module _ (settings : Settings) (held : Held) (room : ℕ) (p : Passed settings h
       or_else when (not (eqb (byte_sum (unsummed file)) (sum_in file))) checksum_wrong
       or_else settings_refusal s
       or_else when (layout_wrong s file) file_unreadable
-      or_else when (ltb sites (sites_words s) || ltb coordinator (coordinator_words s)) memory_too_short
+      or_else when (ltb sites (sites_words s) || ltb coordinator (coordinator_words s))
+      memory_too_short
       or_else when (not (held_consistent s (held_in s file))) memory_inconsistent
       or_else no_refusal
 

@@ -90,16 +90,19 @@ module _ (front : List ℕ) (desk decks width sum : ℕ)
       let all = length-append body last in
       record {
         desk_is = ap desk_pointer from_first
-            ∙ from_end_lem pointer_bytes trailer_length desk front (second ++ (third ++ last)) desk-small
+            ∙ from_end_lem pointer_bytes trailer_length desk front (second ++ (third ++ last))
+            desk-small
             (omega (arith, two, three, four, rest-1, rest-2));
         decks_is = ap decks_pointer from_second
             ∙ from_end_lem pointer_bytes (trailer_length - pointer_bytes) decks (front ++ first)
             (third ++ last) decks-small (omega (arith, three, four, rest-2));
         width_is = ap width_in from_third
-            ∙ from_end_lem width_bytes (width_bytes + sum_bytes) width ((front ++ first) ++ second) last
+            ∙ from_end_lem width_bytes (width_bytes + sum_bytes) width ((front ++ first) ++ second)
+            last
             width_small (omega (arith, four));
         sum_is = ap sum_in from_last
-            ∙ from_end_lem sum_bytes sum_bytes sum (((front ++ first) ++ second) ++ third) [] sum_small
+            ∙ from_end_lem sum_bytes sum_bytes sum (((front ++ first) ++ second) ++ third) []
+            sum_small
             (omega arith);
         unsummed_is = take_at body last (length whole - sum_bytes) (omega (arith, all, four));
       }

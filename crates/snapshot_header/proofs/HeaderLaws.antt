@@ -130,7 +130,8 @@ module _ (settings : Settings) (file : List ℕ) where
       → decks_pointer file ≡ decks_place_of settings
       → (row : List ℕ)
       → row ≡ take coordinator_width (desk_record settings file)
-      → not (phase_well (get_or row 5 0) (get_or row 6 0) (get_or row 7 0) (get_or row 8 0) (get_or row 9 0))
+      → not (phase_well (get_or row 5 0) (get_or row 6 0) (get_or row 7 0) (get_or row 8 0)
+      (get_or row 9 0))
       ≡ layout_wrong settings file
   phase_decides whole desk decks row row_is =
       let numbers = desk_record settings file in

@@ -53,7 +53,8 @@ module _ (file site_memory coordinator_memory : List ℕ) where
 
   -- ---- Accepted
 
-  module _ (accepts : load_refusal file (length site_memory) (length coordinator_memory) ≡ no_refusal)
+  module _ (accepts : load_refusal file (length site_memory) (length coordinator_memory) ≡
+    no_refusal)
     where
       facts : Accepted file (length site_memory) (length coordinator_memory)
       facts = accepted_of file (length site_memory) (length coordinator_memory) accepts
@@ -77,7 +78,8 @@ module _ (file site_memory coordinator_memory : List ℕ) where
 
         pub coordinator_enough : coordinator_words settings ≤ length coordinator_memory
         coordinator_enough =
-            subst⁻¹ (λ (s : Settings). coordinator_words s ≤ length coordinator_memory) settings_read
+            subst⁻¹ (λ (s : Settings). coordinator_words s ≤ length coordinator_memory)
+            settings_read
             facts.coordinator_enough
 
         -- The row of the record is that of a consistent one.
@@ -114,7 +116,8 @@ module _ (file site_memory coordinator_memory : List ℕ) where
               sites = sites;
               coordinator = coordinator;
             })
-        accepted_says site_after coordinator_after row sites coordinator stored desk-stored sites_are
+        accepted_says site_after coordinator_after row sites coordinator stored desk-stored
+        sites_are
             row_is found =
             let bench : held_in settings file ≡ bench_in file =
             ap (λ (s : Settings). held_in s file) settings_read in

@@ -138,7 +138,8 @@ words_end settings file memory₀ memory words size first j words-are-so size_is
 -- ---- The decks' records
 
 records_more : (settings : Settings) (j : ℕ) (bytes : List ℕ)
-    → records_in j settings bytes ++ (deck_record settings (drop (j * deck_size settings) bytes) ∷ [])
+    → records_in j settings bytes ++ (deck_record settings (drop (j * deck_size settings) bytes) ∷
+    [])
     ≡ records_in (suc j) settings bytes
 records_more settings zero bytes =
     let none : 0 * deck_size settings ≡ 0 = omega arith in rw none

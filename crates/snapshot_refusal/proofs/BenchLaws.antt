@@ -39,7 +39,8 @@ pub count_there : (settings : Settings) (file : List ℕ) (words j read : ℕ)
     → words ≡ coordinator_words settings
     → j < settings.sites
     → read
-    ≡ number_at desk_bytes (desk_place + desk_bytes * (words + coordinator_width) + desk_bytes * j) file
+    ≡ number_at desk_bytes (desk_place + desk_bytes * (words + coordinator_width) + desk_bytes * j)
+    file
     → read ≡ count_at (counts_in settings file) j
 count_there settings file words j read words_are inside is =
     let k = settings.sites in
@@ -140,7 +141,8 @@ module _ (settings : Settings) (few : settings.sites ≤ most_sites) where
       (sym (consistent_parts settings (coordinator_from numbers) memory) ∙ passes) in
       let facts = record_facts settings (coordinator_from numbers) parts.first_true in
       let fits = phase_narrow (get_or numbers 3 0) (get_or numbers 5 0) (get_or numbers 6 0)
-      (get_or numbers 7 0) (get_or numbers 8 0) (get_or numbers 9 0) well facts.phase_consistent_lem in
+      (get_or numbers 7 0) (get_or numbers 8 0) (get_or numbers 9 0) well
+      facts.phase_consistent_lem in
       and_both (leb (greatest_held numbers) greatest_narrow) (phase_well_in numbers)
       (le-leb (greatest_held numbers) greatest_narrow
       (omega (
@@ -169,7 +171,8 @@ module _ (settings : Settings) (few : settings.sites ≤ most_sites) where
       none false fails-too fails = sym fails-too
 
       by_well : (holds : Bool) → coordinator_well numbers ≡ holds
-          → coordinator_consistent settings (coordinator_in settings (coordinator_read numbers) memory)
+          → coordinator_consistent settings (coordinator_in settings (coordinator_read numbers)
+          memory)
           ≡ test
       by_well true holds = rw holds
       by_well false fails =

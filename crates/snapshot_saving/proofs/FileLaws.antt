@@ -32,7 +32,8 @@ three_written second-place third-place first second third bytes second_is third-
     let both = length-append first second in
     let second_at : second-place ≡ 0 + length first = omega (arith, second_is) in
     let third_at : third-place ≡ 0 + length (first ++ second) = omega (arith, third-is, both) in
-    (λ i. written_at (third_at i) third (written_at (second_at i) second (written_at 0 first bytes)))
+    (λ i. written_at (third_at i) third (written_at (second_at i) second
+    (written_at 0 first bytes)))
     ∙ ap (written_at (0 + length (first ++ second)) third)
     (written_append 0 first second bytes (omega (arith, fits)))
     ∙ written_append 0 (first ++ second) third bytes (omega (arith, fits, both))
@@ -102,7 +103,8 @@ module _ (settings : Settings) (held : Held) (bytes : List ℕ)
         asks.bytes_enough,
       ))
 
-  pub file_written : written_at (trailer_place settings) (trailer_over settings bench_over) bench_over
+  pub file_written : written_at (trailer_place settings) (trailer_over settings bench_over)
+      bench_over
       ≡ written_at 0 (file_of settings held) bytes
   file_written =
       let place = trailer_place settings in

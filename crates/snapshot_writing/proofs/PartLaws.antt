@@ -204,7 +204,8 @@ module _ (settings : Settings) (records : List SiteRecord) (memory before : List
         pub written_more : {after : List ℕ}
             → j < settings.sites
             → length after ≡ length bytes
-            → after ≡ written_at (decks_place_of settings + j * deck_size settings) (own_bytes j) bytes
+            → after ≡ written_at (decks_place_of settings + j * deck_size settings) (own_bytes j)
+            bytes
             → Written after (j + 1)
         written_more {after} known kept is =
             let place = decks_place_of settings in

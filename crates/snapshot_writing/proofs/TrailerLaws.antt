@@ -27,7 +27,8 @@ module _ (settings : Settings) (bytes : List ℕ) (asks : TrailerAsks settings b
       (written_at (first + 4) (little_endian 4 decks)
       (written_at first (little_endian 4 desk_place) bytes))
 
-  ten_written : ten_over place (decks_place_of settings) ≡ written_at place (trailer_ten settings) bytes
+  ten_written : ten_over place (decks_place_of settings) ≡ written_at place (trailer_ten settings)
+      bytes
   ten_written =
       let one = little_endian 4 desk_place in
       let two = little_endian 4 (decks_place_of settings) in
@@ -48,7 +49,8 @@ module _ (settings : Settings) (bytes : List ℕ) (asks : TrailerAsks settings b
       let ten = trailer_ten settings in
       let over : ten_over first decks ≡ written_at place ten bytes =
       (λ i. ten_over (first_is i) (decks_are i)) ∙ ten_written in
-      let sum_is : byte_sum (take last (ten_over first decks)) ≡ byte_sum (take place bytes ++ ten) =
+      let sum_is : byte_sum (take last (ten_over first decks)) ≡ byte_sum (take place bytes ++ ten)
+      =
       (λ i. byte_sum (take (last-is i) (over i)))
       ∙ ap byte_sum (take_written place ten bytes (omega (arith, trailer_fits))) in
       (λ i. written_at (last-is i) (little_endian 2 (sum_is i)) (over i))

@@ -59,4 +59,5 @@ trailer_ten settings = sections_bytes (trailer_sections settings)
 abbrev pub trailer_over : Settings → List ℕ → List ℕ
 trailer_over settings bytes =
     trailer_ten settings
-    ++ little_endian sum_bytes (byte_sum (take (trailer_place settings) bytes ++ trailer_ten settings))
+    ++ little_endian sum_bytes (byte_sum (take (trailer_place settings) bytes ++ trailer_ten
+    settings))

@@ -59,7 +59,8 @@ handed_as : {settings : Settings} {underway : Underway}
     → Delivering settings (carrying underway site_memory coordinatorBefore log)
     → (by.count ≡ 0 → ⊥)
     → SendAsks (traffic_of next) by.out underway.sites.messages log)
-    → ((log : List ℕ) (u : Delivering settings (carrying underway site_memory coordinatorBefore log))
+    → ((log : List ℕ) (u : Delivering settings
+    (carrying underway site_memory coordinatorBefore log))
     → Holds settings u.given u.earlier (delivery_step settings u.now)
     (answered by.count by.out (carrying next site_memory coordinator_after log)))
     → HandedStep settings underway site_memory coordinatorBefore coordinator_after by

@@ -27,7 +27,8 @@ pub counts_fit : {settings : Settings} {site_memory : List ℕ}
     → SitesFit settings site_memory
     → (sites : Sites) (coordinator : CoordinatorRecord) (coordinator_numbers : List ℕ)
     → sites_consistent settings.sites settings sites.records site_memory ≡ true
-    → coordinator_consistent settings (coordinator_in settings coordinator coordinator_numbers) ≡ true
+    → coordinator_consistent settings (coordinator_in settings coordinator coordinator_numbers) ≡
+    true
     → AllCountsFit settings sites coordinator.total
 counts_fit {settings} {site_memory} fits sites coordinator coordinator_numbers sites-hold
     coordinator_holds =
@@ -37,7 +38,8 @@ counts_fit {settings} {site_memory} fits sites coordinator coordinator_numbers s
     let enough = enough_records k settings sites.records site_memory read.all_read in
     let sound : (j : ℕ) → j < k
     → SoundSite settings
-    (site_in settings (get_or sites.records j no_record) (drop (j * site_words settings) site_memory))
+    (site_in settings (get_or sites.records j no_record)
+    (drop (j * site_words settings) site_memory))
     = λ j j<.
     subst (SoundSite settings)
     (get_d_sites_in no_record k settings sites.records site_memory j j< enough)

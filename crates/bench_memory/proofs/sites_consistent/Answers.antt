@@ -50,13 +50,23 @@ bounds-sites-j c =
     omega (arith, site_few c.requires c.loop-j.j c.loop-j-test.true)
 
 pub offset_bounds-memory-start : goal.offset_bounds-memory-start
-offset_bounds-memory-start c = omega (arith, (starts (goal.at.offset_bounds-memory-start c).In-loop-j).small)
+offset_bounds-memory-start c = omega (
+  arith,
+  (starts
+      (goal.at.offset_bounds-memory-start c).In-loop-j).small,
+)
 
 pub slice_bounds-site_consistent-count : goal.slice_bounds-site_consistent-count
-slice_bounds-site_consistent-count c = omega (arith, (starts (goal.at.slice_bounds-site_consistent-count c).In-loop-j).within)
+slice_bounds-site_consistent-count c = omega (
+  arith,
+  (starts (goal.at.slice_bounds-site_consistent-count c).In-loop-j).within,
+)
 
 pub slice_bounds-site_consistent-start : goal.slice_bounds-site_consistent-start
-slice_bounds-site_consistent-start c = omega (arith, (starts (goal.at.slice_bounds-site_consistent-start c).In-loop-j).within)
+slice_bounds-site_consistent-start c = omega (
+  arith,
+  (starts (goal.at.slice_bounds-site_consistent-start c).In-loop-j).within,
+)
 
 pub site_consistent-requires : goal.site_consistent-requires
 site_consistent-requires c =
@@ -72,7 +82,8 @@ loop-j-preserved c =
       words_are = c.site_words-words.ensures;
       passing = passing_on a.settings.sites a.settings a.sites.records a.memory.now
           c.loop-j.j c.loop-j.invariant.passing c.loop-j-test.true
-          (own_decides (goal.at.loop-j-preserved c).After-site_consistent ∙ c.if-site_consistent.true);
+          (own_decides (goal.at.loop-j-preserved c).After-site_consistent ∙
+          c.if-site_consistent.true);
     }
 
 pub returns-else-site_consistent : goal.returns-else-site_consistent
@@ -80,7 +91,8 @@ returns-else-site_consistent c =
     let a = c.args in
     passing_fails a.settings.sites a.settings a.sites.records a.memory.now
     c.loop-j.j c.loop-j.invariant.passing c.loop-j-test.true
-    (own_decides (goal.at.returns-else-site_consistent c).After-site_consistent ∙ c.if-site_consistent.false)
+    (own_decides (goal.at.returns-else-site_consistent c).After-site_consistent ∙
+    c.if-site_consistent.false)
 
 pub returns : goal.returns
 returns c =

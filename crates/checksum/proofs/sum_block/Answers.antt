@@ -47,11 +47,19 @@ overflow_add-lower c = record { fits = fields_fit _ _ (room c) (lanes_after c).l
 
 pub overflow_add-upper : goal.overflow_add-upper
 overflow_add-upper c =
-    let within = (lanes_after (goal.at.overflow_add-upper c).After-lower_bytes-lower).upper_within in
-    record { fits = rw c.upper_bytes-upper.ensures (fields_fit _ _ (room (goal.at.overflow_add-upper c).After-lower_bytes-lower) within) }
+    let within = (lanes_after (goal.at.overflow_add-upper c).After-lower_bytes-lower).upper_within
+    in
+    record {
+      fits = rw c.upper_bytes-upper.ensures
+          (fields_fit _ _ (room (goal.at.overflow_add-upper c).After-lower_bytes-lower) within);
+    }
 
 pub loop-round-preserved : goal.loop-round-preserved
-loop-round-preserved c = (rw c.upper_bytes-upper.ensures (lanes_after (goal.at.loop-round-preserved c).After-lower_bytes-lower), omega arith)
+loop-round-preserved c = (
+  rw c.upper_bytes-upper.ensures
+      (lanes_after (goal.at.loop-round-preserved c).After-lower_bytes-lower),
+  omega arith,
+)
 
 -- Each of eight lanes is below 65,536.
 pub overflow_add-sum : goal.overflow_add-sum

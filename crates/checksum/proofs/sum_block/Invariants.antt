@@ -8,7 +8,8 @@ use Rattle.checksum.proofs.sum_block.Given as goal
 
 abbrev pub invariant-loop-round : goal.invariant-loop-round
 invariant-loop-round l =
-    Lanes 4 l.lower l.upper (most_added * l.round) (sum_of (take (word_bytes * l.round) (drop l.first l.bytes)))
+    Lanes 4 l.lower l.upper (most_added * l.round)
+    (sum_of (take (word_bytes * l.round) (drop l.first l.bytes)))
     × (l.round ≤ l.rounds)
 
 abbrev pub decreases-loop-round : goal.decreases-loop-round

@@ -6,7 +6,8 @@ use Rattle.checksum.specs.Sums.{sum_of}
 use Rattle.checksum.proofs.sum_rest.Given as goal
 
 abbrev pub invariant-loop-i : goal.invariant-loop-i
-invariant-loop-i l = (l.i ≤ l.left) × (l.sum ≤ 255 * l.i) × (l.sum ≡ sum_of (take l.i (drop l.first l.bytes)))
+invariant-loop-i l = (l.i ≤ l.left) × (l.sum ≤ 255 * l.i) ×
+    (l.sum ≡ sum_of (take l.i (drop l.first l.bytes)))
 
 abbrev pub decreases-loop-i : goal.decreases-loop-i
 decreases-loop-i l = l.left - l.i

@@ -52,14 +52,26 @@ sum_block-block-requires c =
 pub overflow_add-sum : goal.overflow_add-sum
 overflow_add-sum c =
     let now = c.loop-passed in
-    record { fits = omega (arith, block_within (goal.at.overflow_add-sum c).After-sum_block-block, now.invariant.0) }
+    record {
+      fits = omega (
+        arith,
+        block_within (goal.at.overflow_add-sum c).After-sum_block-block,
+        now.invariant.0,
+      );
+    }
 
 pub overflow_add-passed : goal.overflow_add-passed
-overflow_add-passed c = record { fits = omega (arith, (turns_within (goal.at.overflow_add-passed c).After-sum_block-block).1) }
+overflow_add-passed c = record {
+  fits = omega (
+    arith,
+    (turns_within (goal.at.overflow_add-passed c).After-sum_block-block).1,
+  );
+}
 
 pub loop-passed-smaller : goal.loop-passed-smaller
 loop-passed-smaller c =
-    let turns = turns_within (goal.at.loop-passed-smaller c).After-sum_block-block in omega (arith, turns.0, turns.1)
+    let turns = turns_within (goal.at.loop-passed-smaller c).After-sum_block-block in omega
+    (arith, turns.0, turns.1)
 
 pub loop-passed-preserved : goal.loop-passed-preserved
 loop-passed-preserved c =

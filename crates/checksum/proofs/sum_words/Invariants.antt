@@ -7,7 +7,8 @@ use Rattle.checksum.specs.Rounds.{word_bytes}
 use Rattle.checksum.proofs.sum_words.Given as goal
 
 abbrev pub invariant-loop-passed : goal.invariant-loop-passed
-invariant-loop-passed l = (l.sum ≡ byte_sum (take (word_bytes * l.passed) l.bytes)) × (l.passed ≤ l.rounds)
+invariant-loop-passed l = (l.sum ≡ byte_sum (take (word_bytes * l.passed) l.bytes)) ×
+    (l.passed ≤ l.rounds)
 
 abbrev pub decreases-loop-passed : goal.decreases-loop-passed
 decreases-loop-passed l = l.rounds - l.passed

@@ -19,5 +19,6 @@ returns-else-allowance-eq-NO_REFUSAL c =
     let says = rw c.settings_from-settings.ensures at call.ensures in
     record {
       refusal = says.refusal;
-      messages = handed_refused _ _ _ (λ none. c.if-allowance-eq-NO_REFUSAL.false (says.refusal ∙ none));
+      messages = handed_refused _ _ _ (λ none. c.if-allowance-eq-NO_REFUSAL.false
+          (says.refusal ∙ none));
     }

@@ -21,10 +21,12 @@ returns-then-refusal-ne-NO_REFUSAL c =
 
 pub returns-then-not_announcing : goal.returns-then-not_announcing
 returns-then-not_announcing c =
-    end (past_memory (goal.at.returns-then-not_announcing c).Else-refusal-ne-NO_REFUSAL) (ap (λ (other : Bool). when other message_not_due)
+    end (past_memory (goal.at.returns-then-not_announcing c).Else-refusal-ne-NO_REFUSAL)
+    (ap (λ (other : Bool). when other message_not_due)
     (sym (told c.not_announcing.ensures c.if-not_announcing.true)))
 
 pub returns : goal.returns
 returns c =
-    end (past_memory (goal.at.returns c).Else-refusal-ne-NO_REFUSAL) (ap (λ (other : Bool). when other message_not_due)
+    end (past_memory (goal.at.returns c).Else-refusal-ne-NO_REFUSAL)
+    (ap (λ (other : Bool). when other message_not_due)
     (sym (told c.not_announcing.ensures c.if-not_announcing.false)))

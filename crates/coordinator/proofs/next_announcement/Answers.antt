@@ -11,7 +11,8 @@ returns-then-refusal-ne-NO_REFUSAL c =
     let result-is = c.announce_refusal-refusal.ensures in
     record {
       refusal = result-is;
-      answer = hands_refused refusal _ _ _ (λ none. c.if-refusal-ne-NO_REFUSAL.true (result-is ∙ none))
+      answer = hands_refused refusal _ _ _ (λ none. c.if-refusal-ne-NO_REFUSAL.true
+          (result-is ∙ none))
           refl refl c.no_message.ensures;
     }
 

@@ -13,7 +13,8 @@ returns-then-refusal-ne-NO_REFUSAL c =
     let result-is = c.receive_refusal-refusal.ensures in
     record {
       refusal = result-is;
-      answer = hands_refused refusal _ _ _ (λ none. c.if-refusal-ne-NO_REFUSAL.true (result-is ∙ none))
+      answer = hands_refused refusal _ _ _ (λ none. c.if-refusal-ne-NO_REFUSAL.true
+          (result-is ∙ none))
           refl refl c.no_message.ensures;
       memory = refuses refusal _ _ (λ none. c.if-refusal-ne-NO_REFUSAL.true (result-is ∙ none));
     }

@@ -13,7 +13,8 @@ abbrev past_settings : (c : Else-refusal-ne-NO_REFUSAL)
     → let a = c.args in
     Still (start_refusal a.settings a.words)
 past_settings c =
-    pass_part _ _ (begin _) refl (told c.test_settings-refusal.ensures c.if-refusal-ne-NO_REFUSAL.false)
+    pass_part _ _ (begin _) refl (told c.test_settings-refusal.ensures
+    c.if-refusal-ne-NO_REFUSAL.false)
 
 pub returns-then-refusal-ne-NO_REFUSAL : goal.returns-then-refusal-ne-NO_REFUSAL
 returns-then-refusal-ne-NO_REFUSAL c =
@@ -22,7 +23,8 @@ returns-then-refusal-ne-NO_REFUSAL c =
 pub returns-then-words-settings : goal.returns-then-words-settings
 returns-then-words-settings c =
     let a = c.args in
-    refuse _ _ _ (past_settings (goal.at.returns-then-words-settings c).Else-refusal-ne-NO_REFUSAL) refl
+    refuse _ _ _ (past_settings (goal.at.returns-then-words-settings c).Else-refusal-ne-NO_REFUSAL)
+    refl
     (lt-ltb a.words (coordinator_words a.settings)
     (omega (arith, c.if-words-settings.true, value_count_is)))
 

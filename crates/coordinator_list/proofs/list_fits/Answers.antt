@@ -66,13 +66,13 @@ loop-item-preserved c =
     let rule = sym (c.is_listed.ensures ∙ listed_is settings numbers memory item
     inside) in
     elim c.if-is_listed.branch [
-      then-is_listed+else-places-count w ↦
-        rw w.count-is
-        (fitting_yes settings here places count item so_far inside (rule ∙ w.if-is_listed.true)
-        w.if-places-count.false)
-    | else-is_listed w ↦
-        rw w.count-is
-        (fitting_no settings here places count item so_far inside (rule ∙ w.if-is_listed.false))
+      | then-is_listed+else-places-count w ↦
+          rw w.count-is
+          (fitting_yes settings here places count item so_far inside (rule ∙ w.if-is_listed.true)
+          w.if-places-count.false)
+      | else-is_listed w ↦
+          rw w.count-is
+          (fitting_no settings here places count item so_far inside (rule ∙ w.if-is_listed.false))
     ]
 
 pub returns : goal.returns

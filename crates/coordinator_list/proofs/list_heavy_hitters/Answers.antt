@@ -35,7 +35,8 @@ returns-then-refusal-ne-NO_REFUSAL c =
     let refusal = list_refusal a.settings a.coordinator a.memory.now
     (length a.list.now) in
     let refused : c.coordinator_memory_refusal-refusal.result ≡ refusal =
-    refuse_part _ _ (begin _) refl c.coordinator_memory_refusal-refusal.ensures c.if-refusal-ne-NO_REFUSAL.true in
+    refuse_part _ _ (begin _) refl c.coordinator_memory_refusal-refusal.ensures
+    c.if-refusal-ne-NO_REFUSAL.true in
     record {
       refusal = refused;
       count = refuses refusal _ _ (λ none. c.if-refusal-ne-NO_REFUSAL.true (refused ∙ none));
@@ -62,7 +63,8 @@ returns-then-list_fits c =
     let refusal = refusal_at (goal.at.returns-then-list_fits c).Else-refusal-ne-NO_REFUSAL in
     let zero : no_refusal ≡ refusal =
     end (pass _ _ _ (past_memory (goal.at.returns-then-list_fits c).Else-refusal-ne-NO_REFUSAL) refl
-    (le-ltb (places_at (goal.at.returns-then-list_fits c).After-list_fits) (hitters_at (goal.at.returns-then-list_fits c).After-list_fits) (leb-true _ _
+    (le-ltb (places_at (goal.at.returns-then-list_fits c).After-list_fits)
+    (hitters_at (goal.at.returns-then-list_fits c).After-list_fits) (leb-true _ _
     (told c.list_fits.ensures c.if-list_fits.true)))) refl in
     record {
       refusal = zero;
@@ -75,7 +77,8 @@ returns c =
     let refusal = refusal_at (goal.at.returns c).Else-refusal-ne-NO_REFUSAL in
     let twelve : list_too_short ≡ refusal =
     refuse _ _ _ (past_memory (goal.at.returns c).Else-refusal-ne-NO_REFUSAL) refl
-    (lt-ltb (places_at (goal.at.returns c).After-list_fits) (hitters_at (goal.at.returns c).After-list_fits) (leb-false _ _
+    (lt-ltb (places_at (goal.at.returns c).After-list_fits)
+    (hitters_at (goal.at.returns c).After-list_fits) (leb-false _ _
     (told c.list_fits.ensures c.if-list_fits.false))) in
     record {
       refusal = twelve;

@@ -89,20 +89,20 @@ loop-next-preserved c =
     let rule = sym (c.is_listed.ensures ∙ listed_is settings numbers memory item
     inside) in
     elim c.if-is_listed.branch [
-      then-is_listed w ↦
-        rw (w.list-is, w.count-is)
-        (writing_yes settings here before c.loop-next.list count item c.loop-next.invariant inside
-        (rule ∙ w.if-is_listed.true)
-        (omega (
-          arith,
-          c.requires.places,
-          one_more_listed settings here count item c.loop-next.invariant.counting inside
-              (rule ∙ w.if-is_listed.true),
-        )))
-    | else-is_listed w ↦
-        rw (w.list-is, w.count-is)
-        (writing_no settings here before c.loop-next.list count item c.loop-next.invariant inside
-        (rule ∙ w.if-is_listed.false))
+      | then-is_listed w ↦
+          rw (w.list-is, w.count-is)
+          (writing_yes settings here before c.loop-next.list count item c.loop-next.invariant inside
+          (rule ∙ w.if-is_listed.true)
+          (omega (
+            arith,
+            c.requires.places,
+            one_more_listed settings here count item c.loop-next.invariant.counting inside
+                (rule ∙ w.if-is_listed.true),
+          )))
+      | else-is_listed w ↦
+          rw (w.list-is, w.count-is)
+          (writing_no settings here before c.loop-next.list count item c.loop-next.invariant inside
+          (rule ∙ w.if-is_listed.false))
     ]
 
 pub overflow_cast-result : goal.overflow_cast-result

@@ -28,11 +28,14 @@ answer c =
 
 abbrev past_settings : (c : Else-refusal-ne-NO_REFUSAL) → Still (answer c)
 past_settings c =
-    pass_part _ _ (begin _) refl (told c.test_settings-refusal.ensures c.if-refusal-ne-NO_REFUSAL.false)
+    pass_part _ _ (begin _) refl (told c.test_settings-refusal.ensures
+    c.if-refusal-ne-NO_REFUSAL.false)
 
 abbrev past_length : (c : Else-memory-settings) → Still ((let a = c.args in
     coordinator_memory_refusal a.settings a.coordinator a.memory.now))
-past_length c = pass _ _ _ ((pass_part _ _ (begin _) refl (told c.test_settings-refusal.ensures c.if-refusal-ne-NO_REFUSAL.false))) refl (le-ltb _ _ (long c))
+past_length c = pass _ _ _ ((pass_part _ _ (begin _) refl
+    (told c.test_settings-refusal.ensures c.if-refusal-ne-NO_REFUSAL.false))) refl
+    (le-ltb _ _ (long c))
 
 pub returns-then-refusal-ne-NO_REFUSAL : goal.returns-then-refusal-ne-NO_REFUSAL
 returns-then-refusal-ne-NO_REFUSAL c =
@@ -40,7 +43,8 @@ returns-then-refusal-ne-NO_REFUSAL c =
 
 pub returns-then-memory-settings : goal.returns-then-memory-settings
 returns-then-memory-settings c =
-    refuse _ _ _ (past_settings (goal.at.returns-then-memory-settings c).Else-refusal-ne-NO_REFUSAL) refl (lt-ltb _ _ (short c))
+    refuse _ _ _ (past_settings (goal.at.returns-then-memory-settings
+    c).Else-refusal-ne-NO_REFUSAL) refl (lt-ltb _ _ (short c))
 
 pub coordinator_consistent-requires : goal.coordinator_consistent-requires
 coordinator_consistent-requires c =
@@ -52,7 +56,8 @@ coordinator_consistent-requires c =
 
 pub returns-then-coordinator_consistent : goal.returns-then-coordinator_consistent
 returns-then-coordinator_consistent c =
-    end (pass _ _ _ (past_length (goal.at.returns-then-coordinator_consistent c).Else-memory-settings) refl
+    end (pass _ _ _ (past_length (goal.at.returns-then-coordinator_consistent
+    c).Else-memory-settings) refl
     (ap not (told c.coordinator_consistent.ensures c.if-coordinator_consistent.true))) refl
 
 pub returns : goal.returns

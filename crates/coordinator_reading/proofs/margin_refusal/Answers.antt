@@ -20,9 +20,11 @@ returns-then-refusal-ne-NO_REFUSAL c =
 
 pub returns-then-settings-item : goal.returns-then-settings-item
 returns-then-settings-item c =
-    refuse _ _ _ (past_memory (goal.at.returns-then-settings-item c).Else-refusal-ne-NO_REFUSAL) refl (le-leb _ _ c.if-settings-item.true)
+    refuse _ _ _ (past_memory (goal.at.returns-then-settings-item c).Else-refusal-ne-NO_REFUSAL)
+    refl (le-leb _ _ c.if-settings-item.true)
 
 pub returns : goal.returns
 returns c =
-    end (pass _ _ _ (past_memory (goal.at.returns c).Else-refusal-ne-NO_REFUSAL) refl (lt-leb _ _ c.if-settings-item.false))
+    end (pass _ _ _ (past_memory (goal.at.returns c).Else-refusal-ne-NO_REFUSAL) refl
+    (lt-leb _ _ c.if-settings-item.false))
     refl

@@ -22,7 +22,8 @@ abbrev past_due : (c : Else-not_due) (memory : List ℕ) → Still (answer c mem
 past_due c memory =
     pass _ _ _ (begin _) refl (told c.not_due.ensures c.if-not_due.false)
 
-abbrev past_item : (c : Else-names_unknown_item) (memory : List ℕ) → Still (answer c.before.before memory)
+abbrev past_item : (c : Else-names_unknown_item) (memory : List ℕ) → Still
+    (answer c.before.before memory)
 past_item c memory =
     pass _ _ _ (past_due c.before.before memory) refl
     (told c.names_unknown_item.ensures c.if-names_unknown_item.false)
@@ -46,14 +47,17 @@ returns-then-names_unknown_item c memory =
 
 pub returns-then-names_large_value : goal.returns-then-names_large_value
 returns-then-names_large_value c memory =
-    refuse _ _ _ (past_item (goal.at.returns-then-names_large_value c).Else-names_unknown_item memory) refl
-    (told (c.names_large_value.ensures (given (goal.at.returns-then-names_large_value c).Else-not_due) memory)
+    refuse _ _ _ (past_item (goal.at.returns-then-names_large_value c).Else-names_unknown_item
+    memory) refl
+    (told (c.names_large_value.ensures (given (goal.at.returns-then-names_large_value
+    c).Else-not_due) memory)
     c.if-names_large_value.true)
 
 pub returns-then-wrong_amount : goal.returns-then-wrong_amount
 returns-then-wrong_amount c memory =
     let settings = given (goal.at.returns-then-wrong_amount c).Else-not_due in
-    refuse _ _ _ (past_value (goal.at.returns-then-wrong_amount c).Else-names_large_value memory) refl
+    refuse _ _ _ (past_value (goal.at.returns-then-wrong_amount c).Else-names_large_value memory)
+    refl
     (told (c.wrong_amount.ensures settings memory) c.if-wrong_amount.true)
 
 pub returns : goal.returns

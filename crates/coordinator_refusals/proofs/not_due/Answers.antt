@@ -12,10 +12,22 @@ pub returns-then-message-eq-PROBE_ANSWER : goal.returns-then-message-eq-PROBE_AN
 returns-then-message-eq-PROBE_ANSWER c = rw (c.in-Probing.is, c.if-message-eq-PROBE_ANSWER.true)
 
 pub returns-else-message-eq-ITEM_REPORT : goal.returns-else-message-eq-ITEM_REPORT
-returns-else-message-eq-ITEM_REPORT c = rw (c.in-Idle.is, ne_eqb _ _ c.if-message-eq-ITEM_REPORT.false)
+returns-else-message-eq-ITEM_REPORT c = rw (
+  c.in-Idle.is,
+  ne_eqb _ _
+      c.if-message-eq-ITEM_REPORT.false,
+)
 
 pub returns-else-message-eq-POLL_ANSWER : goal.returns-else-message-eq-POLL_ANSWER
-returns-else-message-eq-POLL_ANSWER c = rw (c.in-Collecting.is, ne_eqb _ _ c.if-message-eq-POLL_ANSWER.false)
+returns-else-message-eq-POLL_ANSWER c = rw (
+  c.in-Collecting.is,
+  ne_eqb _ _
+      c.if-message-eq-POLL_ANSWER.false,
+)
 
 pub returns-else-message-eq-PROBE_ANSWER : goal.returns-else-message-eq-PROBE_ANSWER
-returns-else-message-eq-PROBE_ANSWER c = rw (c.in-Probing.is, ne_eqb _ _ c.if-message-eq-PROBE_ANSWER.false)
+returns-else-message-eq-PROBE_ANSWER c = rw (
+  c.in-Probing.is,
+  ne_eqb _ _
+      c.if-message-eq-PROBE_ANSWER.false,
+)

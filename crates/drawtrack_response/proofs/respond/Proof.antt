@@ -11,7 +11,8 @@ serve_requires c κs =
 
 returns : tie.Need-returns
 returns c =
-    let served = c.before.before.before.before.before.before.before.before.before.before.before.before.before in
+    let served =
+    c.before.before.before.before.before.before.before.before.before.before.before.before.before in
     let read = served.before.before.before.before.before.before in
     respond_results _ _ _ _ _ read.if1.taken served.serve.result served.serve.ensures
     c.before.before.if2.true c.if3.true
@@ -19,7 +20,8 @@ returns c =
 returns_2 : tie.Need-returns-2
 returns_2 c =
     let tested = c.before.before.before.before in
-    let served = tested.before.before.before.before.before.before.before.before.before.before.before.before.before in
+    let served =
+    tested.before.before.before.before.before.before.before.before.before.before.before.before.before in
     let read = served.before.before.before.before.before.before in
     let start = read.before.before.before.before.before.before.before.before in
     respond_refused _ _ _ _ _ read.if1.taken served.serve.result served.serve.ensures

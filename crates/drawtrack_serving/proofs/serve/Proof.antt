@@ -14,7 +14,8 @@ use Rattle.drawtrack_serving.proofs.serve.Statement.{statement}
 use Rattle.drawtrack_serving.proofs.serve.Tie as tie
 
 abbrev invariant_loop : tie.invariant_loop
-invariant_loop input site_memory₀ coordinator_memory₀ log₀ list₀ out₀ taken₀ session₀ turns₀ site_memory
+invariant_loop input site_memory₀ coordinator_memory₀ log₀ list₀ out₀ taken₀ session₀ turns₀
+    site_memory
     coordinator_memory log list out taken session turns =
     Serving input
     (situation session₀ (buffers site_memory₀ coordinator_memory₀ log₀ list₀ out₀))
@@ -22,7 +23,8 @@ invariant_loop input site_memory₀ coordinator_memory₀ log₀ list₀ out₀ 
     turns
 
 abbrev decreases_loop : tie.decreases_loop
-decreases_loop input site_memory₀ coordinator_memory₀ log₀ list₀ out₀ taken₀ session₀ turns₀ site_memory
+decreases_loop input site_memory₀ coordinator_memory₀ log₀ list₀ out₀ taken₀ session₀ turns₀
+    site_memory
     coordinator_memory log list out taken session turns =
     input_room - turns
 
@@ -68,17 +70,20 @@ few c =
 
 add_turns : tie.Need-overflow-add-turns invariant_loop decreases_loop
 add_turns c =
-    let advanced = c.before.before.before.before.before.before.before.before.before.before.before.before.before in
+    let advanced =
+    c.before.before.before.before.before.before.before.before.before.before.before.before.before in
     record { fits = omega (arith, few advanced) }
 
 loop_less : tie.Need-loop-smaller invariant_loop decreases_loop
 loop_less c =
-    let advanced = c.before.before.before.before.before.before.before.before.before.before.before.before.before in
+    let advanced =
+    c.before.before.before.before.before.before.before.before.before.before.before.before.before in
     omega (arith, few advanced)
 
 loop_again : tie.Need-loop-preserved invariant_loop decreases_loop
 loop_again c =
-    let advanced = c.before.before.before.before.before.before.before.before.before.before.before.before.before in
+    let advanced =
+    c.before.before.before.before.before.before.before.before.before.before.before.before.before in
     let going = advanced.before.before.before.before.before.before.before in
     let loop = going.before.before.loop in
     serving_on _ _ _ _ loop.turns loop.inv _ advanced.advance.result (few advanced)

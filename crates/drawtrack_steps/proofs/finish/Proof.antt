@@ -25,7 +25,8 @@ total_count_requires c κs =
 
 same_length_3 : tie.Need-same-length-3
 same_length_3 c =
-    let known = c.before.before.before.before.before.before.before.before.before.before.before.before.before.before.before.before.before.before.before.before in
+    let known =
+    c.before.before.before.before.before.before.before.before.before.before.before.before.before.before.before.before.before.before.before.before in
     search rules
 
 returns_2 : tie.Need-returns-2

@@ -14,7 +14,8 @@ abbrev past_settings : (c : Else-refusal-ne-NO_REFUSAL)
     → let a = c.args in
     Still (decks_refusal a.settings a.which a.words)
 past_settings c =
-    pass_part _ _ (begin _) refl (told c.test_settings-refusal.ensures c.if-refusal-ne-NO_REFUSAL.false)
+    pass_part _ _ (begin _) refl (told c.test_settings-refusal.ensures
+    c.if-refusal-ne-NO_REFUSAL.false)
 
 -- The words of all decks, as the code counts them.
 words_are : (c : After-site_words)
@@ -29,7 +30,8 @@ abbrev past_memory : (c : Else-words-settings)
     Still (decks_refusal a.settings a.which a.words)
 past_memory c =
     let a = c.args in
-    pass _ _ _ ((pass_part _ _ (begin _) refl (told c.test_settings-refusal.ensures c.if-refusal-ne-NO_REFUSAL.false))) refl
+    pass _ _ _ ((pass_part _ _ (begin _) refl (told c.test_settings-refusal.ensures
+    c.if-refusal-ne-NO_REFUSAL.false))) refl
     (le-ltb a.words (sites_words a.settings)
     (subst (λ (n : ℕ). n ≤ a.words) ((ap (λ (n : ℕ). c.args.settings.sites * n)
     c.site_words.ensures)) c.if-words-settings.false))
@@ -50,9 +52,11 @@ overflow_mul-settings c =
 pub returns-then-words-settings : goal.returns-then-words-settings
 returns-then-words-settings c =
     let a = c.args in
-    refuse _ _ _ (past_settings (goal.at.returns-then-words-settings c).Else-refusal-ne-NO_REFUSAL) refl
+    refuse _ _ _ (past_settings (goal.at.returns-then-words-settings c).Else-refusal-ne-NO_REFUSAL)
+    refl
     (lt-ltb a.words (sites_words a.settings)
-    (subst (λ (n : ℕ). a.words < n) (words_are (goal.at.returns-then-words-settings c).After-site_words) c.if-words-settings.true))
+    (subst (λ (n : ℕ). a.words < n) (words_are
+    (goal.at.returns-then-words-settings c).After-site_words) c.if-words-settings.true))
 
 pub returns-then-settings-which : goal.returns-then-settings-which
 returns-then-settings-which c =

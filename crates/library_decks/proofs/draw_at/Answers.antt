@@ -21,13 +21,25 @@ site_at-numbers-requires c =
     site_few c.requires.fits c.args.draw.site c.requires.known
 
 pub offset_bounds-memory-start : goal.offset_bounds-memory-start
-offset_bounds-memory-start c = omega (arith, (starts (goal.at.offset_bounds-memory-start c).After-site_words).small)
+offset_bounds-memory-start c = omega (
+  arith,
+  (starts
+      (goal.at.offset_bounds-memory-start c).After-site_words).small,
+)
 
 pub slice_bounds-observe-count : goal.slice_bounds-observe-count
-slice_bounds-observe-count c = omega (arith, (starts (goal.at.slice_bounds-observe-count c).After-site_words).within)
+slice_bounds-observe-count c = omega (
+  arith,
+  (starts
+      (goal.at.slice_bounds-observe-count c).After-site_words).within,
+)
 
 pub slice_bounds-observe-start : goal.slice_bounds-observe-start
-slice_bounds-observe-start c = omega (arith, (starts (goal.at.slice_bounds-observe-start c).After-site_words).within)
+slice_bounds-observe-start c = omega (
+  arith,
+  (starts
+      (goal.at.slice_bounds-observe-start c).After-site_words).within,
+)
 
 pub hand_site_at-requires : goal.hand_site_at-requires
 hand_site_at-requires c =

@@ -34,13 +34,15 @@ returns-then-refusal-ne-NO_REFUSAL c =
 pub draw_at-requires : goal.draw_at-requires
 draw_at-requires c =
     named_asks _ _ c.args.memory.now
-    (told (refusal_of (goal.at.draw_at-requires c).After-decks_refusal-refusal) c.if-refusal-ne-NO_REFUSAL.false)
+    (told (refusal_of (goal.at.draw_at-requires c).After-decks_refusal-refusal)
+    c.if-refusal-ne-NO_REFUSAL.false)
 
 pub returns : goal.returns
 returns c =
     let draw-is = c.arrival_from-arrival.ensures in
     let settings_are = c.settings_from-rules.ensures in
-    let refusal_is = rw (draw-is, settings_are) at (refusal_of (goal.at.returns c).After-decks_refusal-refusal) in
+    let refusal_is = rw (draw-is, settings_are) at
+    (refusal_of (goal.at.returns c).After-decks_refusal-refusal) in
     record {
       stopped = λ some. absurd (some (told refusal_is c.if-refusal-ne-NO_REFUSAL.false));
       drawn = λ none. rw (draw-is, settings_are) at c.draw_at.ensures;

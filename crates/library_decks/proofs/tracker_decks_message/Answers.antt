@@ -33,13 +33,15 @@ returns-then-refusal-ne-NO_REFUSAL c =
 pub message_at-requires : goal.message_at-requires
 message_at-requires c =
     named_asks _ _ c.args.memory.now
-    (told (refusal_of (goal.at.message_at-requires c).After-decks_refusal-refusal) c.if-refusal-ne-NO_REFUSAL.false)
+    (told (refusal_of (goal.at.message_at-requires c).After-decks_refusal-refusal)
+    c.if-refusal-ne-NO_REFUSAL.false)
 
 pub returns : goal.returns
 returns c =
     let message-is = c.message_from-received.ensures in
     let settings_are = c.settings_from-rules.ensures in
-    let refusal_is = rw (message-is, settings_are) at (refusal_of (goal.at.returns c).After-decks_refusal-refusal) in
+    let refusal_is = rw (message-is, settings_are) at
+    (refusal_of (goal.at.returns c).After-decks_refusal-refusal) in
     record {
       stopped = λ some. absurd (some (told refusal_is c.if-refusal-ne-NO_REFUSAL.false));
       replied = λ none. rw (message-is, settings_are) at c.message_at.ensures;

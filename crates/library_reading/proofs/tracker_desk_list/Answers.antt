@@ -11,7 +11,8 @@ returns-then-listed-eq-NO_REFUSAL c =
           rw (c.settings_from.ensures, c.coordinator_from.ensures)
           at c.list_heavy_hitters-listed.ensures;
       refusal = refl;
-      count_is = accepts c.list_heavy_hitters-listed.result.refusal _ _ c.if-listed-eq-NO_REFUSAL.true;
+      count_is = accepts c.list_heavy_hitters-listed.result.refusal _ _
+          c.if-listed-eq-NO_REFUSAL.true;
     }
 
 pub returns-else-listed-eq-NO_REFUSAL : goal.returns-else-listed-eq-NO_REFUSAL
@@ -22,5 +23,6 @@ returns-else-listed-eq-NO_REFUSAL c =
           rw (c.settings_from.ensures, c.coordinator_from.ensures)
           at c.list_heavy_hitters-listed.ensures;
       refusal = refl;
-      count_is = refuses c.list_heavy_hitters-listed.result.refusal _ _ c.if-listed-eq-NO_REFUSAL.false;
+      count_is = refuses c.list_heavy_hitters-listed.result.refusal _ _
+          c.if-listed-eq-NO_REFUSAL.false;
     }

@@ -23,7 +23,8 @@ bounds-counts-j c =
 pub returns-then-counts-j-gt-MESSAGE_LIMIT : goal.returns-then-counts-j-gt-MESSAGE_LIMIT
 returns-then-counts-j-gt-MESSAGE_LIMIT c =
     let a = c.args in
-    counts_fail a.settings.sites a.counts c.loop-j.j (inside (goal.at.returns-then-counts-j-gt-MESSAGE_LIMIT c).In-loop-j)
+    counts_fail a.settings.sites a.counts c.loop-j.j
+    (inside (goal.at.returns-then-counts-j-gt-MESSAGE_LIMIT c).In-loop-j)
     c.if-counts-j-gt-MESSAGE_LIMIT.true
 
 pub loop-j-preserved : goal.loop-j-preserved

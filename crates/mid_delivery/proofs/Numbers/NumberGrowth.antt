@@ -79,7 +79,8 @@ module _ {settings : Settings} {network : Network} {arrival : Arrival}
       counts = network.coordinator.histogram
 
       by_threshold : (one : Bool)
-          → get_or (if one then one_more_at counts (reported_value site arrival) else counts) value 0
+          → get_or (if one then one_more_at counts (reported_value site arrival) else counts) value
+          0
           ≤ get_or counts value 0 + 1
       by_threshold true = get_d_gained counts (reported_value site arrival) 1 value
       by_threshold false = omega arith

@@ -62,7 +62,8 @@ pub record Reports (settings : Settings) (network : Network) (waiting : List Mes
   pub value_none : (network.coordinator.threshold ≡ 1 → ⊥) → value ≡ 0
   pub together : Together settings network settings.sites
       (if count_due then network.coordinator.threshold else 0)
-  pub steps_left : (if item_due then 1 else 0) + (if count_due then closing_steps settings + 1 else 0)
+  pub steps_left : (if item_due then 1 else 0) +
+      (if count_due then closing_steps settings + 1 else 0)
       ≤ left
 
 -- ---- Polls and probes
@@ -91,7 +92,8 @@ pub record Probes (settings : Settings) (network : Network) (waiting : List Mess
   pub count : ℕ
   pub h : ℕ
   pub waits : waiting
-      ≡ (if answered then probe_answer j (middle low high) count else probe j (middle low high)) ∷ []
+      ≡ (if answered then probe_answer j (middle low high) count else probe j (middle low high)) ∷
+      []
   pub phase_is : network.coordinator.phase ≡ Probing j low high sum
   pub halving : HalvingAt settings network.coordinator.signals j low high
   pub narrow : high < low + 2 ^ h

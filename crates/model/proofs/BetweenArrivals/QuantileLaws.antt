@@ -114,7 +114,8 @@ module _ (rank total top : ℕ) (accepted : List Arrival)
       → 1 ≤ rank * total
       → QuantileIs (rank * total) accepted (least_value rank total histogram)
   least_value_is histogram early some =
-      least_value_from_is 0 0 histogram (λ w. from_start w) (sym (below_zero accepted)) (omega arith)
+      least_value_from_is 0 0 histogram (λ w. from_start w) (sym (below_zero accepted))
+      (omega arith)
     where
       from_start : (w : ℕ) → 0 + up_to w histogram ≡ below (0 + w + 1) accepted
       from_start w =

@@ -96,7 +96,8 @@ module _ {settings : Settings} {threshold : ℕ} {sites : List Site}
 
   -- A sum over the sites moves as its part at the arrival's site does.
   sum_moves : (f : Site → ℕ)
-      → sum_below (λ i. f (get_or (set sites j after) i fresh_site)) k + f (get_or sites j fresh_site)
+      → sum_below (λ i. f (get_or (set sites j after) i fresh_site)) k + f
+      (get_or sites j fresh_site)
       ≡ sum_below (λ i. f (get_or sites i fresh_site)) k + f after
   sum_moves f = sum_below_set f fresh_site sites j k after inside site_known
 

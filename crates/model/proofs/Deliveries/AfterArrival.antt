@@ -32,7 +32,8 @@ use Rattle.model.proofs.Deliveries.ArrivalParts.{with_item_report, with_count_re
 module _ (settings : Settings) (sites : List Site) (c : Coordinator) (j amount : ℕ) where
   item_report_handed : (final : Network) (n : ℕ) (sent waiting : List Message) (item : ℕ)
       (due : Bool)
-      → Delivers settings final n sent (network_of sites (with_item_report c due item amount)) waiting
+      → Delivers settings final n sent (network_of sites (with_item_report c due item amount))
+      waiting
       → Delivers settings final (n + 1)
       ((if due then item_report j item amount ∷ [] else []) ++ sent)
       (network_of sites (with_phase c Idle))
@@ -147,7 +148,8 @@ module _ (settings : Settings) (network : Network) (arrival : Arrival)
       from_idle _ 2 _ (omega arith)
       (rw append-nil at
       (with_count_report_lem items report (reports_count site) [] due
-      (reported (network_of sites (after_count_report settings network arrival Idle)) 1 (report ∷ [])
+      (reported (network_of sites (after_count_report settings network arrival Idle)) 1
+      (report ∷ [])
       (count_report_handed settings sites (after_item_report settings network arrival)
       arrival.site site.threshold (reported_value site arrival) few))))
 
@@ -187,4 +189,5 @@ module _ (settings : Settings) (network : Network) (arrival : Arrival)
   pub after_arrival_lem : (which : ArrivalCase settings network arrival)
       → after_arrival settings network arrival
       ≡ record { network = network_then which; messages = messages_then which }
-  after_arrival_lem which = delivered_of (delivery_fuel settings) (omega arith) (delivers_after which)
+  after_arrival_lem which = delivered_of (delivery_fuel settings) (omega arith)
+      (delivers_after which)

@@ -6,7 +6,8 @@
 --   after_item_report, after_count_report  the coordinator after these messages
 --   base_after                          the base that a close after this arrival gives
 --   closed_one_after, closed_more_after  the network after a close: new threshold 1, or 2 and more
---   ArrivalCase, arrival_case           the four cases: no_count_report, count_reported, closes_one,
+--   ArrivalCase, arrival_case           the four cases: no_count_report, count_reported,
+-- closes_one,
 --                                       closes_more
 --   network_then, messages_then, close_count  what each of them leaves and sends
 --   length_first_messages               0, 1 or 2
@@ -155,7 +156,8 @@ module _ {settings : Settings} {network : Network} {arrival : Arrival} where
   -- The network and all messages in each case.
   abbrev pub network_then : ArrivalCase settings network arrival → Network
   network_then (no_count_report none) =
-      network_of (observed_sites settings network arrival) (after_item_report settings network arrival)
+      network_of (observed_sites settings network arrival)
+      (after_item_report settings network arrival)
   network_then (count_reported due few) =
       network_of (observed_sites settings network arrival)
       (after_count_report settings network arrival Idle)

@@ -34,7 +34,8 @@ length_sites_closed settings sites t =
 pub get_d_sites_closed : (settings : Settings) (sites : List Site) (t i : ℕ)
     → i < settings.sites
     → i < length sites
-    → get_or (sites_closed settings sites t) i fresh_site ≡ closed_site t (get_or sites i fresh_site)
+    → get_or (sites_closed settings sites t) i fresh_site ≡ closed_site t
+    (get_or sites i fresh_site)
 get_d_sites_closed settings sites t i below inside =
     get_d_change_first_before fresh_site (told t) settings.sites i (sites_polled settings sites)
     below (omega (arith, length_change_first fresh_site polled settings.sites sites))

@@ -109,7 +109,8 @@ module _ (settings : Settings) (sites : List Site) (c : Coordinator) (total l : 
   -- The first poll, when the delivery from the last poll on is known.
   from_first_poll : (final : Network) (n : ℕ) (sent : List Message)
       → Delivers settings final (n + 2) (poll l ∷ (poll_answer l (pending_at before_last l) ∷ sent))
-      (network_of before_last (with_total c (total + sum_below (pending_at sites) l) (Collecting l)))
+      (network_of before_last (with_total c (total + sum_below (pending_at sites) l)
+      (Collecting l)))
       (poll l ∷ [])
       → Delivers settings final (n + 2 * settings.sites)
       (poll_messages sites 0 settings.sites ++ sent)

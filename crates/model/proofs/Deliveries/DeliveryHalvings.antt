@@ -148,7 +148,8 @@ module _ (settings : Settings) (final : Network) (sites : List Site) (c : Coordi
       → low < high
       → Delivers settings final (n + 2 * (settings.sites * h)) messages
       (network_of sites
-      (halved settings c low high (sum_below (up_to_at (middle low high) sites) (suc l))).coordinator)
+      (halved settings c low high (sum_below (up_to_at (middle low high) sites)
+      (suc l))).coordinator)
       (halved settings c low high (sum_below (up_to_at (middle low high) sites) (suc l))).messages
       → Delivers settings final (n + 2 * (settings.sites * suc h))
       (probe_messages sites (middle low high) 0 settings.sites ++ messages)

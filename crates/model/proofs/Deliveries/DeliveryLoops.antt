@@ -178,7 +178,8 @@ module _ (settings : Settings) (c : Coordinator) where
       → Delivers settings
       (network_of (change_first fresh_site (told c.threshold) (suc l) sites) (at_rest c))
       (2 * suc r) (announcements c.threshold c.base j (suc r))
-      (network_of (change_first fresh_site (told c.threshold) j sites) (with_phase c (Announcing j)))
+      (network_of (change_first fresh_site (told c.threshold) j sites)
+      (with_phase c (Announcing j)))
       []
   announces sites l last zero j reached =
       let at_last : j ≡ l = omega arith in

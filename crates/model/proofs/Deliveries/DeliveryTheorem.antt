@@ -69,7 +69,8 @@ module _ (settings : Settings) (network : Network) (arrival : Arrival)
 
   -- However many steps more, it ends at the same delivery, with nothing waiting.
   ends_there : (more : ℕ)
-      → delivery_steps (delivery_fuel settings + more) settings (delivery_of settings network arrival)
+      → delivery_steps (delivery_fuel settings + more) settings
+      (delivery_of settings network arrival)
       ≡ delivery (network_then which) [] (messages_then which)
   ends_there more =
       (delivers_after settings network arrival idle which).ends (delivery_fuel settings + more) []

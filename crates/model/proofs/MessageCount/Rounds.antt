@@ -39,7 +39,8 @@ pub record Account (k e ρ : ℕ) (x : Figures) : Type 0 where
   pub arrivals_are : x.arrivals ≡ x.base + x.signals * x.threshold + x.pending
   -- M1
   pub messages_are : x.messages
-      ≡ item_reports + 4 * (k * (closes_quiet + closes_probing)) + ρ * (k * closes_probing) + x.signals
+      ≡ item_reports + 4 * (k * (closes_quiet + closes_probing)) + ρ * (k * closes_probing) +
+      x.signals
   -- M2
   pub reports_paid : item_reports * x.threshold + x.unreported + x.base
       ≤ 2 * (k * (closes_quiet + closes_probing) * x.threshold) + x.arrivals

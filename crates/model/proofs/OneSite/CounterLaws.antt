@@ -120,7 +120,8 @@ least_from_is : (place best : ℕ) (least : Counter) (counters : List Counter)
 least_from_is place best least [] = kept refl (λ j below. absurd (omega arith))
 least_from_is place best least (counter ∷ counters) =
     by_order (precedes counter least) refl
-    (least_from_is (place + 1) place counter counters) (least_from_is (place + 1) best least counters)
+    (least_from_is (place + 1) place counter counters)
+    (least_from_is (place + 1) best least counters)
   where
     -- This counter is the best so far.
     taken : (r : ℕ) → counter.count ≤ least.count

@@ -132,7 +132,8 @@ module _ {arrived reported : ℕ → ℕ} {capacity n : ℕ} {counters : List Co
 
       in_counter : find item counters < length counters → NearHere
       in_counter inside =
-          let ok : CounterOk arrived reported capacity n (counter_at counters (find item counters)) =
+          let ok : CounterOk arrived reported capacity n (counter_at counters (find item counters))
+          =
           saved.held (find item counters) inside in
           let arrivals : arrived (counter_at counters (find item counters)).item ≡ arrived item =
           ap arrived (found.holds inside) in

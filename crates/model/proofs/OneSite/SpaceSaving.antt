@@ -34,7 +34,8 @@ pub record CounterOk (arrived reported : ℕ → ℕ) (capacity n : ℕ) (x : Co
 pub record NotHeld (arrived reported : ℕ → ℕ) (capacity : ℕ)
     (counters : List Counter) (item : ℕ) : Type 0 where
   pub reported_le : reported item ≤ arrived item
-  pub arrived_le_counts : (j : ℕ) → j < length counters → arrived item ≤ (counter_at counters j).count
+  pub arrived_le_counts : (j : ℕ) → j < length counters → arrived item ≤
+      (counter_at counters j).count
   pub none_arrived : length counters < capacity → arrived item ≡ 0
 
 -- S1 to S4 of the counters of a site with n arrivals.

@@ -159,7 +159,8 @@ module _ (settings : Settings) (sites : Sites) (coordinator : CoordinatorRecord)
     pub coordinator_row : coordinator_consistent settings network.coordinator ≡ true
     pub counts_row : counts_within settings.sites sites.messages ≡ true
 
-  pub bench_rows : bench_consistent settings sites coordinator site_numbers coordinator_numbers ≡ true
+  pub bench_rows : bench_consistent settings sites coordinator site_numbers coordinator_numbers ≡
+      true
       → BenchRows
   bench_rows passes =
       let first : Bool =
@@ -227,7 +228,8 @@ module _ (settings : Settings) (sites : Sites) (coordinator : CoordinatorRecord)
       → Passes
   passes_of none =
       let chain = both_accepted (settings_refusal settings) _ none in
-      let short = passed (network_too_short settings site_numbers coordinator_numbers) memory_too_short
+      let short = passed (network_too_short settings site_numbers coordinator_numbers)
+      memory_too_short
       _ (omega arith) chain.later_accepted in
       let long = neither_of_or (ltb (length site_numbers) (sites_words settings)) _
       short.test_failed in

@@ -29,7 +29,8 @@ use Rattle.model.proofs.OneSite.Counting.{Placed, in_own, in_unused, in_replaced
 -- ---- All unreported of a list of counters
 
 -- As a sum, and as the claims have it.
-pub unreported_in_sum : (counters : List Counter) → sum_of unreported counters ≡ unreported_in counters
+pub unreported_in_sum : (counters : List Counter) → sum_of unreported counters ≡ unreported_in
+    counters
 unreported_in_sum [] = sum_of_nil unreported
 unreported_in_sum (counter ∷ counters) =
     omega (arith, sum_of_cons unreported counter counters, unreported_in_sum counters)

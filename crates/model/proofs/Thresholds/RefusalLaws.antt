@@ -87,7 +87,8 @@ pub record BothAccepted (first later : ℕ) : Type 0 where
   pub first_accepted : first ≡ no_refusal
   pub later_accepted : later ≡ no_refusal
 
-pub both_accepted : (first later : ℕ) → (first or_else later) ≡ no_refusal → BothAccepted first later
+pub both_accepted : (first later : ℕ) → (first or_else later) ≡ no_refusal → BothAccepted first
+    later
 both_accepted zero later none = record { first_accepted = refl; later_accepted = none }
 both_accepted (suc first) later none = absurd (omega arith)
 

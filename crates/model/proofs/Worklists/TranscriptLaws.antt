@@ -60,7 +60,8 @@ pub refusal_long : (settings : Settings) (worklist : List ℕ)
 refusal_long settings worklist long =
     let beyond : beyond_program settings (length worklist) ≡ true
     = simp (lt-ltb 8192 (length worklist) long, or-true) in
-    ap (λ (test : Bool). settings_refusal settings or_else when test memory_too_short or_else no_refusal)
+    ap (λ (test : Bool). settings_refusal settings or_else when test memory_too_short or_else
+    no_refusal)
     beyond
 
 transcript_with_long : (settings : Settings) (worklist : List ℕ)
@@ -121,7 +122,8 @@ module _ (most : ℕ) (input : List ℕ) (enough : 8241 ≤ most) where
           → read_fields 6 (take most input) ≡ malformed
       by_front malformed here = here
       by_front (fields numbers rest) here =
-          let read = settings_of_whole numbers rest (fields_taken line_feed 6 _ numbers rest here) in
+          let read = settings_of_whole numbers rest (fields_taken line_feed 6 _ numbers rest here)
+          in
           let never : ◌≡◌ {A = ℕ} 0 1 = cc in
           absurd (omega arith)
 

@@ -96,7 +96,8 @@ read_all_line line (byte ∷ bytes) numbers rest here =
 
 pub read_from_written : (line : ℕ) (arrivals : List Arrival)
     → all_writable arrivals ≡ true
-    → read_from (length (write_worklist arrivals)) line (write_worklist arrivals) ≡ worklist_of arrivals
+    → read_from (length (write_worklist arrivals)) line (write_worklist arrivals) ≡ worklist_of
+    arrivals
 read_from_written line [] writable = refl
 read_from_written line (arrival ∷ arrivals) writable =
     let both = both_true (all_small (fields_of arrival)) (all_writable arrivals) writable in

@@ -70,7 +70,8 @@ pub record CoordinatorMemoryEdges : Type 0 where
   pub estimate_above :
       coordinator_refusal_of fresh_numbers (100000000001 ∷ []) (end_counts 0 0) ≡ 11
   pub last_estimate_above :
-      coordinator_refusal_of fresh_numbers (replicate 9 0 ++ (100000000001 ∷ [])) (end_counts 0 0) ≡ 11
+      coordinator_refusal_of fresh_numbers (replicate 9 0 ++ (100000000001 ∷ [])) (end_counts 0 0)
+      ≡ 11
   pub count_limit :
       coordinator_refusal_of (coordinator_numbers 120 120 2 0 3 Idle) [] (end_counts 0 100000000000)
       ≡ 0
@@ -78,9 +79,11 @@ pub record CoordinatorMemoryEdges : Type 0 where
       coordinator_refusal_of (coordinator_numbers 120 120 2 0 3 Idle) [] (end_counts 0 100000000001)
       ≡ 11
   pub total_limit :
-      coordinator_refusal_of (coordinator_numbers 100000000000 120 2 0 3 Idle) [] (end_counts 0 0) ≡ 0
+      coordinator_refusal_of (coordinator_numbers 100000000000 120 2 0 3 Idle) [] (end_counts 0 0)
+      ≡ 0
   pub total_above :
-      coordinator_refusal_of (coordinator_numbers 100000000001 120 2 0 3 Idle) [] (end_counts 0 0) ≡ 11
+      coordinator_refusal_of (coordinator_numbers 100000000001 120 2 0 3 Idle) [] (end_counts 0 0)
+      ≡ 11
   -- "lent memory shorter than above (longer is fine ..)": 10 + 1024 numbers
   pub enough : coordinator_memory_refusal settings_p6 fresh_numbers (replicate 1034 0) ≡ 0
   pub one_short : coordinator_memory_refusal settings_p6 fresh_numbers (replicate 1033 0) ≡ 4

@@ -114,7 +114,8 @@ coordinator_refusal_of numbers estimates counts =
 -- A network under P6's settings, of two sites that hold no code: their records and class counts,
 -- the messages counted of the last of them, the coordinator; 2528 and 1034 numbers. Records and
 -- counts 2 to 31 hold anything.
-abbrev pub network_refusal_of : SiteRecord → List ℕ → SiteRecord → List ℕ → ℕ → CoordinatorRecord → ℕ
+abbrev pub network_refusal_of : SiteRecord → List ℕ → SiteRecord → List ℕ → ℕ → CoordinatorRecord →
+    ℕ
 network_refusal_of first firstCounts second secondCounts counted coordinator =
     network_refusal settings_p6
     (record {

@@ -65,7 +65,8 @@ pub record MemoryEdges : Type 0 where
       ∷ replicate 30 (site_numbers 9 9 9 9 9))
       (numbers_with 12 ++ (numbers_with 13 ++ (7 ∷ [])))
       ≡ site_with 12 ∷ site_with 13 ∷ []
-  pub sites_written : sites_memory settings_two (site_with 12 ∷ site_with 13 ∷ []) (replicate 2098 7)
+  pub sites_written : sites_memory settings_two (site_with 12 ∷ site_with 13 ∷ [])
+      (replicate 2098 7)
       ≡ numbers_with 12 ++ (numbers_with 13 ++ (7 ∷ 7 ∷ []))
   -- the records of sites k to 31 stay
   pub records_written : site_records (site_with 12 ∷ site_with 13 ∷ [])

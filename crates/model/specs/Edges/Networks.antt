@@ -29,7 +29,8 @@ pub record NetworkEdges : Type 0 where
       (site_numbers 0 0 1 0 0) (end_counts 0 0) 100000000000001 fresh_numbers ≡ 11
   -- "desk not idle"
   pub not_idle : network_refusal_of (site_numbers 0 0 1 0 0) (end_counts 0 0)
-      (site_numbers 0 0 1 0 0) (end_counts 0 0) 0 (coordinator_numbers 0 0 1 2 0 (Announcing 0)) ≡ 11
+      (site_numbers 0 0 1 0 0) (end_counts 0 0) 0 (coordinator_numbers 0 0 1 2 0 (Announcing 0)) ≡
+      11
   -- "thresholds unequal"
   pub threshold_first : network_refusal_of (site_numbers 0 0 2 0 0) (end_counts 0 0)
       (site_numbers 0 0 1 0 0) (end_counts 0 0) 0 fresh_numbers ≡ 11
@@ -54,9 +55,11 @@ pub record NetworkEdges : Type 0 where
   pub longer : network_refusal settings_p6 fresh_sites fresh_numbers
       (replicate 2529 0) (replicate 1035 0) ≡ 0
   -- "Order: 1, 2, 3; then 4, 11"
-  pub three_before_four : network_refusal (settings_with 1 1000 1000 500 5 10) fresh_sites fresh_numbers
+  pub three_before_four : network_refusal (settings_with 1 1000 1000 500 5 10) fresh_sites
+      fresh_numbers
       [] [] ≡ 3
-  pub four_before_eleven : network_refusal settings_p6 fresh_sites (coordinator_numbers 0 0 0 0 0 Idle)
+  pub four_before_eleven : network_refusal settings_p6 fresh_sites
+      (coordinator_numbers 0 0 0 0 0 Idle)
       [] [] ≡ 4
 
 -- A fresh network under settings A, and one whose site is full.

@@ -53,8 +53,10 @@ pub record ReadingEdges : Type 0 where
   -- the total, not the base, is what list and class go by: before the first close, and after one
   pub listed_first : heavy_hitters settings_two (coordinator_after settings_two (draw_at 0 ∷ []))
       ≡ 7 ∷ []
-  pub class_first : quantile_of settings_two (coordinator_after settings_two (draw_at 0 ∷ [])) ≡ Value 3
-  pub listed_since : heavy_hitters settings_two (coordinator_after settings_two since_close) ≡ 7 ∷ []
+  pub class_first : quantile_of settings_two (coordinator_after settings_two (draw_at 0 ∷ [])) ≡
+      Value 3
+  pub listed_since : heavy_hitters settings_two (coordinator_after settings_two since_close) ≡ 7 ∷
+      []
   pub margin_since : margin settings_two (coordinator_after settings_two since_close) 8 ≡ negsuc 999
   pub class_since : quantile_of settings_two (coordinator_after settings_two since_close) ≡ Value 9
   -- "later the record's class, which is set when a halving ends"
@@ -62,6 +64,8 @@ pub record ReadingEdges : Type 0 where
   pub later_record : quantile_of settings_p6 (coordinator_at 2 Idle) ≡ Value 0
   pub none_at_0 : quantile_of settings_p6 (coordinator_at 1 Idle) ≡ Nothing
   -- class 1, and class 1023
-  pub class_1 : quantile_of settings_a (coordinator_after settings_a (arrival_with 0 7 1 ∷ [])) ≡ Value 1
+  pub class_1 : quantile_of settings_a (coordinator_after settings_a (arrival_with 0 7 1 ∷ [])) ≡
+      Value 1
   pub class_1023 :
-      quantile_of settings_a (coordinator_after settings_a (arrival_with 0 7 1023 ∷ [])) ≡ Value 1023
+      quantile_of settings_a (coordinator_after settings_a (arrival_with 0 7 1023 ∷ [])) ≡ Value
+      1023

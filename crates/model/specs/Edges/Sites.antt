@@ -30,7 +30,8 @@ pub record SiteMemoryEdges : Type 0 where
   pub used_7 : site_refusal (site_numbers 4 2 3 7 0) (two_slots 9 3 1 0) (end_counts 1 3) ≡ 11
   -- "in a slot in use, a code not below u"
   pub item_10 : site_refusal at_limits (two_slots 10 3 1 0) (end_counts 1 3) ≡ 11
-  pub item_10_unused : site_refusal (site_numbers 4 2 3 0 0) (two_slots 10 3 1 0) (end_counts 1 3) ≡ 0
+  pub item_10_unused : site_refusal (site_numbers 4 2 3 0 0) (two_slots 10 3 1 0) (end_counts 1 3)
+      ≡ 0
   -- "a deck above its limit"
   pub full : site_refusal (site_numbers 1000000000 0 1 0 0) [] (end_counts 1000000000 0) ≡ 0
   pub above_full : site_refusal (site_numbers 1000000001 0 1 0 0) [] (end_counts 1000000001 0) ≡ 11
@@ -52,7 +53,8 @@ pub record SiteMemoryEdges : Type 0 where
   pub threshold_limit : site_refusal (site_numbers 0 0 1000000000 0 0) [] (end_counts 0 0) ≡ 0
   pub threshold_above : site_refusal (site_numbers 0 0 1000000001 0 0) [] (end_counts 0 0) ≡ 11
   -- request N1: "A forgotten sum above the deck's draws"
-  pub dropped_above : site_refusal (site_numbers 4 2 3 2 5) (two_slots 9 3 1 0) (end_counts 1 3) ≡ 11
+  pub dropped_above : site_refusal (site_numbers 4 2 3 2 5) (two_slots 9 3 1 0) (end_counts 1 3) ≡
+      11
   -- "lent memory shorter than above (longer is fine ..)": 4 × 6 + 1024 numbers
   pub enough : site_memory_refusal settings_a (site_numbers 0 0 1 0 0) (replicate 1048 0) ≡ 0
   pub one_short : site_memory_refusal settings_a (site_numbers 0 0 1 0 0) (replicate 1047 0) ≡ 4
@@ -118,7 +120,8 @@ pub record SiteMessageEdges : Type 0 where
   pub poll_b : site_message_refusal settings_p6 fresh_site 1 (message poll_kind 1 0 1) ≡ 10
   pub probe_b : site_message_refusal settings_p6 fresh_site 1 (message probe_kind 1 3 1) ≡ 10
   -- "7 below the present threshold or above 1,000,000,000"
-  pub same_threshold : site_message_refusal settings_p6 (site_at_threshold 5) 1 (announcement 1 5 9) ≡ 0
+  pub same_threshold : site_message_refusal settings_p6 (site_at_threshold 5) 1
+      (announcement 1 5 9) ≡ 0
   pub lower_threshold :
       site_message_refusal settings_p6 (site_at_threshold 5) 1 (announcement 1 4 9) ≡ 10
   pub threshold_limit :
@@ -128,7 +131,8 @@ pub record SiteMessageEdges : Type 0 where
   -- "for a message 5, 9, .. 7, 10"
   pub five_before_nine : site_message_refusal settings_p6 fresh_site 1 (item_report 2 0 1) ≡ 5
   pub nine_before_seven : site_message_refusal settings_p6 fresh_site 1 (probe 0 1024) ≡ 9
-  pub seven_before_ten : site_message_refusal settings_p6 fresh_site 1 (message probe_kind 1 1024 1) ≡ 7
+  pub seven_before_ten : site_message_refusal settings_p6 fresh_site 1
+      (message probe_kind 1 1024 1) ≡ 7
   -- "pending, then set to 0"; "draws at or below it"; kind 7 sets the threshold
   pub poll_answered : (site_receives (site_after_four 2) (poll 1)).messages ≡ poll_answer 1 2 ∷ []
   pub poll_clears : (site_receives (site_after_four 2) (poll 1)).site ≡ site_after_four 0

@@ -92,7 +92,8 @@ pub record StepEdges : Type 0 where
   pub count_silent : (received_by (numbers_at 5 0 Idle) (count_report 1 5 0)).messages ≡ []
   pub count_later : (received_by (numbers_at 5 0 Idle) (count_report 1 5 0)).coordinator.histogram
       ≡ end_counts 40 41
-  pub count_class : (received_by (numbers_at 1 0 Idle) (count_report 1 1 1023)).coordinator.histogram
+  pub count_class : (received_by (numbers_at 1 0 Idle)
+      (count_report 1 1 1023)).coordinator.histogram
       ≡ end_counts 40 42
   -- "At k signals the desk closes the round: it polls decks 0 to k - 1"
   pub close_record : record_after (numbers_at 5 1 Idle) (count_report 1 5 0)
@@ -116,16 +117,19 @@ pub record StepEdges : Type 0 where
   -- "each deck in turn gets 5 and answers 6"; "middle = (low + high) / 2 rounded down"
   pub probe_record : record_after (numbers_at 5 2 (Probing 0 100 201 20)) (probe_answer 0 150 3)
       ≡ numbers_at 5 2 (Probing 1 100 201 23)
-  pub probe_next : (received_by (numbers_at 5 2 (Probing 0 100 201 20)) (probe_answer 0 150 3)).messages
+  pub probe_next : (received_by (numbers_at 5 2 (Probing 0 100 201 20))
+      (probe_answer 0 150 3)).messages
       ≡ probe 1 150 ∷ []
   -- "high = middle if 1000 × sum ≥ q × base, else low = middle + 1": 22 of 44 are enough
   pub high_record : record_after (numbers_at 5 2 (Probing 1 100 201 20)) (probe_answer 1 150 2)
       ≡ numbers_at 5 2 (Probing 0 100 150 0)
-  pub high_probe : (received_by (numbers_at 5 2 (Probing 1 100 201 20)) (probe_answer 1 150 2)).messages
+  pub high_probe : (received_by (numbers_at 5 2 (Probing 1 100 201 20))
+      (probe_answer 1 150 2)).messages
       ≡ probe 0 125 ∷ []
   pub low_record : record_after (numbers_at 5 2 (Probing 1 100 201 20)) (probe_answer 1 150 1)
       ≡ numbers_at 5 2 (Probing 0 151 201 0)
-  pub low_probe : (received_by (numbers_at 5 2 (Probing 1 100 201 20)) (probe_answer 1 150 1)).messages
+  pub low_probe : (received_by (numbers_at 5 2 (Probing 1 100 201 20))
+      (probe_answer 1 150 1)).messages
       ≡ probe 0 176 ∷ []
   pub enough_exactly : enough 500 1000 500 ≡ true
   pub enough_short : enough 500 1001 500 ≡ false
@@ -137,7 +141,8 @@ pub record StepEdges : Type 0 where
   pub class_silent :
       (received_by (numbers_at 5 2 (Probing 1 3 4 20)) (probe_answer 1 3 2)).messages ≡ []
   -- "Last, kind 7 goes to decks 0 to k - 1, and signals become 0."
-  pub announced_first : coordinator_record (announced_by (numbers_at 5 2 (Announcing 0))).coordinator
+  pub announced_first : coordinator_record (announced_by
+      (numbers_at 5 2 (Announcing 0))).coordinator
       ≡ numbers_at 5 2 (Announcing 1)
   pub announcement_first : (announced_by (numbers_at 5 2 (Announcing 0))).messages
       ≡ announcement 0 5 44 ∷ []

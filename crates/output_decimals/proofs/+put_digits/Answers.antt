@@ -21,11 +21,10 @@ returns-then-n-lt10 t c =
     (omega (arith, c.requires, ap length one)) refl)
 
 pub put_digits-used-requires : goal.put_digits-used-requires
-put_digits-used-requires t c =
-    (
-      omega (arith, c.decreases, c.if-n-lt10.false),
-      omega (arith, c.requires, length_decimal_large c.args.n c.if-n-lt10.false),
-    )
+put_digits-used-requires t c = (
+  omega (arith, c.decreases, c.if-n-lt10.false),
+  omega (arith, c.requires, length_decimal_large c.args.n c.if-n-lt10.false),
+)
 
 pub bounds-bytes-at-2 : goal.bounds-bytes-at-2
 bounds-bytes-at-2 t c =

@@ -37,7 +37,8 @@ pub put_text-after_word-requires : goal.put_text-after_word-requires
 put_text-after_word-requires c = stage_room (begun (goal.at.put_text-after_word-requires c).Start)
 
 pub put_spaced-after_number-requires : goal.put_spaced-after_number-requires
-put_spaced-after_number-requires c = stage_room (behind_word (goal.at.put_spaced-after_number-requires c).After-put_text-after_word)
+put_spaced-after_number-requires c = stage_room
+    (behind_word (goal.at.put_spaced-after_number-requires c).After-put_text-after_word)
 
 pub put_text-requires : goal.put_text-requires
 put_text-requires c =
@@ -45,4 +46,5 @@ put_text-requires c =
 
 pub returns : goal.returns
 returns c =
-    stage_ends (stage_on (behind_number (goal.at.returns c).After-put_spaced-after_number) c.put_text.ensures)
+    stage_ends (stage_on (behind_number (goal.at.returns c).After-put_spaced-after_number)
+    c.put_text.ensures)

@@ -35,11 +35,14 @@ behind_items c = stage_on ((stage_on ((let items = c.args.items.now in
     c.put_numbers-after_items.ensures
 
 pub put_numbers-after_items-requires : goal.put_numbers-after_items-requires
-put_numbers-after_items-requires c = stage_room (behind_word (goal.at.put_numbers-after_items-requires c).After-put_text-after_word)
+put_numbers-after_items-requires c = stage_room
+    (behind_word (goal.at.put_numbers-after_items-requires c).After-put_text-after_word)
 
 pub put_text-requires : goal.put_text-requires
-put_text-requires c = stage_room (behind_items (goal.at.put_text-requires c).After-put_numbers-after_items)
+put_text-requires c = stage_room (behind_items
+    (goal.at.put_text-requires c).After-put_numbers-after_items)
 
 pub returns : goal.returns
 returns c =
-    stage_ends (stage_on (behind_items (goal.at.returns c).After-put_numbers-after_items) c.put_text.ensures)
+    stage_ends (stage_on (behind_items (goal.at.returns c).After-put_numbers-after_items)
+    c.put_text.ensures)

@@ -49,7 +49,8 @@ put_spaced-after_b-requires c =
     let a = c.args in
     let kind = behind_kind (message a.kind a.site a.a a.b) a.at a.out.now _ _ c.requires
     c.write_decimal.ensures in
-    stage_room (stage_on (stage_on kind c.put_spaced-after_site.ensures) c.put_spaced-after_a.ensures)
+    stage_room (stage_on (stage_on kind c.put_spaced-after_site.ensures)
+    c.put_spaced-after_a.ensures)
 
 pub put_text-requires : goal.put_text-requires
 put_text-requires c =

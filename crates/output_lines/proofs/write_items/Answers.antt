@@ -37,10 +37,18 @@ line_fits c =
     )
 
 pub overflow_sub-out : goal.overflow_sub-out
-overflow_sub-out c = omega (arith, word_fits (goal.at.overflow_sub-out c).After-has_room c.if-has_room.true)
+overflow_sub-out c = omega (
+  arith,
+  word_fits (goal.at.overflow_sub-out c).After-has_room
+      c.if-has_room.true,
+)
 
 pub overflow_sub-out-then-has_room : goal.overflow_sub-out-then-has_room
-overflow_sub-out-then-has_room c = omega (arith, word_fits (goal.at.overflow_sub-out-then-has_room c).After-has_room c.if-has_room.true)
+overflow_sub-out-then-has_room c = omega (
+  arith,
+  word_fits
+      (goal.at.overflow_sub-out-then-has_room c).After-has_room c.if-has_room.true,
+)
 
 pub put_listed-requires : goal.put_listed-requires
 put_listed-requires c = line_fits (goal.at.put_listed-requires c).Then-numbers_fit
@@ -48,7 +56,8 @@ put_listed-requires c = line_fits (goal.at.put_listed-requires c).Then-numbers_f
 pub returns-then-numbers_fit : goal.returns-then-numbers_fit
 returns-then-numbers_fit c =
     let args = c.args in
-    line_put (listed_line args.items.now) args.at args.out.now _ _ (line_fits (goal.at.returns-then-numbers_fit c).Then-numbers_fit)
+    line_put (listed_line args.items.now) args.at args.out.now _ _
+    (line_fits (goal.at.returns-then-numbers_fit c).Then-numbers_fit)
     c.put_listed.ensures
 
 pub returns-else-numbers_fit : goal.returns-else-numbers_fit

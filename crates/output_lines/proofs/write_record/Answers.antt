@@ -52,7 +52,8 @@ fits : (c : After-has_room)
     → c.has_room.result ≡ true
     →
     let args = c.args in
-    args.at + length (message_line (message c.args.kind c.args.site c.args.a c.args.b)) ≤ length args.out.now
+    args.at + length (message_line (message c.args.kind c.args.site c.args.a c.args.b)) ≤ length
+    args.out.now
 fits c enough =
     let args = c.args in
     omega (
@@ -69,7 +70,8 @@ short : (c : After-has_room)
     → c.has_room.result ≡ false
     →
     let args = c.args in
-    length args.out.now < args.at + length (message_line (message c.args.kind c.args.site c.args.a c.args.b))
+    length args.out.now < args.at + length (message_line
+    (message c.args.kind c.args.site c.args.a c.args.b))
 short c lacking =
     let args = c.args in
     omega (
@@ -90,7 +92,8 @@ returns-then-has_room c =
     let args = c.args in
     record {
       written =
-          line_put (message_line (given (goal.at.returns-then-has_room c).Start)) args.at args.out.now _ _
+          line_put (message_line (given (goal.at.returns-then-has_room c).Start)) args.at
+          args.out.now _ _
           (fits (goal.at.returns-then-has_room c).After-has_room c.if-has_room.true)
           c.put_message.ensures;
       few = few (goal.at.returns-then-has_room c).After-spaced_length-4;

@@ -16,14 +16,16 @@ begun : (c : Else-line-eq-SETTINGS_LINE)
     (bytes_of "line" ∷ spaced_number args.line ∷ []) args.out.now args.at
 begun c =
     stage_begins (place_words c.args.line) c.args.at c.args.out.now _
-    (place_line c.args.line c.if-line-eq-WHOLE_WORKLIST.false c.if-line-eq-SETTINGS_LINE.false) c.requires
+    (place_line c.args.line c.if-line-eq-WHOLE_WORKLIST.false c.if-line-eq-SETTINGS_LINE.false)
+    c.requires
 
 behind_word : (c : After-put_text-after_word)
     → let args = c.args in
     Stage (place_words args.line) args.at args.out.now (spaced_number args.line ∷ [])
     c.put_text-after_word.new.out c.put_text-after_word.result
 behind_word c = stage_on ((stage_begins (place_words c.args.line) c.args.at c.args.out.now _
-    (place_line c.args.line c.if-line-eq-WHOLE_WORKLIST.false c.if-line-eq-SETTINGS_LINE.false) c.requires)) c.put_text-after_word.ensures
+    (place_line c.args.line c.if-line-eq-WHOLE_WORKLIST.false c.if-line-eq-SETTINGS_LINE.false)
+    c.requires)) c.put_text-after_word.ensures
 
 pub put_text-requires : goal.put_text-requires
 put_text-requires c =
@@ -46,11 +48,14 @@ returns-then-line-eq-SETTINGS_LINE c =
     c.put_text-then-line-eq-SETTINGS_LINE.ensures
 
 pub put_text-after_word-requires : goal.put_text-after_word-requires
-put_text-after_word-requires c = stage_room (begun (goal.at.put_text-after_word-requires c).Else-line-eq-SETTINGS_LINE)
+put_text-after_word-requires c = stage_room (begun
+    (goal.at.put_text-after_word-requires c).Else-line-eq-SETTINGS_LINE)
 
 pub put_spaced-requires : goal.put_spaced-requires
-put_spaced-requires c = stage_room (behind_word (goal.at.put_spaced-requires c).After-put_text-after_word)
+put_spaced-requires c = stage_room (behind_word
+    (goal.at.put_spaced-requires c).After-put_text-after_word)
 
 pub returns : goal.returns
 returns c =
-    stage_ends (stage_on (behind_word (goal.at.returns c).After-put_text-after_word) c.put_spaced.ensures)
+    stage_ends (stage_on (behind_word (goal.at.returns c).After-put_text-after_word)
+    c.put_spaced.ensures)

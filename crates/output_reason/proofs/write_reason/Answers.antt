@@ -20,7 +20,11 @@ fits c =
     let args = c.args in
     let line_small : args.line < 2 ^ 64 = search rules in
     let small : args.refusal < 2 ^ 64 = search rules in
-    omega (arith, reason_few args.line args.refusal line_small small, c.if-out-lt-REASON_BYTES.false)
+    omega (
+      arith,
+      reason_few args.line args.refusal line_small small,
+      c.if-out-lt-REASON_BYTES.false,
+    )
 
 pub returns-then-out-lt-REASON_BYTES : goal.returns-then-out-lt-REASON_BYTES
 returns-then-out-lt-REASON_BYTES c =

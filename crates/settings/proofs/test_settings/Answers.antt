@@ -37,9 +37,11 @@ overflow_mul-product c =
 
 pub returns-then-product-lt-LEAST_PRODUCT : goal.returns-then-product-lt-LEAST_PRODUCT
 returns-then-product-lt-LEAST_PRODUCT c =
-    refuse _ _ _ (past_phi c.before.before.before) refl (lt-ltb _ _ c.if-product-lt-LEAST_PRODUCT.true)
+    refuse _ _ _ (past_phi c.before.before.before) refl
+    (lt-ltb _ _ c.if-product-lt-LEAST_PRODUCT.true)
 
 pub returns : goal.returns
 returns c =
-    end (pass _ _ _ (past_phi c.before.before.before) refl (le-ltb _ _ c.if-product-lt-LEAST_PRODUCT.false))
+    end (pass _ _ _ (past_phi c.before.before.before) refl
+    (le-ltb _ _ c.if-product-lt-LEAST_PRODUCT.false))
     refl

@@ -86,7 +86,8 @@ begin_requires c κs =
 
 -- The site's number is that of the whole call.
 site_number : (beginning : tie.After-begin)
-    → let start = beginning.before.before.before.before.before.before.before.before.before.before.before in
+    → let start =
+    beginning.before.before.before.before.before.before.before.before.before.before.before in
     beginning.begin.result.refusal
     ≡ delivery_refusal start.args.settings (given start) start.args.arrival
 site_number beginning =
@@ -104,7 +105,8 @@ site_number beginning =
 returns_3 : tie.Need-returns-3
 returns_3 c =
     let beginning = c.before.before.before.before.before in
-    let start = beginning.before.before.before.before.before.before.before.before.before.before.before in
+    let start =
+    beginning.before.before.before.before.before.before.before.before.before.before.before in
     let refused = c.before.if3.true in
     rw c.leave3.ensures
     (left_says (given start) _ _ (site_number beginning) (λ none. absurd (refused none)) refl refl
@@ -117,7 +119,8 @@ returns_4 c =
     let tells = c.before.before in
     let accepting = tells.before in
     let beginning = accepting.before.before.before.before in
-    let start = beginning.before.before.before.before.before.before.before.before.before.before.before in
+    let start =
+    beginning.before.before.before.before.before.before.before.before.before.before.before in
     let no_draw = told tells.is_draw.ensures
     (not-true tells.is_draw.result c.before.if4.true) in
     rw c.leave4.ensures

@@ -5,7 +5,8 @@ use Rattle.site.proofs.observe_refusal.Goals as goal
 
 pub returns-then-refusal-ne-NO_REFUSAL : goal.returns-then-refusal-ne-NO_REFUSAL
 returns-then-refusal-ne-NO_REFUSAL c =
-    refuse_part _ _ (begin _) refl c.site_memory_refusal-refusal.ensures c.if-refusal-ne-NO_REFUSAL.true
+    refuse_part _ _ (begin _) refl c.site_memory_refusal-refusal.ensures
+    c.if-refusal-ne-NO_REFUSAL.true
 
 pub returns : goal.returns
 returns c =

@@ -52,7 +52,8 @@ returns-then-counters_consistent c =
     let a = c.args in
     c.values_sum_to.ensures
     ∙ counters_pass a.settings a.site a.memory.now
-    c.if-capacity-site.false c.if-site-gt-SITE_LIMIT.false c.if-site.false c.if-site-gt-SITE_LIMIT-2.false
+    c.if-capacity-site.false c.if-site-gt-SITE_LIMIT.false c.if-site.false
+    c.if-site-gt-SITE_LIMIT-2.false
     c.if-site-2.false
     (sym c.counters_consistent.ensures ∙ c.if-counters_consistent.true)
 

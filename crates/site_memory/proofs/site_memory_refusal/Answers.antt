@@ -17,7 +17,8 @@ answer c =
 
 abbrev past_settings : (c : Else-refusal-ne-NO_REFUSAL) → Still (answer c)
 past_settings c =
-    pass_part _ _ (begin _) refl (told c.test_settings-refusal.ensures c.if-refusal-ne-NO_REFUSAL.false)
+    pass_part _ _ (begin _) refl (told c.test_settings-refusal.ensures
+    c.if-refusal-ne-NO_REFUSAL.false)
 
 short : (c : Then-memory-site_words)
     → let a = c.args in
@@ -31,7 +32,9 @@ long c = omega (arith, c.site_words.ensures, c.if-memory-site_words.false)
 
 abbrev past_length : (c : Else-memory-site_words) → Still ((let a = c.args in
     site_memory_refusal a.settings a.site a.memory.now))
-past_length c = pass _ _ _ ((pass_part _ _ (begin _) refl (told c.test_settings-refusal.ensures c.if-refusal-ne-NO_REFUSAL.false))) refl (le-ltb _ _ (long c))
+past_length c = pass _ _ _ ((pass_part _ _ (begin _) refl
+    (told c.test_settings-refusal.ensures c.if-refusal-ne-NO_REFUSAL.false))) refl
+    (le-ltb _ _ (long c))
 
 pub returns-then-refusal-ne-NO_REFUSAL : goal.returns-then-refusal-ne-NO_REFUSAL
 returns-then-refusal-ne-NO_REFUSAL c =
@@ -43,7 +46,8 @@ site_words-requires c =
 
 pub returns-then-memory-site_words : goal.returns-then-memory-site_words
 returns-then-memory-site_words c =
-    refuse _ _ _ (past_settings (goal.at.returns-then-memory-site_words c).Else-refusal-ne-NO_REFUSAL) refl (lt-ltb _ _ (short c))
+    refuse _ _ _ (past_settings (goal.at.returns-then-memory-site_words
+    c).Else-refusal-ne-NO_REFUSAL) refl (lt-ltb _ _ (short c))
 
 pub site_consistent-requires : goal.site_consistent-requires
 site_consistent-requires c =
@@ -55,7 +59,8 @@ site_consistent-requires c =
 
 pub returns-then-site_consistent : goal.returns-then-site_consistent
 returns-then-site_consistent c =
-    end (pass _ _ _ (past_length (goal.at.returns-then-site_consistent c).Else-memory-site_words) refl
+    end (pass _ _ _ (past_length (goal.at.returns-then-site_consistent c).Else-memory-site_words)
+    refl
     (ap not (told c.site_consistent.ensures c.if-site_consistent.true))) refl
 
 pub returns : goal.returns

@@ -17,7 +17,8 @@ abbrev past_site : (c : Else-settings-arrival) → Still (answer c)
 past_site c = pass _ _ _ (begin _) refl (lt-leb _ _ c.if-settings-arrival.false)
 
 abbrev past_item : (c : Else-settings-arrival-2) → Still (answer c.before.before.before)
-past_item c = pass _ _ _ (past_site c.before.before.before) refl (lt-leb _ _ c.if-settings-arrival-2.false)
+past_item c = pass _ _ _ (past_site c.before.before.before) refl
+    (lt-leb _ _ c.if-settings-arrival-2.false)
 
 pub returns-then-settings-arrival : goal.returns-then-settings-arrival
 returns-then-settings-arrival c =
@@ -29,9 +30,11 @@ returns-then-settings-arrival-2 c =
 
 pub returns-then-arrival-gt-TOP_VALUE : goal.returns-then-arrival-gt-TOP_VALUE
 returns-then-arrival-gt-TOP_VALUE c =
-    refuse _ _ _ (past_item c.before.before) refl (lt-ltb top_value _ c.if-arrival-gt-TOP_VALUE.true)
+    refuse _ _ _ (past_item c.before.before) refl
+    (lt-ltb top_value _ c.if-arrival-gt-TOP_VALUE.true)
 
 pub returns : goal.returns
 returns c =
-    end (pass _ _ _ (past_item c.before.before) refl (le-ltb top_value _ c.if-arrival-gt-TOP_VALUE.false))
+    end (pass _ _ _ (past_item c.before.before) refl
+    (le-ltb top_value _ c.if-arrival-gt-TOP_VALUE.false))
     refl

@@ -19,12 +19,17 @@ returns-then-message-eq-PROBE c = simp (c.if-message-eq-PROBE.true, or_false)
 pub returns-then-message-site : goal.returns-then-message-site
 returns-then-message-site c =
     let a = c.args in
-    simp (c.if-message-eq-ANNOUNCEMENT.true, lt-ltb a.message.a a.site.threshold c.if-message-site.true)
+    simp (
+      c.if-message-eq-ANNOUNCEMENT.true,
+      lt-ltb a.message.a a.site.threshold
+          c.if-message-site.true,
+    )
 
 pub returns-then-message-eq-ANNOUNCEMENT : goal.returns-then-message-eq-ANNOUNCEMENT
 returns-then-message-eq-ANNOUNCEMENT c =
     let a = c.args in
-    wrong_by_limit (bare_site a.site) a.message c.if-message-eq-ANNOUNCEMENT.true c.if-message-site.false
+    wrong_by_limit (bare_site a.site) a.message c.if-message-eq-ANNOUNCEMENT.true
+    c.if-message-site.false
 
 pub returns : goal.returns
 returns c =

@@ -10,7 +10,11 @@ returns-then-message-which c =
     simp (ne_eqb a.message.site a.which c.if-message-which.true, and_false)
 
 pub returns-then-message-eq-POLL : goal.returns-then-message-eq-POLL
-returns-then-message-eq-POLL c = simp (eq-eqb _ _ c.if-message-which.false, eq-eqb _ _ c.if-message-eq-POLL.true)
+returns-then-message-eq-POLL c = simp (
+  eq-eqb _ _ c.if-message-which.false,
+  eq-eqb _ _
+      c.if-message-eq-POLL.true,
+)
 
 pub returns-then-message-eq-PROBE : goal.returns-then-message-eq-PROBE
 returns-then-message-eq-PROBE c =

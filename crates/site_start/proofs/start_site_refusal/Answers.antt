@@ -12,14 +12,16 @@ abbrev past_settings : (c : Else-refusal-ne-NO_REFUSAL)
     → let a = c.args in
     Still (start_site_refusal a.settings a.which a.words)
 past_settings c =
-    pass_part _ _ (begin _) refl (told c.test_settings-refusal.ensures c.if-refusal-ne-NO_REFUSAL.false)
+    pass_part _ _ (begin _) refl (told c.test_settings-refusal.ensures
+    c.if-refusal-ne-NO_REFUSAL.false)
 
 abbrev past_memory : (c : Else-words-site_words)
     → let a = c.args in
     Still (start_site_refusal a.settings a.which a.words)
 past_memory c =
     let a = c.args in
-    pass _ _ _ ((pass_part _ _ (begin _) refl (told c.test_settings-refusal.ensures c.if-refusal-ne-NO_REFUSAL.false))) refl
+    pass _ _ _ ((pass_part _ _ (begin _) refl (told c.test_settings-refusal.ensures
+    c.if-refusal-ne-NO_REFUSAL.false))) refl
     (le-ltb a.words (site_words a.settings)
     (subst (λ (n : ℕ). n ≤ a.words) c.site_words.ensures c.if-words-site_words.false))
 
@@ -30,7 +32,8 @@ returns-then-refusal-ne-NO_REFUSAL c =
 pub returns-then-words-site_words : goal.returns-then-words-site_words
 returns-then-words-site_words c =
     let a = c.args in
-    refuse _ _ _ (past_settings (goal.at.returns-then-words-site_words c).Else-refusal-ne-NO_REFUSAL) refl
+    refuse _ _ _ (past_settings (goal.at.returns-then-words-site_words
+    c).Else-refusal-ne-NO_REFUSAL) refl
     (lt-ltb a.words (site_words a.settings)
     (subst (λ (n : ℕ). a.words < n) c.site_words.ensures c.if-words-site_words.true))
 

@@ -65,4 +65,5 @@ returns c =
     let found = c.deck_record-site in
     let a = c.args in
     c.site_consistent.ensures
-    ∙ (λ i. site_consistent a.settings (found.ensures i) (front (goal.at.returns c).After-read_words i))
+    ∙ (λ i. site_consistent a.settings (found.ensures i)
+    (front (goal.at.returns c).After-read_words i))

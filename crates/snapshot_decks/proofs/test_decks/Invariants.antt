@@ -16,7 +16,8 @@ abbrev pub others : Settings → List SiteRecord
 others settings = replicate (most_sites - settings.sites) (site_record fresh_site)
 
 abbrev pub invariant-loop-j : goal.invariant-loop-j
-invariant-loop-j l = (length l.scratch ≡ length l.initial.scratch) × Walked l.settings l.file (others l.settings) l.j
+invariant-loop-j l = (length l.scratch ≡ length l.initial.scratch) × Walked l.settings l.file
+    (others l.settings) l.j
 
 abbrev pub decreases-loop-j : goal.decreases-loop-j
 decreases-loop-j l = l.count - l.j

@@ -66,7 +66,8 @@ returns-else-coordinator-threshold_of c =
     (desk_memory a.settings a.file.now)
     ∙ rw (
       sym c.record_consistent.ensures ∙ c.if-record_consistent.true,
-      ne_eqb _ _ (λ equal. c.if-coordinator-threshold_of.false (equal ∙ sym c.threshold_of.ensures)),
+      ne_eqb _ _ (λ equal. c.if-coordinator-threshold_of.false
+          (equal ∙ sym c.threshold_of.ensures)),
     ))
 
 pub returns-else-record_consistent : goal.returns-else-record_consistent

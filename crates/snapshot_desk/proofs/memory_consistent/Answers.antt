@@ -64,8 +64,10 @@ returns-then-coordinator-eq1 c =
     ∙ sym
     (numbers_at_one
     (coordinator_in a.settings a.coordinator (desk_memory a.settings a.file.now))
-    (items_told (goal.at.returns-then-coordinator-eq1 c).After-numbers_within ∙ c.if-numbers_within.true)
-    (values_told (goal.at.returns-then-coordinator-eq1 c).After-numbers_within-then-numbers_within ∙ c.if-numbers_within-2.true)
+    (items_told (goal.at.returns-then-coordinator-eq1 c).After-numbers_within ∙
+    c.if-numbers_within.true)
+    (values_told (goal.at.returns-then-coordinator-eq1 c).After-numbers_within-then-numbers_within
+    ∙ c.if-numbers_within-2.true)
     c.if-coordinator-eq1.true)
 
 pub returns-then-numbers_within-2 : goal.returns-then-numbers_within-2
@@ -74,8 +76,10 @@ returns-then-numbers_within-2 c =
     sym
     (numbers_above_one
     (coordinator_in a.settings a.coordinator (desk_memory a.settings a.file.now))
-    (items_told (goal.at.returns-then-numbers_within-2 c).After-numbers_within ∙ c.if-numbers_within.true)
-    (values_told (goal.at.returns-then-numbers_within-2 c).After-numbers_within-then-numbers_within ∙ c.if-numbers_within-2.true)
+    (items_told (goal.at.returns-then-numbers_within-2 c).After-numbers_within ∙
+    c.if-numbers_within.true)
+    (values_told (goal.at.returns-then-numbers_within-2 c).After-numbers_within-then-numbers_within
+    ∙ c.if-numbers_within-2.true)
     c.if-coordinator-eq1.false)
 
 pub returns-else-numbers_within-2 : goal.returns-else-numbers_within-2
@@ -84,8 +88,10 @@ returns-else-numbers_within-2 c =
     sym
     (numbers_histogram_off
     (coordinator_in a.settings a.coordinator (desk_memory a.settings a.file.now))
-    (items_told (goal.at.returns-else-numbers_within-2 c).After-numbers_within ∙ c.if-numbers_within.true)
-    (values_told (goal.at.returns-else-numbers_within-2 c).After-numbers_within-then-numbers_within ∙ c.if-numbers_within-2.false))
+    (items_told (goal.at.returns-else-numbers_within-2 c).After-numbers_within ∙
+    c.if-numbers_within.true)
+    (values_told (goal.at.returns-else-numbers_within-2 c).After-numbers_within-then-numbers_within
+    ∙ c.if-numbers_within-2.false))
 
 pub returns-else-numbers_within : goal.returns-else-numbers_within
 returns-else-numbers_within c =
@@ -93,4 +99,5 @@ returns-else-numbers_within c =
     sym
     (numbers_estimates_off
     (coordinator_in a.settings a.coordinator (desk_memory a.settings a.file.now))
-    (items_told (goal.at.returns-else-numbers_within c).After-numbers_within ∙ c.if-numbers_within.false))
+    (items_told (goal.at.returns-else-numbers_within c).After-numbers_within ∙
+    c.if-numbers_within.false))

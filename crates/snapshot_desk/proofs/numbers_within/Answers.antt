@@ -37,7 +37,8 @@ loop-i-preserved c =
       omega arith,
       checked_on coordinator_limit (numbers_from file a.from a.count) i c.loop-i.invariant.1
           (omega (arith, inside, numbers_long file a.from a.count))
-          (subst (λ (n : ℕ). n ≤ coordinator_limit) number c.if-read_eight-gt-COORDINATOR_LIMIT.false),
+          (subst (λ (n : ℕ). n ≤ coordinator_limit) number
+          c.if-read_eight-gt-COORDINATOR_LIMIT.false),
     )
 
 pub returns : goal.returns

@@ -40,7 +40,8 @@ returns-then-read_number-decks c =
     (λ same. c.if-read_number-decks.true (same ∙ sym c.decks_place-decks.ensures))
 
 pub returns-then-not-phase_well : goal.returns-then-not-phase_well
-returns-then-not-phase_well c = sym (ap not c.if-not-phase_well.true) ∙ decides (goal.at.returns-then-not-phase_well c).After-phase_well
+returns-then-not-phase_well c = sym (ap not c.if-not-phase_well.true) ∙ decides
+    (goal.at.returns-then-not-phase_well c).After-phase_well
 
 pub returns : goal.returns
 returns c = sym (ap not c.if-not-phase_well.false) ∙ decides (goal.at.returns c).After-phase_well

@@ -26,8 +26,10 @@ slice_bounds-byte_sum-end c =
 
 pub returns-then-byte_sum-read_number : goal.returns-then-byte_sum-read_number
 returns-then-byte_sum-read_number c =
-    sym (ap not (sym (compared (goal.at.returns-then-byte_sum-read_number c).After-read_number) ∙ eq-eqb _ _ c.if-byte_sum-read_number.true))
+    sym (ap not (sym (compared (goal.at.returns-then-byte_sum-read_number c).After-read_number) ∙
+    eq-eqb _ _ c.if-byte_sum-read_number.true))
 
 pub returns : goal.returns
 returns c =
-    sym (ap not (sym (compared (goal.at.returns c).After-read_number) ∙ ne_eqb _ _ c.if-byte_sum-read_number.false))
+    sym (ap not (sym (compared (goal.at.returns c).After-read_number) ∙ ne_eqb _ _
+    c.if-byte_sum-read_number.false))

@@ -23,7 +23,8 @@ whole : (c : After-settings_in-settings)
 whole c =
     let a = c.args in
     whole_of a.file.now a.site_memory.now a.coordinator_memory.now
-    ((omega (arith, c.if-refusal-ne-NO_REFUSAL.false, c.load_refusal-refusal.ensures))) c.settings_in-settings.result c.settings_in-settings.ensures
+    ((omega (arith, c.if-refusal-ne-NO_REFUSAL.false, c.load_refusal-refusal.ensures)))
+    c.settings_in-settings.result c.settings_in-settings.ensures
 
 pub returns-then-refusal-ne-NO_REFUSAL : goal.returns-then-refusal-ne-NO_REFUSAL
 returns-then-refusal-ne-NO_REFUSAL c =
@@ -46,7 +47,8 @@ store_decks-requires c =
     record {
       whole = whole (goal.at.store_decks-requires c).After-settings_in-settings;
       memory_long = sites_enough a.file.now a.site_memory.now a.coordinator_memory.now
-          (accepts (goal.at.store_decks-requires c).Else-refusal-ne-NO_REFUSAL) c.settings_in-settings.result c.settings_in-settings.ensures;
+          (accepts (goal.at.store_decks-requires c).Else-refusal-ne-NO_REFUSAL)
+          c.settings_in-settings.result c.settings_in-settings.ensures;
     }
 
 pub store_desk-requires : goal.store_desk-requires
@@ -55,7 +57,8 @@ store_desk-requires c =
     record {
       whole = whole (goal.at.store_desk-requires c).After-settings_in-settings;
       memory_long = coordinator_enough a.file.now a.site_memory.now
-          a.coordinator_memory.now (accepts (goal.at.store_desk-requires c).Else-refusal-ne-NO_REFUSAL) c.settings_in-settings.result
+          a.coordinator_memory.now (accepts (goal.at.store_desk-requires
+          c).Else-refusal-ne-NO_REFUSAL) c.settings_in-settings.result
           c.settings_in-settings.ensures;
     }
 
@@ -71,7 +74,8 @@ pub returns : goal.returns
 returns c =
     let a = c.args in
     accepted_says a.file.now a.site_memory.now a.coordinator_memory.now
-    (accepts (goal.at.returns c).Else-refusal-ne-NO_REFUSAL) c.settings_in-settings.result c.settings_in-settings.ensures
+    (accepts (goal.at.returns c).Else-refusal-ne-NO_REFUSAL) c.settings_in-settings.result
+    c.settings_in-settings.ensures
     c.store_decks.new.memory c.store_desk.new.memory
     c.desk_row-row.result c.sites_in-sites.result c.coordinator_from-coordinator.result
     c.store_decks.ensures c.store_desk.ensures c.sites_in-sites.ensures

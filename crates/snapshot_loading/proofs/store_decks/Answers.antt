@@ -139,7 +139,8 @@ loop-j-preserved c =
     let part = c.read_words.new.numbers in
     let file = c.args.file.now in
     let place = c.decks_place-first.result + c.loop-j.j * c.deck_size-size.result in
-    let count = part_count words start memory (places (goal.at.loop-j-preserved c).In-loop-j).part_within in
+    let count = part_count words start memory (places
+    (goal.at.loop-j-preserved c).In-loop-j).part_within in
     let part_is : part ≡ numbers_in 4 words (drop place file) =
     c.read_words.ensures
     ∙ ap (λ (n : ℕ). numbers_in 4 n (drop place file)) count in

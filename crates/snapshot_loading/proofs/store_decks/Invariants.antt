@@ -10,7 +10,8 @@ abbrev pub invariant-loop-j : goal.invariant-loop-j
 invariant-loop-j l =
     (l.j ≤ l.count)
     × (length l.memory ≡ length l.initial.memory)
-    × (l.memory ≡ words_from l.words l.size l.j (drop l.first l.file) ++ drop (l.j * l.words) l.initial.memory)
+    × (l.memory ≡ words_from l.words l.size l.j (drop l.first l.file) ++ drop (l.j * l.words)
+    l.initial.memory)
 
 abbrev pub decreases-loop-j : goal.decreases-loop-j
 decreases-loop-j l = l.count - l.j

@@ -46,7 +46,8 @@ returns c =
     let words = a.settings.universe + 1024 in
     let are : words ≡ coordinator_words a.settings = omega (arith, value_count_is) in
     let front = c.read_numbers.ensures
-    ∙ ap (λ (n : ℕ). numbers_in 8 n (drop 48 a.file.now)) (front_long (goal.at.returns c).After-read_numbers-arg-1)
+    ∙ ap (λ (n : ℕ). numbers_in 8 n (drop 48 a.file.now))
+    (front_long (goal.at.returns c).After-read_numbers-arg-1)
     ∙ desk_memory a.settings a.file.now words are in
     let long : words ≡ length c.read_numbers.new.numbers =
     sym (ap length c.read_numbers.ensures

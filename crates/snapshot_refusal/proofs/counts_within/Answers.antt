@@ -38,14 +38,17 @@ returns-then-messages_in-gt-MESSAGE_LIMIT c =
     let a = c.args in
     counts_fail a.settings.sites (held_in a.settings a.file.now).sites.messages
     c.loop-j.j (known (goal.at.returns-then-messages_in-gt-MESSAGE_LIMIT c).In-loop-j)
-    (subst (λ (n : ℕ). message_limit < n) (count_is (goal.at.returns-then-messages_in-gt-MESSAGE_LIMIT c).After-messages_in) c.if-messages_in-gt-MESSAGE_LIMIT.true)
+    (subst (λ (n : ℕ). message_limit < n) (count_is
+    (goal.at.returns-then-messages_in-gt-MESSAGE_LIMIT c).After-messages_in)
+    c.if-messages_in-gt-MESSAGE_LIMIT.true)
 
 pub loop-j-preserved : goal.loop-j-preserved
 loop-j-preserved c =
     let a = c.args in
     counts_on a.settings.sites (held_in a.settings a.file.now).sites.messages
     c.loop-j.j (known (goal.at.loop-j-preserved c).In-loop-j) c.loop-j.invariant
-    (subst (λ (n : ℕ). n ≤ message_limit) (count_is (goal.at.loop-j-preserved c).After-messages_in) c.if-messages_in-gt-MESSAGE_LIMIT.false)
+    (subst (λ (n : ℕ). n ≤ message_limit) (count_is (goal.at.loop-j-preserved c).After-messages_in)
+    c.if-messages_in-gt-MESSAGE_LIMIT.false)
 
 pub returns : goal.returns
 returns c =

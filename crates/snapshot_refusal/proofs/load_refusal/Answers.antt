@@ -29,7 +29,8 @@ past_shape c = pass _ _ _ (begin _) refl (told c.shape_wrong.ensures c.if-shape_
 abbrev past_sum : (c : Else-sum_wrong) → Still ((let a = c.args in
     load_refusal a.file.now a.site_count a.coordinator_count))
 past_sum c =
-    pass _ _ _ ((pass _ _ _ (begin _) refl (told c.shape_wrong.ensures c.if-shape_wrong.false))) refl
+    pass _ _ _ ((pass _ _ _ (begin _) refl (told c.shape_wrong.ensures c.if-shape_wrong.false)))
+    refl
     (told c.sum_wrong.ensures c.if-sum_wrong.false)
 
 -- ---- 1, 2, 3
@@ -46,7 +47,8 @@ number_is c =
 abbrev past_settings : (c : Else-refusal-ne-NO_REFUSAL) → Still ((let a = c.args in
     load_refusal a.file.now a.site_count a.coordinator_count))
 past_settings c =
-    pass_part _ _ ((pass _ _ _ ((pass _ _ _ (begin _) refl (told c.shape_wrong.ensures c.if-shape_wrong.false))) refl
+    pass_part _ _ ((pass _ _ _ ((pass _ _ _ (begin _) refl
+    (told c.shape_wrong.ensures c.if-shape_wrong.false))) refl
     (told c.sum_wrong.ensures c.if-sum_wrong.false))) refl
     ((let a = c.args in
     sym (refusal_same (settings_in a.file.now))
@@ -62,7 +64,8 @@ settings_are c =
     let found = c.settings_in-settings.ensures in
     found
     ∙ settings_same (settings_in a.file.now)
-    (ap settings_refusal (sym found) ∙ sym c.test_settings-refusal.ensures ∙ c.if-refusal-ne-NO_REFUSAL.false)
+    (ap settings_refusal (sym found) ∙ sym c.test_settings-refusal.ensures ∙
+    c.if-refusal-ne-NO_REFUSAL.false)
 
 -- ---- 15 again
 layout_told : (c : After-layout_wrong)
@@ -74,24 +77,28 @@ layout_told c =
     let found = c.settings_in-settings.ensures in
     found
     ∙ settings_same (settings_in a.file.now)
-    (ap settings_refusal (sym found) ∙ sym c.test_settings-refusal.ensures ∙ c.if-refusal-ne-NO_REFUSAL.false))))
+    (ap settings_refusal (sym found) ∙ sym c.test_settings-refusal.ensures ∙
+    c.if-refusal-ne-NO_REFUSAL.false))))
     ∙ sym c.layout_wrong.ensures
 
 abbrev past_layout : (c : Else-layout_wrong)
     → Still ((let a = c.args in
     load_refusal a.file.now a.site_count a.coordinator_count))
 past_layout c =
-    pass _ _ _ ((pass_part _ _ ((pass _ _ _ ((pass _ _ _ (begin _) refl (told c.shape_wrong.ensures c.if-shape_wrong.false))) refl
+    pass _ _ _ ((pass_part _ _ ((pass _ _ _ ((pass _ _ _ (begin _) refl
+    (told c.shape_wrong.ensures c.if-shape_wrong.false))) refl
     (told c.sum_wrong.ensures c.if-sum_wrong.false))) refl
     ((let a = c.args in
     sym (refusal_same (settings_in a.file.now))
     ∙ ap settings_refusal (sym c.settings_in-settings.ensures)
-    ∙ sym c.test_settings-refusal.ensures) ∙ c.if-refusal-ne-NO_REFUSAL.false))) refl ((let a = c.args in
+    ∙ sym c.test_settings-refusal.ensures) ∙ c.if-refusal-ne-NO_REFUSAL.false))) refl
+    ((let a = c.args in
     ap (λ (s : Settings). layout_wrong s a.file.now) (sym ((let a = c.args in
     let found = c.settings_in-settings.ensures in
     found
     ∙ settings_same (settings_in a.file.now)
-    (ap settings_refusal (sym found) ∙ sym c.test_settings-refusal.ensures ∙ c.if-refusal-ne-NO_REFUSAL.false))))
+    (ap settings_refusal (sym found) ∙ sym c.test_settings-refusal.ensures ∙
+    c.if-refusal-ne-NO_REFUSAL.false))))
     ∙ sym c.layout_wrong.ensures) ∙ c.if-layout_wrong.false)
 
 -- ---- 4
@@ -111,7 +118,8 @@ short_told c =
     let found = c.settings_in-settings.ensures in
     found
     ∙ settings_same (settings_in a.file.now)
-    (ap settings_refusal (sym found) ∙ sym c.test_settings-refusal.ensures ∙ c.if-refusal-ne-NO_REFUSAL.false)) in
+    (ap settings_refusal (sym found) ∙ sym c.test_settings-refusal.ensures ∙
+    c.if-refusal-ne-NO_REFUSAL.false)) in
     sym (c.memory_short.ensures.too_short sites coordinator long long-2
     ∙ (λ i. ltb (long i) (sites_words (are i)) || ltb (long-2 i) (coordinator_words (are i))))
 
@@ -119,17 +127,20 @@ abbrev past_short : (c : Else-memory_short)
     → Still ((let a = c.args in
     load_refusal a.file.now a.site_count a.coordinator_count))
 past_short c =
-    pass _ _ _ ((pass _ _ _ ((pass_part _ _ ((pass _ _ _ ((pass _ _ _ (begin _) refl (told c.shape_wrong.ensures c.if-shape_wrong.false))) refl
+    pass _ _ _ ((pass _ _ _ ((pass_part _ _ ((pass _ _ _
+    ((pass _ _ _ (begin _) refl (told c.shape_wrong.ensures c.if-shape_wrong.false))) refl
     (told c.sum_wrong.ensures c.if-sum_wrong.false))) refl
     ((let a = c.args in
     sym (refusal_same (settings_in a.file.now))
     ∙ ap settings_refusal (sym c.settings_in-settings.ensures)
-    ∙ sym c.test_settings-refusal.ensures) ∙ c.if-refusal-ne-NO_REFUSAL.false))) refl ((let a = c.args in
+    ∙ sym c.test_settings-refusal.ensures) ∙ c.if-refusal-ne-NO_REFUSAL.false))) refl
+    ((let a = c.args in
     ap (λ (s : Settings). layout_wrong s a.file.now) (sym ((let a = c.args in
     let found = c.settings_in-settings.ensures in
     found
     ∙ settings_same (settings_in a.file.now)
-    (ap settings_refusal (sym found) ∙ sym c.test_settings-refusal.ensures ∙ c.if-refusal-ne-NO_REFUSAL.false))))
+    (ap settings_refusal (sym found) ∙ sym c.test_settings-refusal.ensures ∙
+    c.if-refusal-ne-NO_REFUSAL.false))))
     ∙ sym c.layout_wrong.ensures) ∙ c.if-layout_wrong.false))) refl ((let a = c.args in
     let zero : ℕ = 0 in
     let sites = replicate a.site_count zero in
@@ -140,9 +151,11 @@ past_short c =
     let found = c.settings_in-settings.ensures in
     found
     ∙ settings_same (settings_in a.file.now)
-    (ap settings_refusal (sym found) ∙ sym c.test_settings-refusal.ensures ∙ c.if-refusal-ne-NO_REFUSAL.false)) in
+    (ap settings_refusal (sym found) ∙ sym c.test_settings-refusal.ensures ∙
+    c.if-refusal-ne-NO_REFUSAL.false)) in
     sym (c.memory_short.ensures.too_short sites coordinator long long-2
-    ∙ (λ i. ltb (long i) (sites_words (are i)) || ltb (long-2 i) (coordinator_words (are i))))) ∙ c.if-memory_short.false)
+    ∙ (λ i. ltb (long i) (sites_words (are i)) || ltb (long-2 i) (coordinator_words (are i))))) ∙
+    c.if-memory_short.false)
 
 -- ---- 11
 bench_told : (c : After-bench_consistent)
@@ -156,7 +169,8 @@ bench_told c =
     let found = c.settings_in-settings.ensures in
     found
     ∙ settings_same (settings_in a.file.now)
-    (ap settings_refusal (sym found) ∙ sym c.test_settings-refusal.ensures ∙ c.if-refusal-ne-NO_REFUSAL.false))))
+    (ap settings_refusal (sym found) ∙ sym c.test_settings-refusal.ensures ∙
+    c.if-refusal-ne-NO_REFUSAL.false))))
     ∙ sym c.bench_consistent.ensures
 
 pub returns-then-shape_wrong : goal.returns-then-shape_wrong
@@ -181,7 +195,8 @@ settings_in-settings-requires c =
 pub returns-then-refusal-ne-NO_REFUSAL : goal.returns-then-refusal-ne-NO_REFUSAL
 returns-then-refusal-ne-NO_REFUSAL c =
     refuse_part _ _ (past_sum (goal.at.returns-then-refusal-ne-NO_REFUSAL c).Else-sum_wrong) refl
-    (sym (number_is (goal.at.returns-then-refusal-ne-NO_REFUSAL c).After-test_settings-refusal)) c.if-refusal-ne-NO_REFUSAL.true
+    (sym (number_is (goal.at.returns-then-refusal-ne-NO_REFUSAL c).After-test_settings-refusal))
+    c.if-refusal-ne-NO_REFUSAL.true
 
 pub layout_wrong-requires : goal.layout_wrong-requires
 layout_wrong-requires c =
@@ -193,7 +208,8 @@ layout_wrong-requires c =
 
 pub returns-then-layout_wrong : goal.returns-then-layout_wrong
 returns-then-layout_wrong c =
-    refuse _ _ _ (past_settings (goal.at.returns-then-layout_wrong c).Else-refusal-ne-NO_REFUSAL) refl
+    refuse _ _ _ (past_settings (goal.at.returns-then-layout_wrong c).Else-refusal-ne-NO_REFUSAL)
+    refl
     (layout_told (goal.at.returns-then-layout_wrong c).After-layout_wrong ∙ c.if-layout_wrong.true)
 
 pub returns-then-memory_short : goal.returns-then-memory_short
@@ -211,7 +227,8 @@ bench_consistent-requires c =
 pub returns-then-bench_consistent : goal.returns-then-bench_consistent
 returns-then-bench_consistent c =
     end (pass _ _ _ (past_short (goal.at.returns-then-bench_consistent c).Else-memory_short) refl
-    (ap not (bench_told (goal.at.returns-then-bench_consistent c).After-bench_consistent ∙ c.if-bench_consistent.true))) refl
+    (ap not (bench_told (goal.at.returns-then-bench_consistent c).After-bench_consistent ∙
+    c.if-bench_consistent.true))) refl
 
 pub returns : goal.returns
 returns c =

@@ -30,10 +30,12 @@ held start =
 accepted : (c : Else-refusal-ne-NO_REFUSAL)
     →
     Passed c.args.settings ((let a = c.args in
-    held_by a.sites a.coordinator a.site_memory.now a.coordinator_memory.now)) (length c.args.bytes.now)
+    held_by a.sites a.coordinator a.site_memory.now a.coordinator_memory.now))
+    (length c.args.bytes.now)
 accepted c =
     passed_of c.args.settings ((let a = c.args in
-    held_by a.sites a.coordinator a.site_memory.now a.coordinator_memory.now)) (length c.args.bytes.now)
+    held_by a.sites a.coordinator a.site_memory.now a.coordinator_memory.now))
+    (length c.args.bytes.now)
     (told c.save_refusal-refusal.ensures c.if-refusal-ne-NO_REFUSAL.false)
 
 -- Bytes for the file: those lent, and what the parts make of them.
@@ -81,13 +83,20 @@ returns-then-refusal-ne-NO_REFUSAL c =
 -- ---- The parts
 pub write_settings-requires : goal.write_settings-requires
 write_settings-requires c =
-    omega (arith, (accepted (goal.at.write_settings-requires c).Else-refusal-ne-NO_REFUSAL).room_enough, length_of_decks c.args.settings)
+    omega (
+      arith,
+      (accepted (goal.at.write_settings-requires
+          c).Else-refusal-ne-NO_REFUSAL).room_enough,
+      length_of_decks c.args.settings,
+    )
 
 pub write_desk-requires : goal.write_desk-requires
 write_desk-requires c =
     record {
-      file_fits = file_fits (goal.at.write_desk-requires c).Else-refusal-ne-NO_REFUSAL _ c.write_settings.auto.bytes;
-      memory_long = (accepted (goal.at.write_desk-requires c).Else-refusal-ne-NO_REFUSAL).coordinator_long;
+      file_fits = file_fits (goal.at.write_desk-requires c).Else-refusal-ne-NO_REFUSAL _
+          c.write_settings.auto.bytes;
+      memory_long = (accepted (goal.at.write_desk-requires
+          c).Else-refusal-ne-NO_REFUSAL).coordinator_long;
     }
 
 pub write_decks-requires : goal.write_decks-requires
@@ -95,7 +104,8 @@ write_decks-requires c =
     record {
       file_fits = file_fits (goal.at.write_decks-requires c).Else-refusal-ne-NO_REFUSAL _
           (c.write_desk.auto.bytes ∙ c.write_settings.auto.bytes);
-      memory_long = (accepted (goal.at.write_decks-requires c).Else-refusal-ne-NO_REFUSAL).sites_long;
+      memory_long = (accepted (goal.at.write_decks-requires
+          c).Else-refusal-ne-NO_REFUSAL).sites_long;
     }
 
 pub write_trailer-requires : goal.write_trailer-requires
@@ -112,7 +122,8 @@ file_length-length-requires c =
 pub returns : goal.returns
 returns c =
     let a = c.args in
-    let desk = numbers_bytes desk_bytes (desk_numbers a.settings (held (goal.at.returns c).Start)) in
+    let desk = numbers_bytes desk_bytes (desk_numbers a.settings (held (goal.at.returns c).Start))
+    in
     let decks =
     sections_bytes (deck_sections a.settings.sites a.settings a.sites.records
     a.site_memory.now) in
@@ -127,6 +138,7 @@ returns c =
           ∙ ap (written_at (decks_place_of a.settings) decks)
           (c.write_desk.ensures
           ∙ ap (written_at desk_place desk) c.write_settings.ensures))
-          ∙ file_written a.settings (held (goal.at.returns c).Start) a.bytes.now (long (goal.at.returns c).Else-refusal-ne-NO_REFUSAL)
+          ∙ file_written a.settings (held (goal.at.returns c).Start) a.bytes.now
+          (long (goal.at.returns c).Else-refusal-ne-NO_REFUSAL)
           (file_fits (goal.at.returns c).Else-refusal-ne-NO_REFUSAL a.bytes.now refl);
     }

@@ -24,7 +24,8 @@ answer c =
 
 abbrev past_settings : (c : Else-refusal-ne-NO_REFUSAL) → Still (answer c)
 past_settings c =
-    pass_part _ _ (begin _) refl (told c.test_settings-refusal.ensures c.if-refusal-ne-NO_REFUSAL.false)
+    pass_part _ _ (begin _) refl (told c.test_settings-refusal.ensures
+    c.if-refusal-ne-NO_REFUSAL.false)
 
 -- The test of the memory's length, as the model has it.
 too_short : (sized : After-memory_short)
@@ -87,7 +88,8 @@ abbrev past_length : (c : Else-room-file_length) → Still ((let a = c.args in
     (held_by a.sites a.coordinator a.site_memory.now a.coordinator_memory.now)
     a.room))
 past_length c =
-    pass _ _ _ ((pass_part _ _ (begin _) refl (told c.test_settings-refusal.ensures c.if-refusal-ne-NO_REFUSAL.false))) refl
+    pass _ _ _ ((pass_part _ _ (begin _) refl (told c.test_settings-refusal.ensures
+    c.if-refusal-ne-NO_REFUSAL.false))) refl
     (((let a = c.args in
     (λ i. ((let a = c.args in
     sym (c.memory_short.ensures.too_short a.site_memory.now a.coordinator_memory.now
@@ -101,13 +103,16 @@ returns-then-refusal-ne-NO_REFUSAL c =
 
 pub returns-then-memory_short : goal.returns-then-memory_short
 returns-then-memory_short c =
-    refuse _ _ _ (past_settings (goal.at.returns-then-memory_short c).Else-refusal-ne-NO_REFUSAL) refl
+    refuse _ _ _ (past_settings (goal.at.returns-then-memory_short c).Else-refusal-ne-NO_REFUSAL)
+    refl
     (by_memory (goal.at.returns-then-memory_short c).After-memory_short c.if-memory_short.true)
 
 pub returns-then-room-file_length : goal.returns-then-room-file_length
 returns-then-room-file_length c =
-    refuse _ _ _ (past_settings (goal.at.returns-then-room-file_length c).Else-refusal-ne-NO_REFUSAL) refl
-    (bytes_few (goal.at.returns-then-room-file_length c).After-file_length c.if-room-file_length.true)
+    refuse _ _ _ (past_settings (goal.at.returns-then-room-file_length
+    c).Else-refusal-ne-NO_REFUSAL) refl
+    (bytes_few (goal.at.returns-then-room-file_length c).After-file_length
+    c.if-room-file_length.true)
 
 pub bench_consistent-requires : goal.bench_consistent-requires
 bench_consistent-requires c =
@@ -118,7 +123,8 @@ bench_consistent-requires c =
 
 pub returns-then-bench_consistent : goal.returns-then-bench_consistent
 returns-then-bench_consistent c =
-    end (pass _ _ _ (past_length (goal.at.returns-then-bench_consistent c).Else-room-file_length) refl
+    end (pass _ _ _ (past_length (goal.at.returns-then-bench_consistent c).Else-room-file_length)
+    refl
     (ap not (told c.bench_consistent.ensures c.if-bench_consistent.true))) refl
 
 pub returns : goal.returns

@@ -25,7 +25,12 @@ slice_bounds-write_words-end c = sym (long c)
 
 pub write_words-requires : goal.write_words-requires
 write_words-requires c =
-    omega (arith, long (goal.at.write_words-requires c).After-site_words-words, c.site_words-words.ensures, c.requires.deck_fits)
+    omega (
+      arith,
+      long (goal.at.write_words-requires c).After-site_words-words,
+      c.site_words-words.ensures,
+      c.requires.deck_fits,
+    )
 
 pub returns : goal.returns
 returns c =
@@ -38,7 +43,8 @@ returns c =
     ∙ (λ i. written_at (a.place + 4 * words) (numbers_bytes 4 (row.ensures i))
     (c.write_words.ensures i))
     ∙ numbers_written 4 a.place words (take words a.memory.now) record_numbers
-    a.bytes.now (long (goal.at.returns c).After-site_words-words) (omega (arith, c.site_words-words.ensures, c.requires.deck_fits))
+    a.bytes.now (long (goal.at.returns c).After-site_words-words)
+    (omega (arith, c.site_words-words.ensures, c.requires.deck_fits))
     ∙ ap (λ (n : ℕ). written_at a.place
     (numbers_bytes 4 (take n a.memory.now ++ record_numbers)) a.bytes.now)
     c.site_words-words.ensures

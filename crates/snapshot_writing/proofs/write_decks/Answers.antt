@@ -68,11 +68,19 @@ overflow_mul-start c =
 
 pub offset_bounds-sites-j : goal.offset_bounds-sites-j
 offset_bounds-sites-j c =
-    omega (arith, site_few (sites_fit (goal.at.offset_bounds-sites-j c).Start) c.loop-j.j c.loop-j-test.true)
+    omega (
+      arith,
+      site_few (sites_fit (goal.at.offset_bounds-sites-j c).Start) c.loop-j.j
+          c.loop-j-test.true,
+    )
 
 pub bounds-sites-j : goal.bounds-sites-j
 bounds-sites-j c =
-    omega (arith, site_few (sites_fit (goal.at.bounds-sites-j c).Start) c.loop-j.j c.loop-j-test.true)
+    omega (
+      arith,
+      site_few (sites_fit (goal.at.bounds-sites-j c).Start) c.loop-j.j
+          c.loop-j-test.true,
+    )
 
 pub offset_bounds-memory-start : goal.offset_bounds-memory-start
 offset_bounds-memory-start c =
@@ -97,7 +105,8 @@ overflow_add-first c =
 
 pub write_deck-requires : goal.write_deck-requires
 write_deck-requires c =
-    let part = part_fits (sites_fit (goal.at.write_deck-requires c).Start) c.loop-j.j c.loop-j-test.true
+    let part = part_fits (sites_fit (goal.at.write_deck-requires c).Start) c.loop-j.j
+    c.loop-j-test.true
     c.site_words-words.result c.site_words-words.ensures in
     record {
       settings_accepted = part.settings_accepted;
@@ -121,7 +130,8 @@ loop-j-preserved c =
     (c.write_deck.ensures
     ∙ (λ i. written_at (c.decks_place-first.ensures i + j * c.deck_size-size.ensures i)
     (numbers_bytes deck_bytes (deck_numbers a.settings (get_or a.sites.records j no_record)
-    (own_is (sites_fit (goal.at.loop-j-preserved c).Start) j c.loop-j-test.true c.site_words-words.result
+    (own_is (sites_fit (goal.at.loop-j-preserved c).Start) j c.loop-j-test.true
+    c.site_words-words.result
     c.site_words-words.ensures i))) c.loop-j.bytes))
 
 pub returns : goal.returns

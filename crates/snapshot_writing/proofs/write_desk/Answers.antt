@@ -96,4 +96,5 @@ returns c =
     (written_at (desk_place + 8 * words) (numbers_bytes 8 (c.coordinator_row-row.ensures i))
     (c.write_numbers.ensures i)))
     ∙ desk_written a.settings a.coordinator words a.counts a.memory.now a.bytes.now
-    (words_are (goal.at.returns c).Start) (enough (goal.at.returns c).Start) c.requires.memory_long c.requires.file_fits
+    (words_are (goal.at.returns c).Start) (enough (goal.at.returns c).Start) c.requires.memory_long
+    c.requires.file_fits

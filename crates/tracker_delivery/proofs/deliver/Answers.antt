@@ -44,7 +44,8 @@ bounds-records-which-in-loop-settings c =
     rw c.site_of_head-which.ensures (head_few (delivering_after u (c.loop-settings.invariant u)))
 
 pub offset_bounds-records-which-in-loop-settings : goal.offset_bounds-records-which-in-loop-settings
-offset_bounds-records-which-in-loop-settings c = omega (arith, bounds-records-which-in-loop-settings c)
+offset_bounds-records-which-in-loop-settings c = omega
+    (arith, bounds-records-which-in-loop-settings c)
 
 pub send_answer-traffic-requires : goal.send_answer-traffic-requires
 send_answer-traffic-requires c =

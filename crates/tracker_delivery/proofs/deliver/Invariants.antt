@@ -9,10 +9,13 @@ use Rattle.tracker_delivery.proofs.deliver.Given as goal
 abbrev pub invariant-loop-settings : goal.invariant-loop-settings
 invariant-loop-settings l =
     (u : Delivering l.settings
-    (carrying (underway_of l.initial.records l.initial.counts l.initial.coordinator l.initial.traffic) l.site_memory l.initial.coordinator_memory
+    (carrying (underway_of l.initial.records l.initial.counts l.initial.coordinator
+    l.initial.traffic) l.site_memory l.initial.coordinator_memory
     l.initial.log))
     → After u
-    (carrying (underway_of l.records l.counts l.coordinator l.traffic) l.site_memory l.coordinator_memory l.log)
+    (carrying (underway_of l.records l.counts l.coordinator l.traffic) l.site_memory
+    l.coordinator_memory l.log)
 
 abbrev pub decreases-loop-settings : goal.decreases-loop-settings
-decreases-loop-settings l = left_to_do (underway_of l.records l.counts l.coordinator l.traffic) (length l.log)
+decreases-loop-settings l = left_to_do (underway_of l.records l.counts l.coordinator l.traffic)
+    (length l.log)

@@ -16,7 +16,8 @@ answer c =
 
 abbrev past_settings : (c : Else-refusal-ne-NO_REFUSAL) → Still (answer c)
 past_settings c =
-    pass_part _ _ (begin _) refl (told c.test_settings-refusal.ensures c.if-refusal-ne-NO_REFUSAL.false)
+    pass_part _ _ (begin _) refl (told c.test_settings-refusal.ensures
+    c.if-refusal-ne-NO_REFUSAL.false)
 
 -- The test of the memory's length, as the model has it.
 too_short : (sized : After-memory_short)
@@ -32,7 +33,8 @@ abbrev past_length : (c : Else-memory_short) → Still ((let a = c.args in
     network_refusal a.settings a.sites a.coordinator a.site_memory.now
     a.coordinator_memory.now))
 past_length c =
-    pass _ _ _ ((pass_part _ _ (begin _) refl (told c.test_settings-refusal.ensures c.if-refusal-ne-NO_REFUSAL.false))) refl ((let a = c.args in
+    pass _ _ _ ((pass_part _ _ (begin _) refl (told c.test_settings-refusal.ensures
+    c.if-refusal-ne-NO_REFUSAL.false))) refl ((let a = c.args in
     sym (c.memory_short.ensures.too_short a.site_memory.now a.coordinator_memory.now
     refl refl)) ∙ c.if-memory_short.false)
 
@@ -42,7 +44,8 @@ returns-then-refusal-ne-NO_REFUSAL c =
 
 pub returns-then-memory_short : goal.returns-then-memory_short
 returns-then-memory_short c =
-    refuse _ _ _ (past_settings (goal.at.returns-then-memory_short c).Else-refusal-ne-NO_REFUSAL) refl
+    refuse _ _ _ (past_settings (goal.at.returns-then-memory_short c).Else-refusal-ne-NO_REFUSAL)
+    refl
     (too_short (goal.at.returns-then-memory_short c).After-memory_short ∙ c.if-memory_short.true)
 
 pub network_consistent-requires : goal.network_consistent-requires

@@ -9,7 +9,8 @@ abbrev past_line : (c : Else-of_line-ne-NO_REFUSAL)
     → let a = c.args in
     Still (places_refusal a.settings a.own a.arrival a.numbers a.written)
 past_line c =
-    pass_part _ _ (begin _) refl (told c.line_refusal-of_line.ensures c.if-of_line-ne-NO_REFUSAL.false)
+    pass_part _ _ (begin _) refl (told c.line_refusal-of_line.ensures
+    c.if-of_line-ne-NO_REFUSAL.false)
 
 pub returns-then-of_line-ne-NO_REFUSAL : goal.returns-then-of_line-ne-NO_REFUSAL
 returns-then-of_line-ne-NO_REFUSAL c =
@@ -18,7 +19,8 @@ returns-then-of_line-ne-NO_REFUSAL c =
 pub returns-then-is_draw : goal.returns-then-is_draw
 returns-then-is_draw c =
     let is_draw_lem = told c.is_draw.ensures c.if-is_draw.true in
-    end (past_line (goal.at.returns-then-is_draw c).Else-of_line-ne-NO_REFUSAL) (rw is_draw_lem c.log_refusal.ensures)
+    end (past_line (goal.at.returns-then-is_draw c).Else-of_line-ne-NO_REFUSAL)
+    (rw is_draw_lem c.log_refusal.ensures)
 
 pub returns : goal.returns
 returns c =

@@ -11,7 +11,8 @@ pub returns-then-first-eq-ZERO : goal.returns-then-first-eq-ZERO
 returns-then-first-eq-ZERO c =
     let first = c.args.first in
     let zero : first ≡ 48 = c.if-first-eq-ZERO.true in
-    c.is_digit.ensures ∙ sym (leading_zero_at _ _ _ c.if-bytes-next.false ∙ rw (eq-eqb first 48 zero))
+    c.is_digit.ensures ∙ sym (leading_zero_at _ _ _ c.if-bytes-next.false ∙ rw
+    (eq-eqb first 48 zero))
 
 pub returns : goal.returns
 returns c =

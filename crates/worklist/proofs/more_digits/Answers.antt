@@ -33,7 +33,14 @@ pub digit_value-requires : goal.digit_value-requires
 digit_value-requires c = sym c.is_digit.ensures ∙ c.if-is_digit.true
 
 pub overflow_add-value : goal.overflow_add-value
-overflow_add-value c = record { fits = omega (arith, value_small (goal.at.overflow_add-value c).Else-more-eq0, c.digit_value.ensures.1) }
+overflow_add-value c = record {
+  fits = omega (
+    arith,
+    value_small
+        (goal.at.overflow_add-value c).Else-more-eq0,
+    c.digit_value.ensures.1,
+  );
+}
 
 pub loop-next-preserved : goal.loop-next-preserved
 loop-next-preserved c =

@@ -6,7 +6,8 @@ use Rattle.worklist.specs.Reading.{Reading}
 use Rattle.worklist.proofs.more_digits.Given as goal
 
 abbrev pub invariant-loop-next : goal.invariant-loop-next
-invariant-loop-next l = Reading l.bytes (more_digits 6 l.first (drop l.start l.bytes)) l.next l.value l.more
+invariant-loop-next l = Reading l.bytes (more_digits 6 l.first (drop l.start l.bytes)) l.next
+    l.value l.more
 
 abbrev pub decreases-loop-next : goal.decreases-loop-next
 decreases-loop-next l = length l.bytes - l.next

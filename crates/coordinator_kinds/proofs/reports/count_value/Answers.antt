@@ -18,8 +18,10 @@ pub overflow_add-memory : goal.overflow_add-memory
 overflow_add-memory c = let room = c.requires c.if-threshold-eq1.true in omega
     arith
 
-pub offset_bounds-memory-place-then-threshold-eq1 : goal.offset_bounds-memory-place-then-threshold-eq1
-offset_bounds-memory-place-then-threshold-eq1 c = let room = c.requires c.if-threshold-eq1.true in search
+pub offset_bounds-memory-place-then-threshold-eq1 :
+    goal.offset_bounds-memory-place-then-threshold-eq1
+offset_bounds-memory-place-then-threshold-eq1 c = let room = c.requires c.if-threshold-eq1.true in
+    search
     rules
 
 pub bounds-memory-place-then-threshold-eq1 : goal.bounds-memory-place-then-threshold-eq1

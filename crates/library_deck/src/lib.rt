@@ -81,7 +81,8 @@ pub fn tracker_deck_message(
 ) -> u32
     ensures { DeckMessageExported (lent settings.now settings.now) deck (lent row.old row.new)
         (lent memory.now memory.now)
-        (lent message.now message.now) (lent reply.old reply.new) (lent count.old count.new) result }
+        (lent message.now message.now) (lent reply.old reply.new)
+        (lent count.old count.new) result }
 {
     let replied = site::receive(
         settings_from(settings),

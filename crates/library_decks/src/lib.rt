@@ -151,7 +151,8 @@ pub fn tracker_decks_message(
 ) -> u32
     ensures { DecksMessageExported (lent settings.now settings.now) (lent decks.old decks.new)
         (lent memory.now memory.now)
-        (lent message.now message.now) (lent reply.old reply.new) (lent count.old count.new) result }
+        (lent message.now message.now) (lent reply.old reply.new)
+        (lent count.old count.new) result }
 {
     let rules = settings_from(settings);
     let received = message_from(message);

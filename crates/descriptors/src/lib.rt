@@ -9,6 +9,10 @@ ghost use Rattle.std.specs.Prelude.{◌≡◌, ◌≤◌, length};
 ghost use Rattle.descriptors.specs.Descriptors.{ReadSomeSays, WriteSomeSays, ReadAllSays, WriteAllSays};
 
 use std::io;
+use std::io::Write;
+
+// More bytes than the message of any error of the system takes.
+const MESSAGE_BYTES: usize = 320;
 
 // What one call came to: whether nothing is missing after it, whether another is to follow, how
 // many bytes it moved, and why it failed, if it did. After a call that failed neither holds.
@@ -156,4 +160,42 @@ pub fn write_all<W: io::Write>(to: &mut W, bytes: &[u8]) -> Written
         whole: whole,
         error: error,
     }
+}
+
+// How many bytes of a message there are, before the zeros.
+fn message_length(message: &[u8]) -> usize
+    ensures { result ≤ length message.now }
+{
+    match message.iter().position(|byte| *byte == 0) {
+        Some(at) => at,
+        None => message.len(),
+    }
+}
+
+// How many bytes of the message of an error of the system are words: all before the last bracket
+// and the space in front of it, where the error's number follows.
+fn words_length(message: &[u8]) -> usize
+    ensures { result ≤ length message.now }
+{
+    match message.iter().rposition(|byte| *byte == b'(') {
+        Some(at) => at.saturating_sub(1),
+        None => message_length(message),
+    }
+}
+
+// Writes a line that says what failed, as the caller names it, and the system's words for why.
+// Where that fails too, nothing more can be said.
+pub fn fail<W: io::Write>(to: &mut W, what: &[u8], error: io::Error) {
+    let mut message = io::Cursor::new([0u8; MESSAGE_BYTES]);
+    let _ = write!(message, "{error}");
+    let text = message.get_ref();
+    let words = if error.raw_os_error().is_some() {
+        words_length(text)
+    } else {
+        message_length(text)
+    };
+    write_all(to, what);
+    write_all(to, b": ");
+    write_all(to, &text[..words]);
+    write_all(to, b"\n");
 }

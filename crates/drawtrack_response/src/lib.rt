@@ -1,7 +1,6 @@
 // The response of the program `drawtrack` to an input: its status and, of a refusal, the reason.
-// `respond` is internal: the program's run (`drawtrack_run`) calls it. It stands, through
-// `drawtrack_serving`, on the kit's os and libc: that what is handed out arrives, and that a
-// failure is noticed, is tested and not proved.
+// `respond` is internal: the program's run (`drawtrack_run`) calls it. That what is handed out
+// arrives, and that a failure is noticed, is tested and not proved.
 
 #![tactic(auto)]
 
@@ -10,6 +9,7 @@ ghost use Rattle.drawtrack_response.specs.Responding.{RespondAsks, RespondSays};
 
 use drawtrack_serving::serve;
 use model::{NO_REFUSAL, Word};
+use std::io::Write;
 
 // What the run answers: results, a refusal, or that reading or writing failed.
 pub const STATUS_RESULTS: u32 = 0;
@@ -29,7 +29,9 @@ pub struct Response {
 // The response to an input, if all of it was read: the session's calls, handed out, and the reason
 // of a refusal in the lent bytes. An input that was not read to its end gives no results: nothing
 // is handed out, and all that was lent is as it was. Internal.
-pub fn respond(
+pub fn respond<W: Write, E: Write>(
+    output: &mut W,
+    failures: &mut E,
     read: bool,
     input: &[u8],
     site_memory: &mut [Word],
@@ -49,7 +51,16 @@ pub fn respond(
         reason.old reason.new result }
 {
     if read {
-        let ended = serve(input, site_memory, coordinator_memory, log, list, out);
+        let ended = serve(
+            output,
+            failures,
+            input,
+            site_memory,
+            coordinator_memory,
+            log,
+            list,
+            out,
+        );
         if ended.taken {
             if ended.refusal == NO_REFUSAL {
                 return Response {

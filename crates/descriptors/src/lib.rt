@@ -5,8 +5,8 @@
 
 #![tactic(auto)]
 
-ghost use Rattle.std.specs.Prelude.{◌≡◌, ◌≤◌, length};
-ghost use Rattle.descriptors.specs.Descriptors.{ReadSomeSays, WriteSomeSays, ReadAllSays, WriteAllSays};
+ghost use Rattle.std.specs.Prelude.{◌≡◌, true, false, ◌≤◌, length};
+ghost use Rattle.descriptors.specs.Descriptors.{ReadSomeSays, ReadSomeGives, WriteSomeSays, WriteSomeGives, ReadAllSays, ReadAllGives, WriteAllSays, WriteAllGives};
 
 use std::io;
 use std::io::Write;
@@ -47,7 +47,8 @@ fn no_error() -> io::Error {
 
 // A call that failed: it is made again if a signal interrupted it.
 fn moved_nothing(error: io::Error) -> Transfer
-    ensures { result.moved ≡ 0 }
+    ensures none { result.moved ≡ 0 }
+    ensures missing { result.whole ≡ false }
 {
     Transfer {
         whole: false,
@@ -59,7 +60,8 @@ fn moved_nothing(error: io::Error) -> Transfer
 
 // A call that moved so many of the bytes that were left.
 fn moved_some(moved: usize, left: usize) -> Transfer
-    ensures { result.moved ≡ moved }
+    ensures count { result.moved ≡ moved }
+    ensures whole { result.whole ≡ true → moved ≡ left }
 {
     Transfer {
         whole: moved == left,
@@ -72,7 +74,8 @@ fn moved_some(moved: usize, left: usize) -> Transfer
 // One read, into the bytes from a place on. An answer of 0 is the end of the input.
 fn read_some<R: io::Read>(from: &mut R, bytes: &mut [u8], at: usize) -> Transfer
     requires { at ≤ length bytes.old }
-    ensures { ReadSomeSays at bytes.old bytes.new result }
+    ensures counts { ReadSomeSays at bytes.old bytes.new result }
+    ensures given { ReadSomeGives (R.remaining from.old) (R.remaining from.new) at bytes.new result }
 {
     let got = from.read(&mut bytes[at..]);
     match got {
@@ -89,7 +92,8 @@ fn read_some<R: io::Read>(from: &mut R, bytes: &mut [u8], at: usize) -> Transfer
 // Reads an input into the lent bytes, until it ends or these are full. A loop that is proved has to
 // end, so the turns are counted down from a number that no run uses up.
 pub fn read_all<R: io::Read>(from: &mut R, bytes: &mut [u8]) -> Read
-    ensures { ReadAllSays bytes.new result }
+    ensures counts { ReadAllSays bytes.new result }
+    ensures given { ReadAllGives (R.remaining from.old) (R.remaining from.new) bytes.new result }
 {
     let mut length: usize = 0;
     let mut whole = false;
@@ -114,7 +118,8 @@ pub fn read_all<R: io::Read>(from: &mut R, bytes: &mut [u8]) -> Read
 // One write, of the bytes from a place on. An answer of 0 is a failure: nothing was taken.
 fn write_some<W: io::Write>(to: &mut W, bytes: &[u8], at: usize) -> Transfer
     requires { at ≤ length bytes.now }
-    ensures { WriteSomeSays at bytes.now result }
+    ensures counts { WriteSomeSays at bytes.now result }
+    ensures taken { WriteSomeGives (W.contents to.old) (W.contents to.new) at bytes.now result }
 {
     let put = to.write(&bytes[at..]);
     match put {
@@ -135,7 +140,8 @@ fn write_some<W: io::Write>(to: &mut W, bytes: &[u8], at: usize) -> Transfer
 
 // Writes the bytes, and answers whether all of them were taken. For none no call is made.
 pub fn write_all<W: io::Write>(to: &mut W, bytes: &[u8]) -> Written
-    ensures { WriteAllSays bytes.now result.whole }
+    ensures counts { WriteAllSays bytes.now result.whole }
+    ensures taken { WriteAllGives (W.contents to.old) (W.contents to.new) bytes.now result.whole }
 {
     if bytes.len() == 0 {
         return Written {

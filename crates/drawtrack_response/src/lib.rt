@@ -1,11 +1,12 @@
 // The response of the program `drawtrack` to an input: its status and, of a refusal, the reason.
-// `respond` is internal: the program's run (`drawtrack_run`) calls it. That what is handed out
-// arrives, and that a failure is noticed, is tested and not proved.
+// `respond` is internal: the program's run (`drawtrack_run`) calls it. Of a writer that tells what it
+// holds, what is handed out is proved; that it arrives at the system's own, and that a failure is
+// noticed, is tested.
 
 #![tactic(auto)]
 
 ghost use Rattle.drawtrack_steps.specs.Outcome.{buffers};
-ghost use Rattle.drawtrack_response.specs.Responding.{RespondAsks, RespondSays};
+ghost use Rattle.drawtrack_response.specs.Responding.{RespondAsks, RespondSays, RespondHands};
 
 use drawtrack_serving::serve;
 use model::{NO_REFUSAL, Word};
@@ -44,11 +45,13 @@ pub fn respond<W: Write, E: Write>(
     requires { RespondAsks input.now (buffers site_memory.old coordinator_memory.old
         log.old
         list.old out.old) reason.old }
-    ensures { RespondSays read input.now
+    ensures says { RespondSays read input.now
         (buffers site_memory.old coordinator_memory.old log.old
         list.old out.old) (buffers site_memory.new
         coordinator_memory.new log.new list.new out.new)
         reason.old reason.new result }
+    ensures handed { RespondHands read input.now (W.contents output.old) (W.contents output.new)
+        result }
 {
     if read {
         let ended = serve(

@@ -4,9 +4,11 @@
 
 #![tactic(auto)]
 
-ghost use Rattle.std.specs.Prelude.{◌≤◌, length};
+ghost use Rattle.std.specs.Prelude.{◌≤◌, length, take};
+ghost use Rattle.descriptors.specs.Descriptors.{WriteAllGives};
 ghost use Rattle.drawtrack_steps.specs.Outcome.{buffers};
 ghost use Rattle.drawtrack_turns.specs.Serving.{ServeAsks, ServeSays};
+ghost use Rattle.drawtrack_serving.specs.Handing.{HandedOut};
 
 use descriptors::{fail, write_all};
 use drawtrack_start::SESSION_INPUT_BYTES;
@@ -23,6 +25,8 @@ fn hand_out<W: Write, E: Write>(
     out: &[u8],
 ) -> bool
     requires { written ≤ length out.now }
+    ensures { WriteAllGives (W.contents output.old) (W.contents output.new) (take written out.now)
+        result }
 {
     let put = write_all(output, &out[..written]);
     if put.whole {
@@ -49,11 +53,12 @@ pub fn serve<W: Write, E: Write>(
     requires { ServeAsks input.now (buffers site_memory.old coordinator_memory.old
         log.old
         list.old out.old) }
-    ensures { ServeSays input.now
+    ensures says { ServeSays input.now
         (buffers site_memory.old coordinator_memory.old log.old
         list.old out.old) (buffers site_memory.new
         coordinator_memory.new log.new list.new out.new)
         result }
+    ensures handed { HandedOut input.now (W.contents output.old) (W.contents output.new) result }
 {
     let first = drawtrack_session::begin(input, site_memory, coordinator_memory, out);
     let mut taken = hand_out(output, failures, first.written, out);

@@ -1,16 +1,16 @@
 // The run of the program `drawtrack`: it reads its input to the end, or as many bytes of it as
 // matter, writes to its output what the calls of a session write, and says where and why the input
 // is refused, or what failed. It and the three below it (`descriptors`, `drawtrack_serving`,
-// `drawtrack_response`) serve any reader and writer of `std`: of the system's own no contract
-// speaks of a byte, only of how many were moved. So what is proved is what the run makes of the
-// bytes that it read: what there is to hand out, the status and the reason. That these bytes come
-// from the input, that what is handed out arrives, and that a failure is noticed, is tested
-// (tests/program): a run whose writes were lost would still be proved.
+// `drawtrack_response`) serve any reader and writer of `std`. Of those that tell their bytes, it is
+// proved that the output gets the transcript of the input. The system's own tell none: that the
+// bytes come from the descriptor, that what is handed out arrives, and that a failure is noticed,
+// is tested (tests/program).
 
 #![tactic(auto)]
 
-ghost use Rattle.descriptors.specs.Descriptors.{ReadAllSays};
-ghost use Rattle.drawtrack_run.specs.Running.{RunSays};
+ghost use Rattle.std.specs.Prelude.{IfSome};
+ghost use Rattle.descriptors.specs.Descriptors.{ReadAllSays, ReadAllGives};
+ghost use Rattle.drawtrack_run.specs.Running.{RunSays, RunGives};
 
 use descriptors::{Read, fail, read_all, write_all};
 use drawtrack_response::respond;
@@ -25,7 +25,8 @@ use std::io::Write;
 
 // Reads the input; where that fails says so to the writer of failures.
 fn take_in<R: io::Read, E: Write>(input: &mut R, failures: &mut E, bytes: &mut [u8]) -> Read
-    ensures { ReadAllSays bytes.new result }
+    ensures counts { ReadAllSays bytes.new result }
+    ensures given { ReadAllGives (R.remaining input.old) (R.remaining input.new) bytes.new result }
 {
     let read = read_all(input, bytes);
     if read.whole {
@@ -43,7 +44,9 @@ pub fn drawtrack_run<R: io::Read, W: Write, E: Write>(
     output: &mut W,
     failures: &mut E,
 ) -> u32
-    ensures { RunSays result }
+    ensures says { RunSays result }
+    ensures gives { IfSome (R.remaining input.old)
+        (λ bytes. RunGives bytes (W.contents output.old) (W.contents output.new) result) }
 {
     let mut bytes = [0u8; SESSION_INPUT_BYTES];
     let mut site_memory: [Word; SESSION_SITE_NUMBERS] = [0; SESSION_SITE_NUMBERS];

@@ -1,7 +1,7 @@
 #!/usr/bin/env bash
 # What `drawtrack` writes and answers where reading or writing fails, is interrupted or comes in
 # pieces: the program with an exit status (library/drawtrack) and the proved one, which has none.
-# First `rt check drawtrack` and library/drawtrack/build.sh. Its last line is 'N passed, M failed'.
+# First examples/run.sh and library/drawtrack/build.sh. Its last line is 'N passed, M failed'.
 # Injected failures want strace; where it is missing or may not trace this says so, and tries what
 # pipes and closed descriptors show.
 set -u

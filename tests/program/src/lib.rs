@@ -77,7 +77,7 @@ pub fn run(program: &Path, input: &[u8]) -> Answer {
         .stdout(Stdio::piped())
         .stderr(Stdio::piped())
         .spawn()
-        .expect("rt check drawtrack and library/drawtrack/build.sh have built the programs");
+        .expect("examples/run.sh and library/drawtrack/build.sh have built the programs");
     let mut stdin = child.stdin.take().expect("its input is a pipe");
     let bytes = input.to_vec();
     // The program reads no more than it needs, so a longer input may meet a closed pipe.

@@ -1,7 +1,7 @@
 /* The program drawtrack with an exit status, and with a file name where one is given.
  *
- * This file is outside the proof: it opens the file, calls the proved run on its descriptor and
- * returns what that answers: 0 after results, 1 after a refusal, 2 where input or output failed. */
+ * This file is outside the proof: it opens the file, calls the run on its descriptor and returns
+ * what that answers: 0 after results, 1 after a refusal, 2 where input or output failed. */
 #include <errno.h>
 #include <fcntl.h>
 #include <stdint.h>
@@ -9,7 +9,7 @@
 #include <string.h>
 #include <unistd.h>
 
-/* crates/drawtrack_run: reads the descriptor to its end, writes to standard output and error. */
+/* run.c: reads the descriptor to its end, writes to standard output and error. */
 uint32_t drawtrack_run(int32_t input);
 
 int main(int count, char **words)

@@ -1,2 +1,3 @@
 -- The responses to an input.
 pub mod RespondLaws
+pub mod HandLaws

@@ -4,13 +4,18 @@
 --   status_failed                2: reading or writing failed
 --   reason_of ending             the bytes for standard error; none after results
 --   RespondAsks, RespondSays     the response to an input
-use Rattle.std.specs.Prelude.{◌≡◌, Bool, true, false, List, [], ℕ, zero, suc, ◌≤◌, length}
+--   RespondHands                 what it hands out, where the writer tells it
+use Rattle.std.specs.Prelude.{◌≡◌, Bool, true, false, List, [], ℕ, zero, suc, ◌≤◌, length, take}
+use Rattle.std.specs.declared.option.Option.{Option}
+use Rattle.std.specs.Io.KnownBytes.{Appends}
 use Rattle.laws.specs.Writing.{written_at}
+use Rattle.model.specs.Transcript.{transcript}
 use Rattle.model.specs.Choice.{if◌then◌else◌, is_zero}
 use Rattle.output_lines.specs.Promises.{Written, written_to, at_start}
 use Rattle.output_reason.specs.Reason.{reason_line, reason_room}
 use Rattle.drawtrack_steps.specs.Outcome.{Buffers}
-use Rattle.drawtrack_course.specs.Ending.{Ending, ending}
+use Rattle.drawtrack_course.specs.Rooms.{input_room}
+use Rattle.drawtrack_course.specs.Ending.{Ending, ending, Front}
 use Rattle.drawtrack_turns.specs.declared.Stopped.{Stopped}
 use Rattle.drawtrack_response.specs.declared.Response.{Response}
 use Rattle.drawtrack_turns.specs.Serving.{ServeAsks, ServeSays}
@@ -57,3 +62,22 @@ pub record RespondSays (read : Bool) (input : List ℕ) (given left : Buffers)
   pub said_fits : answer.said ≤ length after
   pub reason : written_to answer.said after
       ≡ (if answer.failed then at_start before else written_first (reason_of (ending input)) before)
+
+-- What follows what the writer held: nothing of an input that was not read whole, and otherwise the
+-- front of the transcript; where nothing failed, all of it. The transcript and the ending are those
+-- of a longer input too, of which this is the first bytes.
+pub record RespondHands (read : Bool) (input : List ℕ) (old new : Option (List ℕ))
+    (answer : Response) : Type 0 where
+  pub handed : List ℕ
+  pub appends : Appends old new handed
+  pub unread : read ≡ false → handed ≡ []
+  pub front : Front handed (transcript input)
+  pub whole : answer.failed ≡ false → handed ≡ transcript input
+  pub first_bytes : answer.failed ≡ false
+      → (whole : List ℕ)
+      → input ≡ take input_room whole
+      → handed ≡ transcript whole
+  pub first_ending : answer.failed ≡ false
+      → (whole : List ℕ)
+      → input ≡ take input_room whole
+      → ending input ≡ ending whole

@@ -1,46 +1,52 @@
 // The run of the program `drawtrack`: it reads its input to the end, or as many bytes of it as
-// matter, writes to standard output what the calls of a session write, and says on standard error
-// where and why the input is refused, or what failed. It and the three below it (`descriptors`,
-// `drawtrack_serving`, `drawtrack_response`) stand on the kit's io, os and libc: the contracts of
-// the C functions that read and write are assumed, and speak of how many bytes were moved and of no
-// byte. So what is proved is what the run makes of the bytes that it read: what there is to hand
-// out, the status and the reason. That these bytes come from the descriptor, that what is handed
-// out arrives, and that a failure is noticed, is tested (tests/program): a run whose writes were
-// lost would still be proved.
+// matter, writes to its output what the calls of a session write, and says where and why the input
+// is refused, or what failed. It and the three below it (`descriptors`, `drawtrack_serving`,
+// `drawtrack_response`) serve any reader and writer of `std`. Of those that tell their bytes, it is
+// proved that the output gets the transcript of the input. The system's own tell none: that the
+// bytes come from the descriptor, that what is handed out arrives, and that a failure is noticed,
+// is tested (tests/program).
 
 #![tactic(auto)]
 
-ghost use Rattle.descriptors.specs.Descriptors.{ReadAllSays};
-ghost use Rattle.drawtrack_run.specs.Running.{RunSays};
+ghost use Rattle.std.specs.Prelude.{IfSome};
+ghost use Rattle.descriptors.specs.Descriptors.{ReadAllSays, ReadAllGives};
+ghost use Rattle.drawtrack_run.specs.Running.{RunSays, RunGives};
 
-use descriptors::{Read, read_all, write_all};
+use descriptors::{Read, fail, read_all, write_all};
 use drawtrack_response::respond;
 use drawtrack_start::{
     SESSION_COORDINATOR_NUMBERS, SESSION_INPUT_BYTES, SESSION_LIST_PLACES, SESSION_LOG_NUMBERS,
     SESSION_OUT_BYTES, SESSION_SITE_NUMBERS,
 };
-use libc::STDERR_FILENO;
 use model::Word;
 use output_reason::REASON_BYTES;
+use std::io;
+use std::io::Write;
 
-// Reads the input; where that fails says so.
-fn take_in(input: i32, bytes: &mut [u8]) -> Read
-    ensures { ReadAllSays bytes.new result }
+// Reads the input; where that fails says so to the writer of failures.
+fn take_in<R: io::Read, E: Write>(input: &mut R, failures: &mut E, bytes: &mut [u8]) -> Read
+    ensures counts { ReadAllSays bytes.new result }
+    ensures given { ReadAllGives (R.remaining input.old) (R.remaining input.new) bytes.new result }
 {
     let read = read_all(input, bytes);
     if read.whole {
         return read;
     }
-    os::fail(b"drawtrack: input failed");
+    fail(failures, b"drawtrack: input failed", read.error);
     read
 }
 
-// Runs `drawtrack` on a descriptor that is open for reading: the memory for the program's limits,
-// one reading of the input, and the response to it. Answers 0 after results, 1 after a refusal, and
-// 2 where reading or writing failed, which standard error then says.
-#[unsafe(no_mangle)]
-pub extern "C" fn drawtrack_run(input: i32) -> u32
-    ensures { RunSays result }
+// Runs `drawtrack` on an input: the memory for the program's limits, one reading of the input, and
+// the response to it. Answers 0 after results, 1 after a refusal, and 2 where reading or writing
+// failed, which the last writer is then told.
+pub fn drawtrack_run<R: io::Read, W: Write, E: Write>(
+    input: &mut R,
+    output: &mut W,
+    failures: &mut E,
+) -> u32
+    ensures says { RunSays result }
+    ensures gives { IfSome (R.remaining input.old)
+        (λ bytes. RunGives bytes (W.contents output.old) (W.contents output.new) result) }
 {
     let mut bytes = [0u8; SESSION_INPUT_BYTES];
     let mut site_memory: [Word; SESSION_SITE_NUMBERS] = [0; SESSION_SITE_NUMBERS];
@@ -49,9 +55,11 @@ pub extern "C" fn drawtrack_run(input: i32) -> u32
     let mut list = [0u32; SESSION_LIST_PLACES];
     let mut out = [0u8; SESSION_OUT_BYTES];
     let mut reason = [0u8; REASON_BYTES];
-    let read = take_in(input, &mut bytes);
+    let read = take_in(input, failures, &mut bytes);
     let length = read.length;
     let response = respond(
+        output,
+        failures,
         read.whole,
         &bytes[..length],
         &mut site_memory,
@@ -62,6 +70,6 @@ pub extern "C" fn drawtrack_run(input: i32) -> u32
         &mut reason,
     );
     let said = response.said;
-    write_all(STDERR_FILENO, &reason[..said]);
+    write_all(failures, &reason[..said]);
     response.status
 }

@@ -1,28 +1,38 @@
-// The calls of a session, one after the other, and what they write handed out to standard output:
-// the loop of the program's run (`drawtrack_run`). It stands on the kit's os and libc: that what is
-// handed out arrives, and that a failure is noticed, is tested and not proved.
+// The calls of a session, one after the other, and what they write handed out to a writer: the loop
+// of the program's run (`drawtrack_run`). That what is handed out arrives, and that a failure is
+// noticed, is tested and not proved.
 
 #![tactic(auto)]
 
-ghost use Rattle.std.specs.Prelude.{◌≤◌, length};
+ghost use Rattle.std.specs.Prelude.{◌≤◌, length, take};
+ghost use Rattle.descriptors.specs.Descriptors.{WriteAllGives};
 ghost use Rattle.drawtrack_steps.specs.Outcome.{buffers};
 ghost use Rattle.drawtrack_turns.specs.Serving.{ServeAsks, ServeSays};
+ghost use Rattle.drawtrack_serving.specs.Handing.{HandedOut};
 
-use descriptors::write_all;
+use descriptors::{fail, write_all};
 use drawtrack_start::SESSION_INPUT_BYTES;
 use drawtrack_turns::{Stopped, stopped_at};
-use libc::STDOUT_FILENO;
 use model::Word;
+use std::io::Write;
 
-// Writes the bytes that a call wrote to standard output; where that fails says so, and answers
-// false.
-fn hand_out(written: usize, out: &[u8]) -> bool
+// Writes the bytes that a call wrote to the output; where that fails says so to the writer of
+// failures, and answers false.
+fn hand_out<W: Write, E: Write>(
+    output: &mut W,
+    failures: &mut E,
+    written: usize,
+    out: &[u8],
+) -> bool
     requires { written ≤ length out.now }
+    ensures { WriteAllGives (W.contents output.old) (W.contents output.new) (take written out.now)
+        result }
 {
-    if write_all(STDOUT_FILENO, &out[..written]) {
+    let put = write_all(output, &out[..written]);
+    if put.whole {
         return true;
     }
-    os::fail(b"drawtrack: output failed");
+    fail(failures, b"drawtrack: output failed", put.error);
     false
 }
 
@@ -30,7 +40,9 @@ fn hand_out(written: usize, out: &[u8]) -> bool
 // handed out. Each line after which it goes on takes six bytes or more, so it ends long before the
 // turns do. The calls make a course of the session, and their bytes, one after the other, are the
 // transcript of the input; where a write was not taken, its front. Internal.
-pub fn serve(
+pub fn serve<W: Write, E: Write>(
+    output: &mut W,
+    failures: &mut E,
     input: &[u8],
     site_memory: &mut [Word],
     coordinator_memory: &mut [u64],
@@ -41,14 +53,15 @@ pub fn serve(
     requires { ServeAsks input.now (buffers site_memory.old coordinator_memory.old
         log.old
         list.old out.old) }
-    ensures { ServeSays input.now
+    ensures says { ServeSays input.now
         (buffers site_memory.old coordinator_memory.old log.old
         list.old out.old) (buffers site_memory.new
         coordinator_memory.new log.new list.new out.new)
         result }
+    ensures handed { HandedOut input.now (W.contents output.old) (W.contents output.new) result }
 {
     let first = drawtrack_session::begin(input, site_memory, coordinator_memory, out);
-    let mut taken = hand_out(first.written, out);
+    let mut taken = hand_out(output, failures, first.written, out);
     let mut session = first.session;
     let mut turns: usize = 0;
     while taken && session.going && turns < SESSION_INPUT_BYTES {
@@ -61,7 +74,7 @@ pub fn serve(
             list,
             out,
         );
-        taken = hand_out(moved.written, out);
+        taken = hand_out(output, failures, moved.written, out);
         session = moved.session;
         turns += 1;
     }

@@ -3,7 +3,9 @@
 --   line_first, line_later         the line at which a session stopped
 --   begun_within, advanced_within  what a call wrote is in the output
 --   serving_begins, serving_on     the steps of the loop
+--   begins_bytes, on_bytes         the bytes after them
 --   serving_over                   when the turns are over, the session has ended
+--   front_bytes, all_taken         the bytes and the transcript
 --   serves                         the promise
 use mathlib.Core.Path.{◌≡◌, refl, sym, ap, ◌∙◌, subst}
 use mathlib.Core.Bool.{Bool, true, false}
@@ -11,6 +13,7 @@ use mathlib.Core.List.{List, [], ◌++◌}
 use Prim.Native.Nat.{ℕ, zero, suc, ◌+◌, ◌≤◌, ◌<◌}
 use native.Mathlib.Omega.{arith}
 use lib.ListN.{length, take}
+use Rattle.model.specs.Transcript.{transcript}
 use Rattle.worklist_reader.specs.Walk.{last_line}
 use Rattle.drawtrack_steps.specs.declared.Session.{Session}
 use Rattle.drawtrack_steps.specs.declared.Moved.{Moved}
@@ -21,7 +24,7 @@ use Rattle.drawtrack_session.specs.Begin.{BeginSays}
 use Rattle.drawtrack_session.specs.Advance.{AdvanceSays}
 use Rattle.drawtrack_course.specs.Course.{Course, begun, advanced}
 use Rattle.output_reason.specs.Reason.{first_line}
-use Rattle.drawtrack_course.specs.Ending.{Ending, ending_at, ending_line, ending}
+use Rattle.drawtrack_course.specs.Ending.{Ending, ending_at, ending_line, ending, Front}
 use Rattle.drawtrack_course.proofs.Theorem.{session_claims}
 use Rattle.drawtrack_turns.specs.declared.Stopped.{Stopped}
 use Rattle.drawtrack_turns.specs.Serving.{ServeAsks, Situation, situation, begun_with, without_lists, after_begin, situation_of, after_call, after_calls, Serving, stopped_of, AllTaken, ServeSays}
@@ -84,6 +87,12 @@ module _ (input : List ℕ) (given : Buffers) (site_memory coordinator_memory ou
     few_turns = omega arith;
   }
 
+  -- Its bytes are those of the first piece.
+  pub begins_bytes : (lends : ServeAsks input given)
+      → (serving_begins lends).bytes ≡ take answer.written out
+  unfolding serving_begins
+  begins_bytes lends = refl
+
   first_is : first ≡ after_begin input given
   first_is = ap (begun_with given.log given.list) says.is
 
@@ -105,7 +114,12 @@ module _ (input : List ℕ) (given : Buffers) (site_memory coordinator_memory ou
         sym (session_claims.ends_so input turns session left.site_memory
         left.coordinator_memory serving.bytes short serving.course over)
 
-    all_taken : session.going ≡ false
+    pub front_bytes : Front serving.bytes (transcript input)
+    front_bytes =
+        session_claims.begins_transcript input turns session left.site_memory
+        left.coordinator_memory serving.bytes short serving.course
+
+    pub all_taken : session.going ≡ false
         → AllTaken input serving.bytes session (stopped_of true session turns)
     all_taken over = record {
       ended = over;
@@ -141,9 +155,7 @@ module _ (input : List ℕ) (given : Buffers) (site_memory coordinator_memory ou
           left_is =
               serving.now_is ∙ ap (λ (from : Situation). after_calls input from turns) first_is;
           answer_is = refl;
-          front =
-              session_claims.begins_transcript input turns session left.site_memory
-              left.coordinator_memory serving.bytes short serving.course;
+          front = front_bytes;
           whole = λ all.
               subst (λ (done : Bool).
               AllTaken input serving.bytes session (stopped_of done session turns))
@@ -191,6 +203,16 @@ module _ (input : List ℕ) (first : Situation) (session : Session) (given : Buf
             ∙ ap (after_calls input first) one_more;
         few_turns = omega (arith, more);
       }
+
+  -- The piece of the turn follows the bytes so far.
+  pub on_bytes : (left : Buffers) (answer : Moved)
+      → (more : turns < input_room)
+      → (going : session.going ≡ true)
+      → (says : AdvanceSays input session given left answer)
+      → (serving_on left answer more going says).bytes
+      ≡ serving.bytes ++ take answer.written left.out
+  unfolding serving_on
+  on_bytes left answer more going says = refl
 
   pub advanced_within : (left : Buffers) (answer : Moved)
       → AdvanceSays input session given left answer

@@ -1,28 +1,25 @@
--- What was read fits the lent bytes; each turn leaves fewer turns.
-use mathlib.Core.Path.{◌≡◌}
-use Prim.Native.Nat.{◌≤◌}
-use native.Mathlib.Omega.{arith}
-use lib.ListN.{length as count}
-use borrow.Author.Rules.{rules}
-use borrow.Author.Tests.{ltb-true}
+-- What one read took follows what was read before.
+use Rattle.std.proofs.Common.{◌≡◌, ℕ, ◌+◌, List, ◌++◌, take, drop, sym, ap, ◌∙◌, subst, rules}
+use Rattle.std.proofs.KnownBytes.{Consumes-trans}
+use Rattle.std.specs.Io.KnownBytes.{Consumes}
+use lib.Seq.{take-add}
 use Rattle.descriptors.proofs.read_all.Goals as goal
 
-pub overflow_add-length : goal.overflow_add-length
-overflow_add-length c =
-    let first = c.args.bytes.now in
-    let long : count first ≤ 18446744073709551615 = search rules in
-    let same : count c.read_some-transfer.new.bytes ≡ count first = search rules in
-    record { fits = omega (arith, c.read_some-transfer.ensures.fits, same, long) }
+joined : (at moved : ℕ) (before after : List ℕ) → take at after ≡ take at before
+    → take at before ++ take moved (drop at after) ≡ take (at + moved) after
+joined at moved before after front =
+    ap (λ (l : List ℕ). l ++ take moved (drop at after)) (sym front)
+    ∙ sym (take-add at moved after)
 
-pub loop-going-smaller : goal.loop-going-smaller
-loop-going-smaller c =
-    let some = ltb-true 0 c.loop-going.turns c.if-turns-gt0.true in
-    omega (arith, some)
-
-pub shape_of-bytes-else-turns-gt0 : goal.shape_of-bytes-else-turns-gt0
-shape_of-bytes-else-turns-gt0 c =
-    c.loop-going.invariant.1
-
-pub shape_of-bytes-after-loop-going : goal.shape_of-bytes-after-loop-going
-shape_of-bytes-after-loop-going c =
-    c.loop-going.invariant.1
+pub loop-going-preserved : goal.loop-going-preserved
+loop-going-preserved g c =
+    let at = c.loop-going.length in
+    let transfer = c.read_some-transfer in (
+      transfer.ensures.counts.fits,
+      search rules,
+      subst (Consumes _ _)
+          (joined at transfer.result.moved c.loop-going.bytes transfer.new.bytes
+          transfer.ensures.counts.front)
+          (Consumes-trans _ _ _ _ _ c.loop-going.invariant.2 transfer.ensures.given.bytes),
+      transfer.ensures.given.end,
+    )

@@ -1,24 +1,16 @@
--- After the loop there was something to write; each turn leaves fewer turns.
-use mathlib.Core.Path.{refl}
-use native.Mathlib.Omega.{arith}
-use borrow.Author.Tests.{ltb-true}
+-- What one write took follows what was written before; after the last all of it is written.
+use Rattle.std.proofs.Common.{sym, subst}
+use Rattle.std.proofs.KnownBytes.{Appends-trans}
+use Rattle.std.specs.Io.KnownBytes.{Appends}
+use lib.Seq.{take-add}
 use Rattle.descriptors.proofs.write_all.Goals as goal
 
-pub returns-then-bytes-eq0 : goal.returns-then-bytes-eq0
-returns-then-bytes-eq0 c =
-    record { none = λ _. refl }
-
-pub loop-going-smaller : goal.loop-going-smaller
-loop-going-smaller c =
-    let some = ltb-true 0 c.loop-going.turns c.if-turns-gt0.true in
-    omega (arith, some)
-
-pub returns-else-turns-gt0 : goal.returns-else-turns-gt0
-returns-else-turns-gt0 c = record {
-  none = λ zero. absurd (c.if-bytes-eq0.false zero);
-}
-
-pub returns-after-loop-going : goal.returns-after-loop-going
-returns-after-loop-going c = record {
-  none = λ zero. absurd (c.if-bytes-eq0.false zero);
-}
+pub loop-going-preserved : goal.loop-going-preserved
+loop-going-preserved g c =
+    let done = c.loop-going.done in
+    let transfer = c.write_some-transfer in (
+      transfer.ensures.counts.fits,
+      subst (Appends _ _) (sym (take-add done transfer.result.moved c.args.bytes.now))
+          (Appends-trans _ _ _ _ _ c.loop-going.invariant.1 transfer.ensures.taken.added),
+      transfer.ensures.taken.whole,
+    )

@@ -1,0 +1,2 @@
+-- The run in memory.
+pub mod MemoryLaws

@@ -1,0 +1,2 @@
+-- What the run in memory promises to C.
+pub mod Memory

@@ -1,0 +1,2 @@
+-- What is handed out.
+pub mod Handing

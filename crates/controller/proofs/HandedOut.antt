@@ -1,8 +1,9 @@
 -- Laws of a lent number after a call: what an accepted call and a refused one leave there.
+use Rattle.std.specs.Prelude.{if◌then◌else◌}
 use mathlib.Core.Path.{◌≡◌}
 use Prim.Native.Nat.{ℕ}
 use borrow.Author.Tests.{eq-eqb, ne_eqb}
-use Rattle.model.specs.Choice.{if◌then◌else◌, is_zero}
+use Rattle.model.specs.Choice.{is_zero}
 use Rattle.controller.specs.Promises.{handed_out}
 
 -- Accepted: the value, whatever stood there.

@@ -1,8 +1,8 @@
 -- The contracts of the three functions that the bench controller calls from C. Each answers the
 -- refusal; values go out through lent numbers, which a refusal leaves as they were.
-use Rattle.std.specs.Prelude.{◌≡◌, not, List, ℕ}
+use Rattle.std.specs.Prelude.{◌≡◌, not, List, ℕ, if◌then◌else◌}
 use Rattle.model.specs.declared.Settings.{Settings}
-use Rattle.model.specs.Choice.{if◌then◌else◌, is_zero}
+use Rattle.model.specs.Choice.{is_zero}
 use Rattle.model.specs.Refusals.{when, malformed_line}
 use Rattle.model.specs.Settings.{settings_refusal, allowance}
 use Rattle.model.specs.Lines.{read_line}

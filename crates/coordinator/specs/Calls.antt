@@ -4,11 +4,11 @@
 --
 --   start_refusal, receive_refusal, announce_refusal  the chains of tests
 --   StartCoordinatorSays, CoordinatorReceiveSays, AnnounceSays                      the promises
-use Rattle.std.specs.Prelude.{◌≡◌, Bool, List, ℕ, ltb, length, get_or}
+use Rattle.std.specs.Prelude.{◌≡◌, Bool, List, ℕ, ltb, length, get_or, if◌then◌else◌}
 use Rattle.model.specs.declared.Settings.{Settings}
 use Rattle.model.specs.declared.Message.{Message}
 use Rattle.model.specs.declared.CoordinatorRecord.{CoordinatorRecord}
-use Rattle.model.specs.Choice.{if◌then◌else◌, is_zero}
+use Rattle.model.specs.Choice.{is_zero}
 use Rattle.model.specs.Refusals.{when, ◌or_else◌, no_refusal, memory_too_short}
 use Rattle.model.specs.Settings.{settings_refusal}
 use Rattle.model.specs.Messages.{no_message}

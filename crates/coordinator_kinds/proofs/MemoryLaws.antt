@@ -4,6 +4,7 @@
 --   memory_kept, memory_item, memory_value   the memory after a step, as the code writes it
 --   estimates_long, histogram_long           the size of what is read
 --   written_coordinator                      reading back what was written
+use Rattle.std.specs.Prelude.{if◌then◌else◌}
 use mathlib.Core.Path.{◌≡◌, refl, sym}
 use mathlib.Core.Bool.{Bool, true, false}
 use mathlib.Core.List.{List}
@@ -17,7 +18,6 @@ use Rattle.laws.proofs.Overwrite.{overwritten_kept, overwritten_set_first, overw
 use Rattle.model.specs.declared.Settings.{Settings}
 use Rattle.model.specs.declared.Message.{Message}
 use Rattle.model.specs.declared.CoordinatorRecord.{CoordinatorRecord}
-use Rattle.model.specs.Choice.{if◌then◌else◌}
 use Rattle.model.specs.Limits.{value_count}
 use Rattle.model.specs.Site.{one_more_at}
 use Rattle.model.specs.Coordinator.{Coordinator, takes_item_report, takes_count_report}

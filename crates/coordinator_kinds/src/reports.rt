@@ -1,8 +1,7 @@
 // Kinds 1 and 2, at a coordinator that is idle: the reports of an item and of a count. They touch
 // one number of the memory at most. The functions are internal: `receive_step` alone calls them,
 // and what they require follows from what it requires, which the tests of `receive` decide.
-ghost use Rattle.std.specs.Prelude.{◌≡◌, ◌+◌, eqb};
-ghost use Rattle.model.specs.Choice.{if◌then◌else◌};
+ghost use Rattle.std.specs.Prelude.{◌≡◌, ◌+◌, eqb, if◌then◌else◌};
 ghost use Rattle.model.specs.Site.{one_more_at};
 ghost use Rattle.model.specs.Coordinator.{takes_item_report, takes_count_report};
 ghost use Rattle.model.specs.CoordinatorMemory.{coordinator_in};

@@ -4,6 +4,7 @@
 --   Counting, counting_yes, counting_no, counting_end       the walk that counts
 --   Fitting, fitting_yes, fitting_no, fits_all, fits_not, fits_end   up to a number of places
 --   listed_few                     no more items are listed than there are
+use Rattle.std.specs.Prelude.{if◌then◌else◌}
 use mathlib.Core.Path.{◌≡◌, ap, sym, ◌∙◌}
 use mathlib.Core.Bool.{Bool, true, false}
 use mathlib.Core.List.{List, [], ◌∷◌, ◌++◌, append_assoc, append-nil}
@@ -14,7 +15,6 @@ use lib.ListN.{length, length-append}
 use lib.Dec.{leb}
 use borrow.Author.Tests.{le-leb, lt-leb}
 use Rattle.model.specs.declared.Settings.{Settings}
-use Rattle.model.specs.Choice.{if◌then◌else◌}
 use Rattle.model.specs.Coordinator.{Coordinator}
 use Rattle.model.specs.Reading.{is_listed, listed_from, heavy_hitters}
 

@@ -6,11 +6,11 @@
 --   MarginSays, QuantileSays        the promises
 --   ReadAsks, SidesAsk, ValuesAsk     what is asked inside: a coordinator that passed its tests
 --   side_needed                       what an item's number has to reach
-use Rattle.std.specs.Prelude.{◌≡◌, true, List, pos, ℕ, ◌-◌, ◌*◌, ◌≤◌, leb, length, get_or}
+use Rattle.std.specs.Prelude.{◌≡◌, true, List, pos, ℕ, ◌-◌, ◌*◌, ◌≤◌, leb, length, get_or, if◌then◌else◌}
 use Rattle.model.specs.declared.Settings.{Settings}
 use Rattle.model.specs.declared.CoordinatorRecord.{CoordinatorRecord}
 use Rattle.model.specs.declared.Quantile.TheVariants.{Nothing}
-use Rattle.model.specs.Choice.{if◌then◌else◌, is_zero}
+use Rattle.model.specs.Choice.{is_zero}
 use Rattle.model.specs.Refusals.{when, ◌or_else◌, no_refusal, unknown_item}
 use Rattle.model.specs.Limits.{value_count, coordinator_limit}
 use Rattle.model.specs.Settings.{settings_refusal}

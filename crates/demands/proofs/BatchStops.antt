@@ -4,6 +4,7 @@
 --   StopsAt, stops_at         of a batch that goes on
 --   BatchStops, batch_stops   of a whole batch
 --   not_of_arrival            a batch refused when it starts is refused by none of these
+use Rattle.std.specs.Prelude.{if◌then◌else◌}
 use mathlib.Core.Path.{◌≡◌, refl, sym, ap, ◌∙◌}
 use mathlib.Core.Bool.{Bool, true, false, false≢true, not}
 use mathlib.Core.List.{List, [], ◌∷◌}
@@ -14,7 +15,7 @@ use lib.ListN.{length, take}
 use borrow.Author.Tests.{eqb-true, eqb-false}
 use Rattle.model.specs.declared.Settings.{Settings}
 use Rattle.model.specs.declared.Arrival.{Arrival}
-use Rattle.model.specs.Choice.{if◌then◌else◌, is_zero}
+use Rattle.model.specs.Choice.{is_zero}
 use Rattle.model.specs.Refusals.{when, ◌or_else◌, no_refusal, log_too_short, memory_too_short, memory_inconsistent}
 use Rattle.model.specs.Limits.{most_messages}
 use Rattle.model.specs.Settings.{settings_refusal}

@@ -2,6 +2,7 @@
 -- keeps none out unless it is refused. From the contracts alone, of every state.
 --
 --   nothing_lost     the claim
+use Rattle.std.specs.Prelude.{if◌then◌else◌}
 use mathlib.Core.Path.{◌≡◌, refl, sym, ap, ◌∙◌}
 use mathlib.Core.Bool.{Bool, true, false}
 use mathlib.Core.List.{[]}
@@ -10,7 +11,7 @@ use lib.ListN.{length, drop, take-append-drop}
 use lib.Seq.{drop-length}
 use borrow.Author.Tests.{eqb-true, eqb-false}
 use Rattle.model.specs.declared.Settings.{Settings}
-use Rattle.model.specs.Choice.{if◌then◌else◌, is_zero}
+use Rattle.model.specs.Choice.{is_zero}
 use Rattle.model.specs.Refusals.{no_refusal}
 use Rattle.model.specs.Held.{network_of}
 use Rattle.tracker.specs.Batch.{BatchCall, BatchHeld, BatchSays, start_refusal, log_room}

@@ -10,10 +10,10 @@
 --   given_in, kept_out_in history   the same over a whole history, in order
 --   AsGiven settings given state    what the rules say of the draws given
 --   NothingLost step                no draw that a call was handed is left out of both
-use Rattle.std.specs.Prelude.{◌≡◌, Bool, ◌&&◌, ◌||◌, List, [], ◌∷◌, ◌++◌, ℕ, suc, eqb, ltb, leb, take, drop}
+use Rattle.std.specs.Prelude.{◌≡◌, Bool, ◌&&◌, ◌||◌, List, [], ◌∷◌, ◌++◌, ℕ, suc, eqb, ltb, leb, take, drop, if◌then◌else◌}
 use Rattle.model.specs.declared.Settings.{Settings}
 use Rattle.model.specs.declared.Arrival.{Arrival}
-use Rattle.model.specs.Choice.{if◌then◌else◌, between, is_zero}
+use Rattle.model.specs.Choice.{between, is_zero}
 use Rattle.model.specs.Refusals.{no_refusal, unknown_site, site_full}
 use Rattle.model.specs.Runs.{run_of}
 use Rattle.tracker_steps.specs.Steps.{BatchHeld}

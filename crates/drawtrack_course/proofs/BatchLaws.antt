@@ -2,6 +2,7 @@
 --
 --   one_refusal, one_taken       with a log long enough: refused as the rules say, or taken
 --   left_of, says_of              what the batch call answers and leaves, by its contract
+use Rattle.std.specs.Prelude.{if◌then◌else◌}
 use mathlib.Core.Path.{◌≡◌, refl, sym, ap, ◌∙◌}
 use mathlib.Core.Bool.{Bool, true, false}
 use mathlib.Core.List.{[], ◌∷◌}
@@ -11,7 +12,7 @@ use lib.ListN.{length}
 use borrow.Author.Tests.{eqb-true, le-ltb}
 use Rattle.model.specs.declared.Settings.{Settings}
 use Rattle.model.specs.declared.Arrival.{Arrival}
-use Rattle.model.specs.Choice.{if◌then◌else◌, is_zero}
+use Rattle.model.specs.Choice.{is_zero}
 use Rattle.model.specs.Refusals.{◌or_else◌, no_refusal}
 use Rattle.model.specs.Draws.{is_draw}
 use Rattle.model.specs.Limits.{most_messages}

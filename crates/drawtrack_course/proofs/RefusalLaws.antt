@@ -3,6 +3,7 @@
 --   the laws -small                      the numbers that end a session
 --   malformed_refusal                    a line that is no draw and refused is malformed
 --   refused_line_lem                     the line stands in the output
+use Rattle.std.specs.Prelude.{if◌then◌else◌}
 use mathlib.Core.Path.{◌≡◌, refl, sym}
 use mathlib.Core.Bool.{Bool, true, false, not, false≢true}
 use mathlib.Core.List.{List}
@@ -13,7 +14,7 @@ use lib.ListN.{length, take, drop}
 use borrow.Author.Tests.{eqb-true}
 use Rattle.model.specs.declared.Settings.{Settings}
 use Rattle.model.specs.declared.Arrival.{Arrival}
-use Rattle.model.specs.Choice.{if◌then◌else◌, is_zero}
+use Rattle.model.specs.Choice.{is_zero}
 use Rattle.model.specs.Refusals.{when, ◌or_else◌, malformed_line}
 use Rattle.model.specs.Limits.{top_value, site_limit}
 use Rattle.model.specs.Settings.{in_range, settings_refusal}

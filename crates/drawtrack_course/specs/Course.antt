@@ -9,10 +9,10 @@
 --   Course input n session site_memory coordinator_memory bytes
 --                                    after `begin` and n calls of `advance`, with the session and
 --                                    the memory as they left them and the bytes written so far
-use Rattle.std.specs.Prelude.{◌≡◌, Bool, true, ◌&&◌, List, [], ◌∷◌, ◌++◌, ℕ, suc, ◌≤◌, length, take, drop}
+use Rattle.std.specs.Prelude.{◌≡◌, Bool, true, ◌&&◌, List, [], ◌∷◌, ◌++◌, ℕ, suc, ◌≤◌, length, take, drop, if◌then◌else◌}
 use Rattle.model.specs.declared.Settings.{Settings}
 use Rattle.model.specs.declared.Arrival.{Arrival}
-use Rattle.model.specs.Choice.{if◌then◌else◌, is_zero}
+use Rattle.model.specs.Choice.{is_zero}
 use Rattle.model.specs.Refusals.{◌or_else◌, no_refusal}
 use Rattle.model.specs.Limits.{most_sites}
 use Rattle.model.specs.Settings.{settings_refusal}
@@ -103,8 +103,8 @@ draw_piece settings run arrival =
 abbrev pub line_piece : Settings → Run → Step → List ℕ
 line_piece settings run step =
     if step.found then draw_piece settings run step.arrival
-    else if is_zero step.refusal then result_lines settings run
-    else refused_line step.refusal
+    else (if is_zero step.refusal then result_lines settings run
+    else refused_line step.refusal)
 
 -- Why a line ends the session: the refusal of its draw or touch, or 13; 0 at the end.
 abbrev pub end_refusal : Settings → Run → Step → ℕ

@@ -5,12 +5,12 @@
 --   reason_of ending             the bytes for standard error; none after results
 --   RespondAsks, RespondSays     the response to an input
 --   RespondHands                 what it hands out, where the writer tells it
-use Rattle.std.specs.Prelude.{◌≡◌, Bool, true, false, List, [], ℕ, zero, suc, ◌≤◌, length, take}
+use Rattle.std.specs.Prelude.{◌≡◌, Bool, true, false, List, [], ℕ, zero, suc, ◌≤◌, length, take, if◌then◌else◌}
 use Rattle.std.specs.declared.option.Option.{Option}
 use Rattle.std.specs.Io.KnownBytes.{Appends}
 use Rattle.laws.specs.Writing.{written_at}
 use Rattle.model.specs.Transcript.{transcript}
-use Rattle.model.specs.Choice.{if◌then◌else◌, is_zero}
+use Rattle.model.specs.Choice.{is_zero}
 use Rattle.output_lines.specs.Promises.{Written, written_to, at_start}
 use Rattle.output_reason.specs.Reason.{reason_line, reason_room}
 use Rattle.drawtrack_steps.specs.Outcome.{Buffers}

@@ -2,8 +2,8 @@
 -- "Worklist").
 --
 --   AdvanceSays                      the promise
-use Rattle.std.specs.Prelude.{◌≡◌, true, List, ℕ}
-use Rattle.model.specs.Choice.{if◌then◌else◌, is_zero}
+use Rattle.std.specs.Prelude.{◌≡◌, true, List, ℕ, if◌then◌else◌}
+use Rattle.model.specs.Choice.{is_zero}
 use Rattle.model.specs.Refusals.{no_refusal}
 use Rattle.worklist_reader.specs.declared.Step.{Step}
 use Rattle.worklist_reader.specs.Walk.{step_at}
@@ -19,8 +19,8 @@ use Rattle.drawtrack_steps.specs.Steps.{draw_call, draw_refusal, draw_of, result
 abbrev pub line_of : Session → Step → Buffers → Outcome
 line_of session step given =
     if step.found then draw_of session step given
-    else if is_zero step.refusal then results_of session given
-    else refused_of session step.refusal given
+    else (if is_zero step.refusal then results_of session given
+    else refused_of session step.refusal given)
 
 -- ---- The promise
 

@@ -5,9 +5,9 @@
 --   first_session input found        where the session stands then
 --   begin_of input given             the outcome of `begin`
 --   BeginSays                        the promise
-use Rattle.std.specs.Prelude.{◌≡◌, true, List, ℕ, ◌-◌, length}
+use Rattle.std.specs.Prelude.{◌≡◌, true, List, ℕ, ◌-◌, length, if◌then◌else◌}
 use Rattle.model.specs.declared.Settings.{Settings}
-use Rattle.model.specs.Choice.{if◌then◌else◌, is_zero}
+use Rattle.model.specs.Choice.{is_zero}
 use Rattle.model.specs.Refusals.{no_refusal}
 use Rattle.model.specs.Coordinator.{fresh_coordinator}
 use Rattle.model.specs.CoordinatorMemory.{coordinator_record, coordinator_memory}

@@ -4,9 +4,8 @@
 --   shorter_than_limits ..           whether memory is too short for the program's limits
 --   start_refusal_of ..              13; 1, 2, 3; 4
 --   start_line settings refusal      which line of the input is refused
-use Rattle.std.specs.Prelude.{Bool, not, ◌&&◌, ◌||◌, ℕ, eqb, ltb}
+use Rattle.std.specs.Prelude.{Bool, not, ◌&&◌, ◌||◌, ℕ, eqb, ltb, if◌then◌else◌}
 use Rattle.model.specs.declared.Settings.{Settings}
-use Rattle.model.specs.Choice.{if◌then◌else◌}
 use Rattle.model.specs.Refusals.{when, ◌or_else◌, no_refusal, memory_too_short}
 use Rattle.model.specs.Settings.{settings_refusal}
 use Rattle.model.specs.Transcript.{beyond_program}

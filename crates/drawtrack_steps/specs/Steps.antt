@@ -4,8 +4,8 @@
 --   draw_of session step given       the outcome of a line's draw
 --   results_of session given         the outcome at the end of the worklist
 --   DrawSays, FinishSays               the promises
-use Rattle.std.specs.Prelude.{◌≡◌, true, List, [], ◌∷◌, ◌++◌, ℕ, ◌*◌, ◌≤◌, length}
-use Rattle.model.specs.Choice.{if◌then◌else◌, is_zero}
+use Rattle.std.specs.Prelude.{◌≡◌, true, List, [], ◌∷◌, ◌++◌, ℕ, ◌*◌, ◌≤◌, length, if◌then◌else◌}
+use Rattle.model.specs.Choice.{is_zero}
 use Rattle.model.specs.Refusals.{no_refusal}
 use Rattle.model.specs.SiteMemory.{overwrite}
 use Rattle.model.specs.Coordinator.{Coordinator}

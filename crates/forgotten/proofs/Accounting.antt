@@ -4,6 +4,7 @@
 --   one_more          S7 at a sound site, arisen or not, with what it has forgotten
 --   Moves, moves      what an arrival with full delivery adds at any site
 --   RunAccounted, accounted_run   after every list of arrivals
+use Rattle.std.specs.Prelude.{if◌then◌else◌}
 use mathlib.Core.Path.{◌≡◌, refl, sym, ap, ◌∙◌, subst}
 use mathlib.Core.List.{List, [], ◌∷◌, ◌++◌}
 use Prim.Native.Nat.{ℕ, ◌+◌, ◌≤◌, ◌<◌}
@@ -18,7 +19,6 @@ use Rattle.model.specs.declared.Arrival.{Arrival}
 use Rattle.model.specs.declared.Message.{Message}
 use Rattle.model.specs.declared.Leaving.{Leaving}
 use Rattle.model.specs.declared.Leaving.TheVariants.{Nobody, Left}
-use Rattle.model.specs.Choice.{if◌then◌else◌}
 use Rattle.model.specs.Refusals.{no_refusal}
 use Rattle.model.specs.Settings.{settings_refusal}
 use Rattle.model.specs.Counters.{unreported_in, gone_with}

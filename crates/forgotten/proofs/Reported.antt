@@ -5,6 +5,7 @@
 --   received_none, told_none, asked_none   no call that takes or asks for a message sends one
 --   steps_report          any steps of a delivery; arrival-reports a whole one
 --   observed_reports      what an arrival sends
+use Rattle.std.specs.Prelude.{if◌then◌else◌}
 use mathlib.Core.Path.{◌≡◌, refl, ap, ◌∙◌}
 use mathlib.Core.Bool.{Bool, true, false}
 use mathlib.Core.List.{List, [], ◌∷◌, ◌++◌}
@@ -16,7 +17,6 @@ use Rattle.model.specs.declared.Arrival.{Arrival}
 use Rattle.model.specs.declared.Message.{Message}
 use Rattle.model.specs.declared.Phase.{Phase}
 use Rattle.model.specs.declared.Phase.TheVariants.{Idle, Collecting, Probing, Announcing}
-use Rattle.model.specs.Choice.{if◌then◌else◌}
 use Rattle.model.specs.Settings.{threshold_of}
 use Rattle.model.specs.Messages.{to_coordinator, is_item_report, is_poll, is_probe, item_report, count_report}
 use Rattle.model.specs.Site.{Site, SiteStep, reports_item, reports_count, reported_value, observed, site_receives}

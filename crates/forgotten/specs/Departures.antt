@@ -10,14 +10,13 @@
 --   count_at which arrivals        how many arrivals name a site
 --   Accounted ..                   every draw of a site is reported, unreported or forgotten
 --   DroppedClaims                  what is claimed of one arrival, of messages and of all runs
-use Rattle.std.specs.Prelude.{◌≡◌, ◌&&◌, List, [], ◌∷◌, ◌++◌, ℕ, ◌+◌, ◌<◌, eqb}
+use Rattle.std.specs.Prelude.{◌≡◌, ◌&&◌, List, [], ◌∷◌, ◌++◌, ℕ, ◌+◌, ◌<◌, eqb, if◌then◌else◌}
 use Rattle.model.specs.declared.Settings.{Settings}
 use Rattle.model.specs.declared.Arrival.{Arrival}
 use Rattle.model.specs.declared.Message.{Message}
 use Rattle.model.specs.declared.Leaving.{Leaving}
 use Rattle.model.specs.declared.Leaving.TheVariants.{Nobody, Left}
 use Rattle.model.specs.declared.SiteRecord.{SiteRecord}
-use Rattle.model.specs.Choice.{if◌then◌else◌}
 use Rattle.model.specs.Refusals.{no_refusal}
 use Rattle.model.specs.Settings.{settings_refusal}
 use Rattle.model.specs.Messages.{is_item_report}

@@ -5,6 +5,7 @@
 --   or_accepted                       a chain's last row may be left out
 --   accepted_long                     memory that a call on a site accepts is long enough
 --   words_enough                      and so is a part of so many numbers
+use Rattle.std.specs.Prelude.{if◌then◌else◌}
 use mathlib.Core.Path.{◌≡◌, refl}
 use mathlib.Core.Bool.{Bool, true, false}
 use mathlib.Core.List.{List}
@@ -14,7 +15,7 @@ use lib.ListN.{length, take, length-take}
 use borrow.Author.Tests.{eq-eqb, ne_eqb}
 use Rattle.model.specs.declared.Settings.{Settings}
 use Rattle.model.specs.declared.SiteRecord.{SiteRecord}
-use Rattle.model.specs.Choice.{if◌then◌else◌, is_zero}
+use Rattle.model.specs.Choice.{is_zero}
 use Rattle.model.specs.Refusals.{no_refusal, ◌or_else◌}
 use Rattle.model.specs.SiteMemory.{site_words, site_memory_refusal}
 use Rattle.model.proofs.Thresholds.TestedMemory.{site_tested}

@@ -4,6 +4,7 @@
 --   length_coordinator_memory     writing a coordinator keeps the length
 --   network_coordinator_written   the coordinator's record and memory put back
 --   network_announced             its record alone put back, after an announcement
+use Rattle.std.specs.Prelude.{if◌then◌else◌}
 use mathlib.Core.Path.{◌≡◌, refl, ap}
 use mathlib.Core.Bool.{Bool, true, false}
 use mathlib.Core.List.{List, ◌++◌}
@@ -14,7 +15,6 @@ use lib.ListN.{length, length-append}
 use Rattle.model.specs.declared.Settings.{Settings}
 use Rattle.model.specs.declared.Phase.{Phase}
 use Rattle.model.specs.declared.Phase.TheVariants.{Idle, Collecting, Probing, Announcing}
-use Rattle.model.specs.Choice.{if◌then◌else◌}
 use Rattle.model.specs.Limits.{value_count}
 use Rattle.model.specs.Coordinator.{Coordinator, with_phase, at_rest, announced_in, announced}
 use Rattle.model.specs.CoordinatorMemory.{coordinator_words, coordinator_in, coordinator_record, coordinator_memory}

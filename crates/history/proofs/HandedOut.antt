@@ -4,6 +4,7 @@
 --   one_out, two_out           a count and one place, or two: the list that they hold
 --   received_few, answered_few, observed_few, announced_few   how many messages a step hands out
 --   messages_in_written        a log's messages are those that were written
+use Rattle.std.specs.Prelude.{if◌then◌else◌}
 use mathlib.Core.Path.{◌≡◌, refl, ap}
 use mathlib.Core.Bool.{Bool, true, false}
 use mathlib.Core.List.{List, [], ◌∷◌, ◌++◌}
@@ -16,7 +17,6 @@ use Rattle.model.specs.declared.Arrival.{Arrival}
 use Rattle.model.specs.declared.Message.{Message}
 use Rattle.model.specs.declared.Phase.{Phase}
 use Rattle.model.specs.declared.Phase.TheVariants.{Idle, Collecting, Probing, Announcing}
-use Rattle.model.specs.Choice.{if◌then◌else◌}
 use Rattle.model.specs.Settings.{threshold_of}
 use Rattle.model.specs.Messages.{is_poll, is_probe, is_item_report, item_report, count_report}
 use Rattle.model.specs.Site.{Site, SiteStep, reports_item, reports_count, reported_value, observed, site_receives}

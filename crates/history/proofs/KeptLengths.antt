@@ -2,6 +2,7 @@
 -- are: of any kind, in any phase, whatever the coordinator.
 --
 --   SameLengths, length_received
+use Rattle.std.specs.Prelude.{if◌then◌else◌}
 use mathlib.Core.Path.{◌≡◌, refl, ap}
 use mathlib.Core.Bool.{Bool, true, false}
 use mathlib.Core.List.{List}
@@ -12,7 +13,6 @@ use Rattle.model.specs.declared.Settings.{Settings}
 use Rattle.model.specs.declared.Message.{Message}
 use Rattle.model.specs.declared.Phase.{Phase}
 use Rattle.model.specs.declared.Phase.TheVariants.{Idle, Collecting, Probing, Announcing}
-use Rattle.model.specs.Choice.{if◌then◌else◌}
 use Rattle.model.specs.Settings.{threshold_of}
 use Rattle.model.specs.Messages.{is_item_report}
 use Rattle.model.specs.Site.{one_more_at}

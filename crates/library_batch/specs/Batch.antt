@@ -8,9 +8,9 @@
 --   CloseRowsSays                   what the tracker answers is handed back
 --   call_of opening ..               the tracker's call on an opening
 --   RunExported                     the promise
-use Rattle.std.specs.Prelude.{◌≡◌, List, [], ◌∷◌, ℕ}
+use Rattle.std.specs.Prelude.{◌≡◌, List, [], ◌∷◌, ℕ, if◌then◌else◌}
 use Rattle.model.specs.declared.Arrival.{Arrival}
-use Rattle.model.specs.Choice.{if◌then◌else◌, is_zero}
+use Rattle.model.specs.Choice.{is_zero}
 use Rattle.model.specs.Held.{held_by}
 use Rattle.record_numbers.specs.Numbers.{settings_from, sites_from, sites_numbers, coordinator_read, coordinator_numbers}
 use Rattle.library_rows.specs.Rows.{Row}

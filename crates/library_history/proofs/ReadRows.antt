@@ -4,13 +4,14 @@
 --   read_decks_long, read_desk_long    they are then as long as C has them
 --   unread_decks, unread_desk, reading_left    where it is refused, all is as it was
 --   whole_long, written_whole          lent a front of a memory that is long enough
+use Rattle.std.specs.Prelude.{if◌then◌else◌}
 use mathlib.Core.Path.{◌≡◌, sym, ap, ◌∙◌}
 use mathlib.Core.List.{List, []}
 use Prim.Native.Nat.{ℕ, ◌≤◌}
 use native.Mathlib.Omega.{arith}
 use lib.ListN.{length, take, length-take}
 use Rattle.model.specs.Refusals.{no_refusal}
-use Rattle.model.specs.Choice.{if◌then◌else◌, is_zero}
+use Rattle.model.specs.Choice.{is_zero}
 use Rattle.model.specs.SiteMemory.{overwrite}
 use Rattle.record_numbers.specs.Numbers.{sites_width, settings_from, sites_from, sites_numbers, coordinator_read, coordinator_numbers}
 use Rattle.record_numbers.proofs.Inverse.{settings_back}

@@ -2,9 +2,9 @@
 --
 --   lengths_of settings    one deck's memory, all decks', the desk's; a list; a log for one draw
 --   LengthsExported        the promise of the call
-use Rattle.std.specs.Prelude.{◌≡◌, List, [], ◌∷◌, ℕ, ◌*◌}
+use Rattle.std.specs.Prelude.{◌≡◌, List, [], ◌∷◌, ℕ, ◌*◌, if◌then◌else◌}
 use Rattle.model.specs.declared.Settings.{Settings}
-use Rattle.model.specs.Choice.{if◌then◌else◌, is_zero}
+use Rattle.model.specs.Choice.{is_zero}
 use Rattle.model.specs.Limits.{most_messages}
 use Rattle.model.specs.Messages.{message_width}
 use Rattle.model.specs.Settings.{settings_refusal}

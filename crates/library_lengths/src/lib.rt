@@ -48,10 +48,7 @@ fn lengths_of(settings: Settings) -> [u64; LENGTHS]
 }
 
 // The lengths of all that is lent go to `lengths`, or the refusal of the settings.
-pub fn tracker_test_lengths(
-    settings: &[u32; SETTINGS_NUMBERS],
-    lengths: &mut [u64; LENGTHS],
-) -> u32
+pub fn tracker_test_lengths(settings: &[u32; SETTINGS_NUMBERS], lengths: &mut [u64; LENGTHS]) -> u32
     ensures { LengthsExported settings.now lengths.old lengths.new result }
 {
     let rules = settings_from(settings);

@@ -5,9 +5,9 @@
 --   Row, Number               a lent row, or lent memory; a lent number
 --   handed_out refusal x y    x where nothing is refused, else y
 --   HandMessageSays, HandMessagesSays     the messages that a call hands out
-use Rattle.std.specs.Prelude.{◌≡◌, List, ◌++◌, ℕ}
+use Rattle.std.specs.Prelude.{◌≡◌, List, ◌++◌, ℕ, if◌then◌else◌}
 use Rattle.model.specs.declared.Message.{Message}
-use Rattle.model.specs.Choice.{if◌then◌else◌, is_zero}
+use Rattle.model.specs.Choice.{is_zero}
 use Rattle.record_numbers.specs.Numbers.{message_numbers}
 
 pub record Lent (A : Type 0) : Type 0 where

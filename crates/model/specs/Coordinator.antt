@@ -5,12 +5,12 @@
 --   coordinator_receives settings c m   the coordinator and its message after a message
 --   announced settings c                the coordinator and the next kind 7; itself and none unless
 --                                       it is announcing
-use Rattle.std.specs.Prelude.{Bool, true, false, ◌&&◌, ◌||◌, not, List, [], ◌∷◌, ℕ, ◌+◌, ◌*◌, ◌/◌, eqb, ltb, leb, get_or, set, replicate}
+use Rattle.std.specs.Prelude.{Bool, true, false, ◌&&◌, ◌||◌, not, List, [], ◌∷◌, ℕ, ◌+◌, ◌*◌, ◌/◌, eqb, ltb, leb, get_or, set, replicate, if◌then◌else◌}
 use Rattle.model.specs.declared.Settings.{Settings}
 use Rattle.model.specs.declared.Message.{Message}
 use Rattle.model.specs.declared.Phase.{Phase}
 use Rattle.model.specs.declared.Phase.TheVariants.{Idle, Collecting, Probing, Announcing}
-use Rattle.model.specs.Choice.{if◌then◌else◌, is_zero}
+use Rattle.model.specs.Choice.{is_zero}
 use Rattle.model.specs.Refusals.{when, ◌or_else◌, no_refusal, unknown_site, unknown_item, value_too_large, message_not_due, amount_not_due}
 use Rattle.model.specs.Limits.{top_value, value_count, site_limit}
 use Rattle.model.specs.Settings.{threshold_of}

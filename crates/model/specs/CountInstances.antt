@@ -6,11 +6,10 @@
 --   kinds_naming j messages  the kinds of the messages that name site j, in order
 --   refusal_with counts     4 and 11 of a fresh network of two sites with these counts
 --   CountInstances          the table
-use Rattle.std.specs.Prelude.{◌≡◌, List, [], ◌∷◌, ◌++◌, ℕ, eqb, replicate}
+use Rattle.std.specs.Prelude.{◌≡◌, List, [], ◌∷◌, ◌++◌, ℕ, eqb, replicate, if◌then◌else◌}
 use Rattle.model.specs.declared.Arrival.{Arrival}
 use Rattle.model.specs.declared.Message.{Message}
 use Rattle.model.specs.declared.Sites.{Sites}
-use Rattle.model.specs.Choice.{if◌then◌else◌}
 use Rattle.model.specs.NetworkMemory.{fresh_sites, network_refusal}
 use Rattle.model.specs.MessageCounts.{none_counted, counted_up, naming, total_count}
 use Rattle.model.specs.Runs.{run_of}

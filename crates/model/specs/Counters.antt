@@ -7,10 +7,9 @@
 --   leaving_by placement counters        which item leaves, and its unreported arrivals
 --   dropped_by placement counters        those alone: what goes with a replaced counter
 --   unreported_in counters               the unreported arrivals of all counters
-use Rattle.std.specs.Prelude.{Bool, true, false, ◌&&◌, ◌||◌, List, [], ◌∷◌, ◌++◌, ℕ, suc, ◌+◌, ◌-◌, eqb, ltb, length, get_or, set}
+use Rattle.std.specs.Prelude.{Bool, true, false, ◌&&◌, ◌||◌, List, [], ◌∷◌, ◌++◌, ℕ, suc, ◌+◌, ◌-◌, eqb, ltb, length, get_or, set, if◌then◌else◌}
 use Rattle.model.specs.declared.Leaving.{Leaving}
 use Rattle.model.specs.declared.Leaving.TheVariants.{Nobody, Left}
-use Rattle.model.specs.Choice.{if◌then◌else◌}
 
 -- A counter: document 01's slot, "a code, a count, an overcount and a sent number".
 pub record Counter : Type 0 where
@@ -67,8 +66,8 @@ abbrev pub placement_for : ℕ → List Counter → ℕ → Placement
 placement_for capacity counters item =
     let place = find item counters in
     if ltb place (length counters) then own place
-    else if ltb (length counters) capacity then unused
-    else replaced (least_place counters)
+    else (if ltb (length counters) capacity then unused
+    else replaced (least_place counters))
 
 abbrev pub place_of : Placement → List Counter → ℕ
 place_of (own place) counters = place

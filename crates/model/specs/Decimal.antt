@@ -3,8 +3,8 @@
 --
 --   read_number bytes   the number at the front and the bytes after it; `no_number` if none stands
 --   decimal n           the digits of n, most significant first; never empty
-use Rattle.std.specs.Prelude.{Bool, true, false, ◌&&◌, not, List, [], ◌∷◌, ◌++◌, ℕ, zero, suc, ◌+◌, ◌-◌, ◌*◌, ◌/◌, ◌%◌, eqb, ltb}
-use Rattle.model.specs.Choice.{if◌then◌else◌, between}
+use Rattle.std.specs.Prelude.{Bool, true, false, ◌&&◌, not, List, [], ◌∷◌, ◌++◌, ℕ, zero, suc, ◌+◌, ◌-◌, ◌*◌, ◌/◌, ◌%◌, eqb, ltb, if◌then◌else◌}
+use Rattle.model.specs.Choice.{between}
 
 -- The bytes of the digits: `0` is 48, `9` is 57.
 abbrev pub is_digit : ℕ → Bool

@@ -10,12 +10,11 @@
 --   message_refusal settings network m      why it is refused by whom it is for, or accepted
 --   Resting delivery                        nothing waits, and the coordinator is idle
 --   DeliveryClaims                          few messages, and a complete delivery
-use Rattle.std.specs.Prelude.{◌≡◌, List, [], ◌∷◌, ◌++◌, ℕ, zero, suc, ◌+◌, ◌≤◌, length}
+use Rattle.std.specs.Prelude.{◌≡◌, List, [], ◌∷◌, ◌++◌, ℕ, zero, suc, ◌+◌, ◌≤◌, length, if◌then◌else◌}
 use Rattle.model.specs.declared.Settings.{Settings}
 use Rattle.model.specs.declared.Arrival.{Arrival}
 use Rattle.model.specs.declared.Message.{Message}
 use Rattle.model.specs.declared.Phase.TheVariants.{Idle}
-use Rattle.model.specs.Choice.{if◌then◌else◌}
 use Rattle.model.specs.Limits.{most_messages}
 use Rattle.model.specs.Messages.{to_coordinator}
 use Rattle.model.specs.Site.{observed, site_message_refusal}

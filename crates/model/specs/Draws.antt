@@ -4,9 +4,9 @@
 --   is_draw arrival       whether it is one of class 1 or more
 --   draws_of arrivals     those of a list that are, in order
 --   is_taken arrival refusal    whether it is taken: a draw that is not refused
-use Rattle.std.specs.Prelude.{Bool, ◌&&◌, List, [], ◌∷◌, ℕ, leb}
+use Rattle.std.specs.Prelude.{Bool, ◌&&◌, List, [], ◌∷◌, ℕ, leb, if◌then◌else◌}
 use Rattle.model.specs.declared.Arrival.{Arrival}
-use Rattle.model.specs.Choice.{if◌then◌else◌, is_zero}
+use Rattle.model.specs.Choice.{is_zero}
 use Rattle.model.specs.Limits.{least_drawn}
 
 -- "draws of class 1 or more"

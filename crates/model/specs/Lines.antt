@@ -4,10 +4,9 @@
 --   write_fields numbers  a line with these fields
 --   read_line bytes       the first line as an arrival; a malformed one is `no_line`
 --   read_worklist bytes   the arrivals line by line, to the end or to the first malformed line
-use Rattle.std.specs.Prelude.{Bool, true, false, List, [], ◌∷◌, ◌++◌, ℕ, zero, suc, ◌+◌, ◌-◌, eqb, length, get_or}
+use Rattle.std.specs.Prelude.{Bool, true, false, List, [], ◌∷◌, ◌++◌, ℕ, zero, suc, ◌+◌, ◌-◌, eqb, length, get_or, if◌then◌else◌}
 use Rattle.model.specs.declared.Arrival.{Arrival}
 use Rattle.model.specs.declared.Settings.{Settings}
-use Rattle.model.specs.Choice.{if◌then◌else◌}
 use Rattle.model.specs.Decimal.{Number, no_number, number, read_number, decimal}
 
 -- `;` and the line feed.

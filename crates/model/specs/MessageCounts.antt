@@ -8,11 +8,10 @@
 --   naming j messages            how many of the messages name site j
 --   counts_within k counts       none of the first k is above the limit; a missing one is 0
 --   total_count settings sites   the sum of the first k
-use Rattle.std.specs.Prelude.{Bool, true, ◌&&◌, List, [], ◌∷◌, ℕ, zero, suc, ◌+◌, eqb, leb, get_or, take, replicate}
+use Rattle.std.specs.Prelude.{Bool, true, ◌&&◌, List, [], ◌∷◌, ℕ, zero, suc, ◌+◌, eqb, leb, get_or, take, replicate, if◌then◌else◌}
 use Rattle.model.specs.declared.Settings.{Settings}
 use Rattle.model.specs.declared.Message.{Message}
 use Rattle.model.specs.declared.Sites.{Sites}
-use Rattle.model.specs.Choice.{if◌then◌else◌}
 use Rattle.model.specs.Limits.{most_sites, message_limit}
 use Rattle.model.specs.Site.{one_more_at}
 use Rattle.model.specs.SiteMemory.{sum}

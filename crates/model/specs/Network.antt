@@ -5,11 +5,10 @@
 --                                                 coordinator does not announce
 --   after_arrival settings network arrival        an accepted draw with full delivery
 --   after_line settings network arrival           an accepted line: a touch changes nothing
-use Rattle.std.specs.Prelude.{true, false, List, [], ◌∷◌, ◌++◌, ℕ, zero, suc, ◌+◌, ◌*◌, get_or, set, replicate}
+use Rattle.std.specs.Prelude.{true, false, List, [], ◌∷◌, ◌++◌, ℕ, zero, suc, ◌+◌, ◌*◌, get_or, set, replicate, if◌then◌else◌}
 use Rattle.model.specs.declared.Settings.{Settings}
 use Rattle.model.specs.declared.Arrival.{Arrival}
 use Rattle.model.specs.declared.Message.{Message}
-use Rattle.model.specs.Choice.{if◌then◌else◌}
 use Rattle.model.specs.Messages.{to_coordinator}
 use Rattle.model.specs.Draws.{is_draw}
 use Rattle.model.specs.Site.{Site, fresh_site, observed, site_receives}

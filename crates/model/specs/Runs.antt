@@ -6,11 +6,11 @@
 --                                      nothing
 --   log_refusal, batch_refusal         why a batch refuses a draw for its log, and any line
 --   batch_of settings room network arrivals  the batch call with a log of so many places
-use Rattle.std.specs.Prelude.{Bool, true, false, List, [], ◌∷◌, ◌++◌, ℕ, ◌+◌, ◌-◌, ltb, length}
+use Rattle.std.specs.Prelude.{Bool, true, false, List, [], ◌∷◌, ◌++◌, ℕ, ◌+◌, ◌-◌, ltb, length, if◌then◌else◌}
 use Rattle.model.specs.declared.Settings.{Settings}
 use Rattle.model.specs.declared.Arrival.{Arrival}
 use Rattle.model.specs.declared.Message.{Message}
-use Rattle.model.specs.Choice.{if◌then◌else◌, is_zero}
+use Rattle.model.specs.Choice.{is_zero}
 use Rattle.model.specs.Refusals.{when, ◌or_else◌, no_refusal, log_too_short}
 use Rattle.model.specs.Limits.{most_messages}
 use Rattle.model.specs.Draws.{is_draw, is_taken}

@@ -9,11 +9,11 @@
 --   site_due_refusal site which m                  9, 7, 10 in that order, or accepted
 --   site_message_refusal settings site which m     5; then 9, 7, 10
 --   site_receives site m                           the site and its answer after a message
-use Rattle.std.specs.Prelude.{Bool, ◌&&◌, ◌||◌, not, List, [], ◌∷◌, ◌++◌, ℕ, zero, suc, ◌+◌, eqb, ltb, leb, get_or, set, replicate}
+use Rattle.std.specs.Prelude.{Bool, ◌&&◌, ◌||◌, not, List, [], ◌∷◌, ◌++◌, ℕ, zero, suc, ◌+◌, eqb, ltb, leb, get_or, set, replicate, if◌then◌else◌}
 use Rattle.model.specs.declared.Settings.{Settings}
 use Rattle.model.specs.declared.Arrival.{Arrival}
 use Rattle.model.specs.declared.Message.{Message}
-use Rattle.model.specs.Choice.{if◌then◌else◌, is_zero}
+use Rattle.model.specs.Choice.{is_zero}
 use Rattle.model.specs.Refusals.{when, ◌or_else◌, no_refusal, unknown_site, unknown_item, value_too_large, site_full, message_not_due, amount_not_due}
 use Rattle.model.specs.Limits.{top_value, value_count, site_limit}
 use Rattle.model.specs.Messages.{item_report, count_report, poll_answer, probe_answer, is_poll, is_probe, is_announcement}
@@ -202,8 +202,8 @@ site_receives site m =
       site = with_pending site 0;
       messages = poll_answer m.site site.pending ∷ [];
     }
-    else if is_probe m then record {
+    else (if is_probe m then record {
       site = site;
       messages = probe_answer m.site m.a (up_to m.a site.histogram) ∷ [];
     }
-    else record { site = with_threshold site m.a; messages = [] }
+    else record { site = with_threshold site m.a; messages = [] })

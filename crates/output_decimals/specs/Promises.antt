@@ -1,7 +1,6 @@
 -- The contract of writing a decimal number.
-use Rattle.std.specs.Prelude.{◌≡◌, List, ℕ, length}
+use Rattle.std.specs.Prelude.{◌≡◌, List, ℕ, length, if◌then◌else◌}
 use Rattle.laws.specs.Writing.{written_at, fit}
-use Rattle.model.specs.Choice.{if◌then◌else◌}
 use Rattle.model.specs.Decimal.{decimal}
 
 -- The digits of a number written from a place on, and how many they are; where they don't fit,

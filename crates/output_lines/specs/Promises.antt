@@ -6,9 +6,8 @@
 --   at_start out                 an output before its first line
 --   line_after written line     one line more; where it doesn't fit, as before
 --   lines_after written lines   these lines, one after the other
-use Rattle.std.specs.Prelude.{◌≡◌, List, [], ◌∷◌, ◌++◌, ℕ, ◌+◌, ◌≤◌, length}
+use Rattle.std.specs.Prelude.{◌≡◌, List, [], ◌∷◌, ◌++◌, ℕ, ◌+◌, ◌≤◌, length, if◌then◌else◌}
 use Rattle.laws.specs.Writing.{written_at, fit}
-use Rattle.model.specs.Choice.{if◌then◌else◌}
 use Rattle.model.specs.Decimal.{decimal}
 use Rattle.model.specs.declared.Message.{Message}
 use Rattle.model.specs.Transcript.{space, spaced, end_line, listed_word, message_line}

@@ -7,9 +7,8 @@
 --   reason_line line refusal    the whole line
 --   reason_room                 128 bytes, more than any such line of machine numbers takes
 --   ReasonSays ..               the promise of the call that writes it
-use Rattle.std.specs.Prelude.{◌≡◌, List, [], ◌∷◌, ◌++◌, ℕ, zero, suc, leb, length}
+use Rattle.std.specs.Prelude.{◌≡◌, List, [], ◌∷◌, ◌++◌, ℕ, zero, suc, leb, length, if◌then◌else◌}
 use Rattle.laws.specs.Writing.{written_at}
-use Rattle.model.specs.Choice.{if◌then◌else◌}
 use Rattle.model.specs.Transcript.{spaced, end_line}
 use Rattle.output_lines.specs.Promises.{written_to, at_start}
 use Rattle.output_words.specs.Words.{bytes_of, words_of}

@@ -16,7 +16,7 @@
 --                                        them
 --   coordinator_read numbers             the record made from them where they are, else
 --                                        `no_coordinator`, all numbers 0
-use Rattle.std.specs.Prelude.{Bool, true, ◌&&◌, List, [], ◌∷◌, ◌++◌, ℕ, zero, suc, min, max, ◌+◌, ◌*◌, leb, eqb, get_or}
+use Rattle.std.specs.Prelude.{Bool, true, ◌&&◌, List, [], ◌∷◌, ◌++◌, ℕ, zero, suc, min, max, ◌+◌, ◌*◌, leb, eqb, get_or, if◌then◌else◌}
 use Rattle.model.specs.declared.Settings.{Settings}
 use Rattle.model.specs.declared.Arrival.{Arrival}
 use Rattle.model.specs.declared.Message.{Message}
@@ -26,7 +26,7 @@ use Rattle.model.specs.declared.Phase.{Phase}
 use Rattle.model.specs.declared.Phase.TheVariants.{Idle, Collecting, Probing, Announcing}
 use Rattle.model.specs.declared.CoordinatorRecord.{CoordinatorRecord}
 use Rattle.record_numbers.specs.declared.PhaseNumbers.{PhaseNumbers}
-use Rattle.model.specs.Choice.{if◌then◌else◌, is_zero}
+use Rattle.model.specs.Choice.{is_zero}
 use Rattle.model.specs.Limits.{most_sites}
 use Rattle.model.specs.Held.{no_record}
 use Rattle.model.specs.Messages.{message}
@@ -148,9 +148,9 @@ sites_numbers sites =
 abbrev pub phase_from : ℕ → ℕ → ℕ → ℕ → ℕ → Phase
 phase_from which site low high sum =
     if eqb which 0 then Idle
-    else if eqb which 1 then Collecting site
-    else if eqb which 2 then Probing site low high sum
-    else Announcing site
+    else (if eqb which 1 then Collecting site
+    else (if eqb which 2 then Probing site low high sum
+    else Announcing site))
 
 -- Total, base, threshold, signals, quantile; then the phase: which, site, low, high, sum.
 abbrev pub coordinator_width : ℕ
@@ -212,8 +212,8 @@ coordinator_numbers c = ten_numbers c (phase_numbers c.phase)
 abbrev pub phase_well : ℕ → ℕ → ℕ → ℕ → ℕ → Bool
 phase_well which site low high sum =
     if eqb which 0 then is_zero (site + low + high + sum)
-    else if eqb which 2 then true
-    else leb which 3 && is_zero (low + high + sum)
+    else (if eqb which 2 then true
+    else leb which 3 && is_zero (low + high + sum))
 
 -- The last five of a record's numbers.
 abbrev pub phase_well_in : List ℕ → Bool

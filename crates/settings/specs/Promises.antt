@@ -1,8 +1,8 @@
 -- The contract of the allowance call.
-use Rattle.std.specs.Prelude.{◌≡◌, ℕ}
+use Rattle.std.specs.Prelude.{◌≡◌, ℕ, if◌then◌else◌}
 use Rattle.model.specs.declared.Settings.{Settings}
 use Rattle.settings.specs.declared.Allowance.{Allowance}
-use Rattle.model.specs.Choice.{if◌then◌else◌, is_zero}
+use Rattle.model.specs.Choice.{is_zero}
 use Rattle.model.specs.Settings.{settings_refusal, allowance}
 
 -- The settings' refusal; with accepted settings the allowance of document 01, otherwise 0.

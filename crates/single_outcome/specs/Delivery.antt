@@ -12,12 +12,11 @@
 --   HistoryGoesOn                  a history with one arrival more
 --   ArrivalDelivered               the arrival and its delivery, as steps of a history
 --   DeliverySays                   the promise
-use Rattle.std.specs.Prelude.{◌≡◌, Bool, true, ◌&&◌, ◌||◌, List, [], ◌∷◌, ◌++◌, ℕ, ◌+◌, ◌*◌, ltb, length}
+use Rattle.std.specs.Prelude.{◌≡◌, Bool, true, ◌&&◌, ◌||◌, List, [], ◌∷◌, ◌++◌, ℕ, ◌+◌, ◌*◌, ltb, length, if◌then◌else◌}
 use Rattle.model.specs.declared.Settings.{Settings}
 use Rattle.model.specs.declared.Arrival.{Arrival}
 use Rattle.model.specs.declared.Sites.{Sites}
 use Rattle.model.specs.declared.CoordinatorRecord.{CoordinatorRecord}
-use Rattle.model.specs.Choice.{if◌then◌else◌}
 use Rattle.model.specs.Refusals.{when, ◌or_else◌, no_refusal, memory_inconsistent}
 use Rattle.model.specs.Limits.{coordinator_limit}
 use Rattle.model.specs.Draws.{is_draw, is_taken}
@@ -94,9 +93,9 @@ abbrev pub delivery_in : Settings → Network → Arrival → Delivered
 delivery_in settings network arrival =
     if meets_limit settings network arrival
     then stopped_after 1 settings network arrival
-    else if meets_forgotten settings network arrival
+    else (if meets_forgotten settings network arrival
     then stopped_after (steps_before_poll settings network arrival) settings network arrival
-    else after_arrival settings network arrival
+    else after_arrival settings network arrival)
 
 -- Not taken, all is "left as it was". Otherwise it is the network that the delivery comes to,
 -- written over what was given: unused counters, records k to 31 and what lies past the network

@@ -7,9 +7,9 @@
 --   refused_with progress refusal  the progress with the refusal of a call
 --   is_due                         whether the next call is due
 --   Stands past state progress ..  the state of a history that records, queue and memory are
-use Rattle.std.specs.Prelude.{◌≡◌, Bool, not, ◌&&◌, ◌||◌, List, [], ◌∷◌, ℕ, ◌+◌, ◌≤◌, length, take}
+use Rattle.std.specs.Prelude.{◌≡◌, Bool, not, ◌&&◌, ◌||◌, List, [], ◌∷◌, ℕ, ◌+◌, ◌≤◌, length, take, if◌then◌else◌}
 use Rattle.model.specs.declared.Message.{Message}
-use Rattle.model.specs.Choice.{if◌then◌else◌, is_zero}
+use Rattle.model.specs.Choice.{is_zero}
 use Rattle.model.specs.Coordinator.{is_announcing}
 use Rattle.tracker_queue.specs.declared.Queue.{Queue}
 use Rattle.tracker_queue.specs.Sending.{joined}

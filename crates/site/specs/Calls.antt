@@ -5,12 +5,12 @@
 --
 -- A refused call leaves record and memory as they were and hands out no message; so does an
 -- accepted touch.
-use Rattle.std.specs.Prelude.{◌≡◌, Bool, List, [], ℕ, leb, length, get_or}
+use Rattle.std.specs.Prelude.{◌≡◌, Bool, List, [], ℕ, leb, length, get_or, if◌then◌else◌}
 use Rattle.model.specs.declared.Settings.{Settings}
 use Rattle.model.specs.declared.Arrival.{Arrival}
 use Rattle.model.specs.declared.Message.{Message}
 use Rattle.model.specs.declared.SiteRecord.{SiteRecord}
-use Rattle.model.specs.Choice.{if◌then◌else◌, is_zero}
+use Rattle.model.specs.Choice.{is_zero}
 use Rattle.model.specs.Refusals.{when, ◌or_else◌, unknown_site}
 use Rattle.model.specs.Draws.{is_taken}
 use Rattle.model.specs.Messages.{no_message}

@@ -4,9 +4,9 @@
 --   StartSitesSays       starting all sites
 --   StartSiteSays        starting one
 --   StartClaims          sites started one by one are as all started together
-use Rattle.std.specs.Prelude.{◌≡◌, List, ℕ, ◌*◌, ◌<◌, leb, ltb, length, get_or, take, drop, replicate}
+use Rattle.std.specs.Prelude.{◌≡◌, List, ℕ, ◌*◌, ◌<◌, leb, ltb, length, get_or, take, drop, replicate, if◌then◌else◌}
 use Rattle.model.specs.declared.Settings.{Settings}
-use Rattle.model.specs.Choice.{if◌then◌else◌, is_zero}
+use Rattle.model.specs.Choice.{is_zero}
 use Rattle.model.specs.Refusals.{when, ◌or_else◌, no_refusal, memory_too_short, unknown_site}
 use Rattle.model.specs.Settings.{settings_refusal}
 use Rattle.model.specs.Limits.{most_sites}

@@ -5,6 +5,7 @@
 --   length_counters_reported  a report changes no counter's place
 --   memory_reported          the memory when the counter was stored and reported
 --   memory_observed          the memory when the value was counted too
+use Rattle.std.specs.Prelude.{if◌then◌else◌}
 use Prim.Native.Nat.{ℕ, ◌+◌, ◌*◌, ◌<◌, ◌≤◌}
 use mathlib.Core.Path.{◌≡◌, refl, ap, sym, ◌∙◌}
 use mathlib.Core.List.{List, ◌++◌}
@@ -15,7 +16,6 @@ use Rattle.laws.proofs.FlatMemory.{get_d_overwritten, two_parts}
 use Rattle.model.specs.declared.Settings.{Settings}
 use Rattle.model.specs.declared.SiteRecord.{SiteRecord}
 use Rattle.model.specs.declared.Arrival.{Arrival}
-use Rattle.model.specs.Choice.{if◌then◌else◌}
 use Rattle.model.specs.Limits.{value_count}
 use Rattle.model.specs.Counters.{Counter, counter_at}
 use Rattle.model.specs.Site.{Site, observed, one_more_at, place_for, counters_with, report_at, reports_item}

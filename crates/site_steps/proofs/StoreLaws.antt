@@ -5,6 +5,7 @@
 --   count_asks, report_asks, value_place, value_small   what each call requires
 --   stored_arrival     the promise of `store_arrival`
 --   observed_step      the promise of `observe_step`
+use Rattle.std.specs.Prelude.{if◌then◌else◌}
 use Prim.Native.Nat.{ℕ, ◌+◌, ◌*◌, ◌<◌, ◌≤◌}
 use Rattle.site_counters.specs.Stored.{PartsWithin}
 use mathlib.Core.Path.{◌≡◌, ap, sym, ◌∙◌, subst, subst₂}
@@ -18,7 +19,6 @@ use Rattle.model.specs.declared.Settings.{Settings}
 use Rattle.model.specs.declared.SiteRecord.{SiteRecord}
 use Rattle.model.specs.declared.Arrival.{Arrival}
 use Rattle.model.specs.declared.Message.{Message}
-use Rattle.model.specs.Choice.{if◌then◌else◌}
 use Rattle.model.specs.Messages.{item_report, count_report}
 use Rattle.model.specs.Limits.{most_capacity, value_count, site_limit}
 use Rattle.model.specs.Counters.{Counter, counter_at, gone_with}

@@ -3,12 +3,11 @@
 --   ReportSays, StoredReportSays    a counter reported if it is due
 --   DueSays, GatherSays             the messages that are due, in order
 --   ObserveAsks, StoreSays, ObserveStepSays   an arrival
-use Rattle.std.specs.Prelude.{◌≡◌, Bool, List, [], ◌∷◌, ◌++◌, ℕ, ◌+◌, ◌*◌, ◌≤◌, leb, length, get_or, set}
+use Rattle.std.specs.Prelude.{◌≡◌, Bool, List, [], ◌∷◌, ◌++◌, ℕ, ◌+◌, ◌*◌, ◌≤◌, leb, length, get_or, set, if◌then◌else◌}
 use Rattle.model.specs.declared.Settings.{Settings}
 use Rattle.model.specs.declared.Arrival.{Arrival}
 use Rattle.model.specs.declared.Message.{Message}
 use Rattle.model.specs.declared.SiteRecord.{SiteRecord}
-use Rattle.model.specs.Choice.{if◌then◌else◌}
 use Rattle.model.specs.Refusals.{no_refusal}
 use Rattle.model.specs.Messages.{no_message}
 use Rattle.model.specs.Counters.{Counter, unreported, gone_with}

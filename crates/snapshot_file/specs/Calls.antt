@@ -5,11 +5,11 @@
 --   zero_settings, fresh_record, refused_by  what a refused reading answers
 --   bench_in file                           the bench that a file holds
 --   LoadSays                                the call that reads
-use Rattle.std.specs.Prelude.{◌≡◌, List, ℕ, length}
+use Rattle.std.specs.Prelude.{◌≡◌, List, ℕ, length, if◌then◌else◌}
 use Rattle.laws.specs.Writing.{written_at}
 use Rattle.model.specs.declared.Settings.{Settings}
 use Rattle.model.specs.declared.CoordinatorRecord.{CoordinatorRecord}
-use Rattle.model.specs.Choice.{if◌then◌else◌, is_zero}
+use Rattle.model.specs.Choice.{is_zero}
 use Rattle.model.specs.Settings.{settings_with}
 use Rattle.model.specs.SiteMemory.{overwrite}
 use Rattle.model.specs.Coordinator.{fresh_coordinator}

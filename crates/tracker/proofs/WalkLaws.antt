@@ -7,6 +7,7 @@
 --   walked_open, walked_step         from the start on, arrival by arrival
 --   walked_asks                      what one arrival asks
 --   walked_done, walked_stopped      the end: no arrival is left, or one was refused
+use Rattle.std.specs.Prelude.{if◌then◌else◌}
 use mathlib.Core.Path.{◌≡◌, refl, sym, ap, ◌∙◌, subst⁻¹}
 use mathlib.Core.Bool.{Bool, true, false}
 use mathlib.Core.List.{List, [], ◌∷◌, ◌++◌, append-nil}
@@ -17,7 +18,7 @@ use lib.ListN.{length}
 use borrow.Author.Tests.{eq-eqb, ne_eqb}
 use Rattle.model.specs.declared.Settings.{Settings}
 use Rattle.model.specs.declared.Arrival.{Arrival}
-use Rattle.model.specs.Choice.{if◌then◌else◌, is_zero}
+use Rattle.model.specs.Choice.{is_zero}
 use Rattle.model.specs.Refusals.{no_refusal}
 use Rattle.model.specs.Network.{Network}
 use Rattle.model.specs.MessageCounts.{counted_up}

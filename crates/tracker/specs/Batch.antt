@@ -4,11 +4,11 @@
 --   BatchSays ..                  the promise
 -- Passed on: log_room, message_numbers and messages_in, the log as crate `tracker_delivery` has it,
 -- and BatchHeld of crate `tracker_steps`.
-use Rattle.std.specs.Prelude.{◌≡◌, List, ℕ, length}
+use Rattle.std.specs.Prelude.{◌≡◌, List, ℕ, length, if◌then◌else◌}
 use Rattle.model.specs.declared.Settings.{Settings}
 use Rattle.model.specs.declared.Arrival.{Arrival}
 use Rattle.model.specs.declared.Sites.{Sites}
-use Rattle.model.specs.Choice.{if◌then◌else◌, is_zero}
+use Rattle.model.specs.Choice.{is_zero}
 use Rattle.model.specs.SiteMemory.{overwrite}
 use Rattle.model.specs.CoordinatorMemory.{coordinator_record, coordinator_memory}
 use Rattle.model.specs.MessageCounts.{counted_up}

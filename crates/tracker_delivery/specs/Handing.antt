@@ -7,11 +7,11 @@
 --   changed underway by       what is under way with a hand-over's changes
 --   HandedStep                    they are a step of the delivery
 --   HandAsks, HandSays        what a hand-over requires, and what it comes to
-use Rattle.std.specs.Prelude.{◌≡◌, true, List, ℕ, get_or, set}
+use Rattle.std.specs.Prelude.{◌≡◌, true, List, ℕ, get_or, set, if◌then◌else◌}
 use Rattle.model.specs.declared.Settings.{Settings}
 use Rattle.model.specs.declared.SiteRecord.{SiteRecord}
 use Rattle.model.specs.declared.CoordinatorRecord.{CoordinatorRecord}
-use Rattle.model.specs.Choice.{if◌then◌else◌, is_zero}
+use Rattle.model.specs.Choice.{is_zero}
 use Rattle.model.specs.Messages.{to_coordinator}
 use Rattle.model.specs.DeliveryClaims.{delivery_step}
 use Rattle.coordinator_kinds.specs.declared.Answered.{Answered}
@@ -26,8 +26,8 @@ use Rattle.tracker_delivery.specs.Holding.{carrying, answered, Holds, Delivering
 abbrev pub site_of_head : Queue → ℕ
 site_of_head waiting =
     if is_zero waiting.count then 0
-    else if to_coordinator waiting.first then 0
-    else waiting.first.site
+    else (if to_coordinator waiting.first then 0
+    else waiting.first.site)
 
 -- No site's record changes: that of site 0 is put back as it is.
 abbrev pub coordinator_change : SiteRecord → Queue → Answered → Change

@@ -9,9 +9,9 @@
 --   Countable                     a message that names a count, which is not too large
 --   SendAsks, SendTwoAsks         what sending asks: free records, and messages that are countable
 --   SendSays, AnswerSays, SendTwoSays  what it promises: the delivery then, the counts and the log
-use Rattle.std.specs.Prelude.{◌≡◌, List, ℕ, ◌+◌, ◌*◌, ◌≤◌, ◌<◌, eqb, length, get_or}
+use Rattle.std.specs.Prelude.{◌≡◌, List, ℕ, ◌+◌, ◌*◌, ◌≤◌, ◌<◌, eqb, length, get_or, if◌then◌else◌}
 use Rattle.model.specs.declared.Message.{Message}
-use Rattle.model.specs.Choice.{if◌then◌else◌, is_zero}
+use Rattle.model.specs.Choice.{is_zero}
 use Rattle.model.specs.Limits.{most_sites, message_limit}
 use Rattle.model.specs.Messages.{message_width, no_message}
 use Rattle.model.specs.Site.{one_more_at}

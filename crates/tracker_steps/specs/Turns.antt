@@ -6,12 +6,11 @@
 --   left_turn number taken own  the turn of an arrival that leaves its site as it was
 --   taken_in now ..            what is held when the arrival's site has taken it
 --   TurnAsks, TurnSays         an arrival is refused, or a touch, or its site takes it
-use Rattle.std.specs.Prelude.{◌≡◌, true, false, List, ℕ, ltb, length}
+use Rattle.std.specs.Prelude.{◌≡◌, true, false, List, ℕ, ltb, length, if◌then◌else◌}
 use Rattle.model.specs.declared.Settings.{Settings}
 use Rattle.model.specs.declared.Arrival.{Arrival}
 use Rattle.model.specs.declared.SiteRecord.{SiteRecord}
 use Rattle.model.specs.declared.Sites.{Sites}
-use Rattle.model.specs.Choice.{if◌then◌else◌}
 use Rattle.model.specs.Refusals.{no_refusal}
 use Rattle.model.specs.Limits.{most_sites}
 use Rattle.model.specs.Draws.{is_draw}

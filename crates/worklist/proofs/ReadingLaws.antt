@@ -11,6 +11,7 @@
 --   reading_long     a digit too many: no number
 --   reading_stop     another byte: the number ends before it
 --   reading_end      the end of the bytes: the number ends there
+use Rattle.std.specs.Prelude.{if◌then◌else◌}
 use mathlib.Core.Path.{◌≡◌, refl, sym, ap, ◌∙◌}
 use mathlib.Core.Bool.{true, false, ◌&&◌, not}
 use lib.Dec.{eqb}
@@ -21,7 +22,6 @@ use native.Mathlib.Omega.{arith}
 use lib.ListN.{length, get_or, drop, drop_of_length-le}
 use lib.Seq.{drop-cons}
 use native.Mathlib.Numerals.{add-one}
-use Rattle.model.specs.Choice.{if◌then◌else◌}
 use Rattle.model.specs.Limits.{number_limit}
 use Rattle.model.specs.Decimal.{is_digit, digit_value, leading_zero, Number, no_number, number, more_digits, read_number}
 use Rattle.model.proofs.Worklists.DecimalLaws.{digit_within, more_digits_on, more_digits_stop, more_digits_long}

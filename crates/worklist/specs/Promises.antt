@@ -1,9 +1,8 @@
 -- The contracts of reading decimal numbers and lines.
-use Rattle.std.specs.Prelude.{◌≡◌, false, not, List, [], ◌∷◌, ℕ, ◌≤◌, ◌<◌, length, drop}
+use Rattle.std.specs.Prelude.{◌≡◌, false, not, List, [], ◌∷◌, ℕ, ◌≤◌, ◌<◌, length, drop, if◌then◌else◌}
 use Rattle.worklist.specs.declared.NumberRead.{NumberRead}
 use Rattle.worklist.specs.declared.ThreeRead.{ThreeRead}
 use Rattle.worklist.specs.declared.LineRead.{LineRead}
-use Rattle.model.specs.Choice.{if◌then◌else◌}
 use Rattle.model.specs.Refusals.{when, malformed_line}
 use Rattle.model.specs.Limits.{number_limit}
 use Rattle.model.specs.Decimal.{Number, no_number, number, more_digits, read_number}

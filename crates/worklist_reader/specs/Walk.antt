@@ -3,8 +3,8 @@
 --   step_at bytes at line       the line at a place: an arrival, the end, or refusal 13
 --   then_read step others       what a step adds to the worklist that is read after it
 --   walk_from most bytes at line the worklist that at most so many steps read from a place on
-use Rattle.std.specs.Prelude.{true, false, List, [], ℕ, zero, suc, ◌+◌, ◌-◌, leb, ltb, length, drop}
-use Rattle.model.specs.Choice.{if◌then◌else◌, is_zero}
+use Rattle.std.specs.Prelude.{true, false, List, [], ℕ, zero, suc, ◌+◌, ◌-◌, leb, ltb, length, drop, if◌then◌else◌}
+use Rattle.model.specs.Choice.{is_zero}
 use Rattle.model.specs.Refusals.{no_refusal, malformed_line}
 use Rattle.model.specs.Lines.{Fields, malformed, fields, read_fields, arrival_of, Worklist, ended, malformed_at, next}
 use Rattle.worklist_reader.specs.declared.Step.{Step}
@@ -51,8 +51,8 @@ step_at bytes at line =
 abbrev pub then_read : Step → Worklist → Worklist
 then_read step others =
     if step.found then next step.arrival others
-    else if is_zero step.refusal then ended
-    else malformed_at step.line
+    else (if is_zero step.refusal then ended
+    else malformed_at step.line)
 
 abbrev pub walk_from : ℕ → List ℕ → ℕ → ℕ → Worklist
 walk_from zero bytes at line = ended

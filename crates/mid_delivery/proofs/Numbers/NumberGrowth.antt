@@ -4,6 +4,7 @@
 --   unreported_then, arrivals_then   all unreported and all arrivals after an arrival
 --   estimate_then, value_then        an estimate and a value count after it
 --   counted_then, grown_then         all of it, where the network then has its sites
+use Rattle.std.specs.Prelude.{if◌then◌else◌}
 use mathlib.Core.Path.{◌≡◌, refl, sym, ap, ◌∙◌}
 use mathlib.Core.Bool.{Bool, true, false}
 use mathlib.Core.List.{List, [], ◌∷◌}
@@ -16,7 +17,6 @@ use Rattle.laws.proofs.Updates.{sum_below_length}
 use Rattle.model.specs.declared.Settings.{Settings}
 use Rattle.model.specs.declared.Arrival.{Arrival}
 use Rattle.model.specs.declared.Phase.TheVariants.{Idle}
-use Rattle.model.specs.Choice.{if◌then◌else◌}
 use Rattle.model.specs.Counters.{unreported}
 use Rattle.model.specs.Site.{Site, fresh_site, one_more_at, observed, reports_item, reported_value}
 use Rattle.model.specs.Network.{Network, site_at}

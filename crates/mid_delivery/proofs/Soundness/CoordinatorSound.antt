@@ -4,6 +4,7 @@
 --   numbers_fresh, numbers_phase, numbers_rest     a fresh one; another phase; at rest again
 --   numbers_item, numbers_count                    kinds 1 and 2
 --   numbers_total, numbers_base, numbers_quantile  kinds 4 and 6
+use Rattle.std.specs.Prelude.{if◌then◌else◌}
 use mathlib.Core.Path.{◌≡◌, refl, sym, ◌∙◌}
 use mathlib.Core.Bool.{Bool, true, false}
 use mathlib.Core.List.{List}
@@ -16,7 +17,6 @@ use Rattle.model.specs.declared.Settings.{Settings}
 use Rattle.model.specs.declared.Phase.{Phase}
 use Rattle.model.specs.Limits.{top_value, value_count}
 use Rattle.model.specs.Settings.{threshold_of}
-use Rattle.model.specs.Choice.{if◌then◌else◌}
 use Rattle.model.specs.Site.{one_more_at}
 use Rattle.model.specs.SiteMemory.{sum}
 use Rattle.model.specs.Coordinator.{Coordinator, fresh_coordinator, with_phase, with_total, with_base, with_quantile, at_rest}

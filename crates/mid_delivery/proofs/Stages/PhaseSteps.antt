@@ -5,6 +5,7 @@
 --   poll_answer_next, -last-one, -last-more  kind 4, while collecting
 --   probe_answer_next, probe_answer_last     kind 6, while probing
 --   announced_next                           kind 7 asked for, while announcing
+use Rattle.std.specs.Prelude.{if◌then◌else◌}
 use mathlib.Core.Path.{◌≡◌, ◌∙◌}
 use mathlib.Core.Bool.{Bool, true, false}
 use mathlib.Core.List.{[], ◌∷◌}
@@ -13,7 +14,6 @@ use lib.Dec.{eqb, ltb}
 use borrow.Author.Tests.{lt-ltb, le-ltb, le-leb, lt-leb}
 use Rattle.model.specs.declared.Settings.{Settings}
 use Rattle.model.specs.declared.Phase.TheVariants.{Idle, Collecting, Probing, Announcing}
-use Rattle.model.specs.Choice.{if◌then◌else◌}
 use Rattle.model.specs.Limits.{top_value}
 use Rattle.model.specs.Settings.{threshold_of}
 use Rattle.model.specs.Messages.{item_report, count_report, poll, poll_answer, probe, probe_answer, announcement}

@@ -2,6 +2,7 @@
 -- the total, and the k-th count report begins the polls.
 --
 --   handed_reports   the head of the queue in this stage
+use Rattle.std.specs.Prelude.{if◌then◌else◌}
 use mathlib.Core.Path.{◌≡◌, refl, sym, subst}
 use mathlib.Core.Bool.{Bool, true, false}
 use mathlib.Core.List.{List, [], ◌∷◌, append-nil}
@@ -14,7 +15,6 @@ use Rattle.model.specs.declared.Settings.{Settings}
 use Rattle.model.specs.declared.Message.{Message}
 use Rattle.model.specs.declared.Phase.{Phase}
 use Rattle.model.specs.declared.Phase.TheVariants.{Idle, Collecting}
-use Rattle.model.specs.Choice.{if◌then◌else◌}
 use Rattle.model.specs.Limits.{closing_steps}
 use Rattle.model.specs.Messages.{item_report, count_report, poll}
 use Rattle.model.specs.Coordinator.{Coordinator, step, coordinator_receives}

@@ -4,6 +4,7 @@
 --   together_of_sound, sound_of_together   a sound network as `Together`
 --   start_stage                            the stage that an arrival begins
 --   sound_at_rest                          the stage that a delivery ends with
+use Rattle.std.specs.Prelude.{if◌then◌else◌}
 use mathlib.Core.Path.{◌≡◌, refl, sym, ap, ◌∙◌, subst}
 use mathlib.Core.Bool.{Bool, true, false, false≢true}
 use mathlib.Core.List.{[], ◌∷◌, ◌++◌}
@@ -14,7 +15,6 @@ use borrow.Author.Tests.{ltb-false, ne_eqb}
 use Rattle.model.specs.declared.Settings.{Settings}
 use Rattle.model.specs.declared.Arrival.{Arrival}
 use Rattle.model.specs.declared.Phase.TheVariants.{Idle, Announcing}
-use Rattle.model.specs.Choice.{if◌then◌else◌}
 use Rattle.model.specs.Limits.{top_value, closing_steps, most_steps}
 use Rattle.model.specs.Site.{Site, observed, reports_item, reports_count, reported_value}
 use Rattle.model.specs.Coordinator.{is_announcing}

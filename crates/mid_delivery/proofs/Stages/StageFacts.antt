@@ -4,6 +4,7 @@
 --   stage_length                     there are as many sites as the settings say
 --   stage_sites, stage_coordinator   each by itself
 --   stage_total, stage_sum           within the limit
+use Rattle.std.specs.Prelude.{if◌then◌else◌}
 use mathlib.Core.Path.{◌≡◌, refl}
 use mathlib.Core.Bool.{Bool, true, false}
 use mathlib.Core.List.{List}
@@ -15,7 +16,6 @@ use borrow.Author.Tests.{ltb-true}
 use Rattle.model.specs.declared.Settings.{Settings}
 use Rattle.model.specs.declared.Message.{Message}
 use Rattle.model.specs.declared.Phase.TheVariants.{Idle, Announcing}
-use Rattle.model.specs.Choice.{if◌then◌else◌}
 use Rattle.model.specs.Limits.{coordinator_limit}
 use Rattle.model.specs.Network.{Network, site_at}
 use Rattle.model.specs.SoundNetwork.{SoundSite, SoundPhase, sum_of_phase, SoundCoordinator}

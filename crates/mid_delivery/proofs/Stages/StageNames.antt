@@ -3,6 +3,7 @@
 --
 --   stage_names      the messages that wait name sites below k
 --   joined_names     so do those that a step hands out
+use Rattle.std.specs.Prelude.{if◌then◌else◌}
 use mathlib.Core.Path.{sym, subst}
 use mathlib.Core.Bool.{Bool, true, false}
 use mathlib.Core.List.{List, [], ◌∷◌, ◌++◌}
@@ -10,7 +11,6 @@ use Prim.Native.Nat.{ℕ, zero, suc, ◌+◌, ◌≤◌, ◌<◌}
 use native.Mathlib.Omega.{arith}
 use Rattle.model.specs.declared.Settings.{Settings}
 use Rattle.model.specs.declared.Message.{Message}
-use Rattle.model.specs.Choice.{if◌then◌else◌}
 use Rattle.model.specs.Messages.{poll, poll_answer, probe, probe_answer, announcement}
 use Rattle.model.specs.Network.{Network}
 use Rattle.model.proofs.Deliveries.DeliveryMessages.{announcements}

@@ -13,6 +13,7 @@
 --   AskedOn      the same for a kind 7 that is asked for
 -- Letters: k the sites, j the site that the phase names, i the first site whose kind 7 waits, w how
 -- many wait, h halvings.
+use Rattle.std.specs.Prelude.{if◌then◌else◌}
 use mathlib.Core.Path.{◌≡◌}
 use mathlib.Core.Bool.{Bool}
 use mathlib.Core.List.{List, [], ◌∷◌, ◌++◌}
@@ -22,7 +23,6 @@ use Rattle.model.specs.declared.Settings.{Settings}
 use Rattle.model.specs.declared.Message.{Message}
 use Rattle.model.specs.declared.Phase.{Phase}
 use Rattle.model.specs.declared.Phase.TheVariants.{Idle, Collecting, Probing, Announcing}
-use Rattle.model.specs.Choice.{if◌then◌else◌}
 use Rattle.model.specs.Limits.{top_value, site_limit, closing_steps}
 use Rattle.model.specs.Messages.{item_report, count_report, poll, poll_answer, probe, probe_answer}
 use Rattle.model.specs.Coordinator.{CoordinatorStep, middle}

@@ -4,6 +4,7 @@
 -- Letters: e epsilon, p phi, n all arrivals, l the items listed.
 --
 --   list_size_of_estimates     the bounds on the list's length, from those on estimates alone
+use Rattle.std.specs.Prelude.{if◌then◌else◌}
 use mathlib.Core.Path.{◌≡◌, refl, ap}
 use mathlib.Core.Bool.{Bool, true, false}
 use mathlib.Core.List.{List, [], ◌∷◌, ◌++◌}
@@ -18,7 +19,6 @@ use Rattle.laws.proofs.Arithmetic.{mul_gap}
 use Rattle.laws.proofs.Tests.{both_true}
 use Rattle.model.specs.declared.Settings.{Settings}
 use Rattle.model.specs.declared.Arrival.{Arrival}
-use Rattle.model.specs.Choice.{if◌then◌else◌}
 use Rattle.model.specs.Coordinator.{Coordinator}
 use Rattle.model.specs.Reading.{is_listed, listed_from, heavy_hitters, needed_side, held_side}
 use Rattle.model.specs.Runs.{Run}

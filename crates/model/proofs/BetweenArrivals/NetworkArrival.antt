@@ -5,6 +5,7 @@
 --   estimates_then       N3 after the item report, if one is due
 --   account_then         the account with no count report, or with one
 --   kept_silent, kept_signal         the whole, where the round is not closed
+use Rattle.std.specs.Prelude.{if◌then◌else◌}
 use mathlib.Core.Path.{◌≡◌, refl, ap, ◌∙◌}
 use mathlib.Core.Bool.{Bool, true, false}
 use mathlib.Core.List.{List, [], ◌∷◌, ◌++◌}
@@ -18,7 +19,6 @@ use Rattle.model.specs.declared.Settings.{Settings}
 use Rattle.model.specs.declared.Arrival.{Arrival}
 use Rattle.model.specs.declared.Message.{Message}
 use Rattle.model.specs.declared.Phase.TheVariants.{Idle}
-use Rattle.model.specs.Choice.{if◌then◌else◌}
 use Rattle.model.specs.Refusals.{when}
 use Rattle.model.specs.Limits.{value_count, probing_messages}
 use Rattle.model.specs.Counters.{dropped_by}

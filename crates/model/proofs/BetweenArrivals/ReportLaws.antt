@@ -3,6 +3,7 @@
 --   when_times, when_le      a choice as 0 or 1, and times an amount
 --   value_count_is, value_counted  1024 values; one up to the top has a place in the histogram
 --   estimates_reported, length_reported   the estimates after an item report, if one is due
+use Rattle.std.specs.Prelude.{if◌then◌else◌}
 use mathlib.Core.Path.{◌≡◌, refl}
 use mathlib.Core.Bool.{Bool, true, false}
 use mathlib.Core.List.{List}
@@ -13,7 +14,6 @@ use lib.Dec.{eqb}
 use lib.ListN.{length, get_or, set, length-set}
 use lib.Seq.{get_or-set_same, get_or-set_other}
 use borrow.Author.Tests.{eq-eqb, ne_eqb}
-use Rattle.model.specs.Choice.{if◌then◌else◌}
 use Rattle.model.specs.Refusals.{when}
 use Rattle.model.specs.Limits.{top_value, value_count}
 

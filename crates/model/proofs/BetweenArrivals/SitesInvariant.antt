@@ -6,6 +6,7 @@
 --                             the item's arrivals and the sum of its reports at site j
 --   sites_arrival             kept by an arrival; unreported-arrival, pending-arrival: what moves
 --   sites_close               kept by a close; sum-closed: sums over the closed sites
+use Rattle.std.specs.Prelude.{if◌then◌else◌}
 use mathlib.Core.Path.{◌≡◌, refl, ap, ◌∙◌}
 use mathlib.Core.Bool.{Bool, true, false}
 use mathlib.Core.List.{List, [], ◌∷◌, ◌++◌}
@@ -18,7 +19,6 @@ use Rattle.laws.proofs.Lists.{at_set}
 use Rattle.laws.proofs.Sums.{sum_below, sum_below_same, sum_below_le, sum_below_const, sum_below_change, sum_below_set, sum_of}
 use Rattle.model.specs.declared.Settings.{Settings}
 use Rattle.model.specs.declared.Arrival.{Arrival}
-use Rattle.model.specs.Choice.{if◌then◌else◌}
 use Rattle.model.specs.Limits.{top_value}
 use Rattle.model.specs.Counters.{unreported}
 use Rattle.model.specs.Site.{Site, fresh_site, up_to}

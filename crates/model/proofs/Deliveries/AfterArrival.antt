@@ -5,6 +5,7 @@
 --   delivers_after    the same as a delivery: it comes to rest there within `most_steps`, and more
 --                     fuel changes nothing
 -- The cases and the names of their parts are in ArrivalParts.antt.
+use Rattle.std.specs.Prelude.{if◌then◌else◌}
 use mathlib.Core.Path.{◌≡◌, refl, sym, ap, subst}
 use mathlib.Core.Bool.{Bool, true, false}
 use mathlib.Core.List.{List, [], ◌∷◌, ◌++◌, append-nil, append_assoc}
@@ -16,7 +17,6 @@ use Rattle.model.specs.declared.Settings.{Settings}
 use Rattle.model.specs.declared.Arrival.{Arrival}
 use Rattle.model.specs.declared.Message.{Message}
 use Rattle.model.specs.declared.Phase.TheVariants.{Idle, Collecting}
-use Rattle.model.specs.Choice.{if◌then◌else◌}
 use Rattle.model.specs.Limits.{closing_steps, most_steps}
 use Rattle.model.specs.Messages.{item_report, count_report, poll}
 use Rattle.model.specs.Site.{Site, reports_item, reports_count, reported_value}

@@ -12,6 +12,7 @@
 --   network_then, messages_then, close_count  what each of them leaves and sends
 --   length_first_messages               0, 1 or 2
 --   length_messages_then                these, and close_count more
+use Rattle.std.specs.Prelude.{if◌then◌else◌}
 use mathlib.Core.Path.{◌≡◌, refl, ap, ◌∙◌}
 use mathlib.Core.Bool.{Bool, true, false}
 use mathlib.Core.List.{List, [], ◌∷◌, ◌++◌}
@@ -25,7 +26,6 @@ use Rattle.model.specs.declared.Arrival.{Arrival}
 use Rattle.model.specs.declared.Message.{Message}
 use Rattle.model.specs.declared.Phase.{Phase}
 use Rattle.model.specs.declared.Phase.TheVariants.{Idle}
-use Rattle.model.specs.Choice.{if◌then◌else◌}
 use Rattle.model.specs.Refusals.{when}
 use Rattle.model.specs.Limits.{closing_messages}
 use Rattle.model.specs.Settings.{threshold_of}

@@ -11,6 +11,7 @@
 --   naming_none                     no message names a site from k on
 --   total_counted                   the sum of the first k counts grows by one for each message
 --   none_counted_lem, none_in_all   where nothing was counted
+use Rattle.std.specs.Prelude.{if◌then◌else◌}
 use mathlib.Core.Path.{◌≡◌, refl, sym, ap, ◌∙◌}
 use mathlib.Core.Bool.{Bool, true, false}
 use mathlib.Core.List.{List, [], ◌∷◌, ◌++◌}
@@ -22,7 +23,6 @@ use lib.ListN.{length, get_or, set, take, replicate, length-set}
 use lib.Seq.{get_or-set_same, get_or-set_other}
 use borrow.Author.Tests.{eq-eqb, ne_eqb}
 use Rattle.model.specs.declared.Message.{Message}
-use Rattle.model.specs.Choice.{if◌then◌else◌}
 use Rattle.model.specs.Site.{one_more_at}
 use Rattle.model.specs.SiteMemory.{sum}
 use Rattle.model.specs.MessageCounts.{count_at, counted_up, naming}

@@ -5,6 +5,7 @@
 --   site_fresh               of a fresh site, at threshold 1
 --   ObservedOk, observed_ok  an arrival keeps it, and what moves then
 --   site_closed              a close keeps it: pending 0 and a threshold that is no smaller
+use Rattle.std.specs.Prelude.{if◌then◌else◌}
 use mathlib.Core.Path.{◌≡◌, refl, ◌∙◌, subst, fun_ext}
 use mathlib.Core.Bool.{Bool, true, false}
 use mathlib.Core.List.{List}
@@ -17,7 +18,6 @@ use borrow.Author.Tests.{leb-true, leb-false, eq-eqb, ne_eqb}
 use Rattle.laws.proofs.Sums.{sum_of}
 use Rattle.model.specs.declared.Settings.{Settings}
 use Rattle.model.specs.declared.Arrival.{Arrival}
-use Rattle.model.specs.Choice.{if◌then◌else◌}
 use Rattle.model.specs.Limits.{value_count}
 use Rattle.model.specs.Counters.{Counter, counter_at, unreported, dropped_by}
 use Rattle.model.specs.Site.{Site, fresh_site, placement_in, place_for, counters_with, reports_item, report_at, reports_count, observed, up_to, one_more_at}

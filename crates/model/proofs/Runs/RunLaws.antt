@@ -6,6 +6,7 @@
 --   Extends, run_from_extends             what was accepted and sent stays
 --   run_from_draws, run_drawn             a run over the draws alone; what it accepts are draws
 --   runs_cut                              the claims on cuts, of every list
+use Rattle.std.specs.Prelude.{if◌then◌else◌}
 use mathlib.Core.Path.{◌≡◌, refl, sym, ap, ◌∙◌}
 use mathlib.Core.Bool.{Bool, true, false}
 use mathlib.Core.List.{List, [], ◌∷◌, ◌++◌, append-nil, append_assoc}
@@ -15,7 +16,6 @@ use lib.Seq.{take-append_seam}
 use Rattle.model.specs.declared.Settings.{Settings}
 use Rattle.model.specs.declared.Arrival.{Arrival}
 use Rattle.model.specs.declared.Message.{Message}
-use Rattle.model.specs.Choice.{if◌then◌else◌}
 use Rattle.model.specs.Draws.{is_draw, draws_of}
 use Rattle.model.specs.Network.{after_arrival}
 use Rattle.model.specs.Runs.{is_taken_in, Run, fresh_run, run_one, run_from, run_of}

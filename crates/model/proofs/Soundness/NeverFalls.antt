@@ -4,6 +4,7 @@
 --   NoLess c c'        each number of c' is at least that of c
 --   received_no_less   after any message; asked-no-less after an announcement
 --   steps_no_less      after any number of steps
+use Rattle.std.specs.Prelude.{if◌then◌else◌}
 use mathlib.Core.Path.{◌≡◌, refl}
 use mathlib.Core.Bool.{Bool, true, false}
 use mathlib.Core.List.{List, [], ◌∷◌}
@@ -15,7 +16,6 @@ use Rattle.model.specs.declared.Settings.{Settings}
 use Rattle.model.specs.declared.Message.{Message}
 use Rattle.model.specs.declared.Phase.{Phase}
 use Rattle.model.specs.declared.Phase.TheVariants.{Idle, Collecting, Probing, Announcing}
-use Rattle.model.specs.Choice.{if◌then◌else◌}
 use Rattle.model.specs.Settings.{threshold_of}
 use Rattle.model.specs.Messages.{to_coordinator, is_item_report}
 use Rattle.model.specs.Site.{one_more_at}

@@ -8,6 +8,7 @@
 --   reported_sound           its report, if it has: all are below the threshold again
 --   unreported_observed      S7: an arrival adds one unreported, but for what is reported or lost
 -- Letters: u the universe, c the capacity, n the site's arrivals, t its threshold.
+use Rattle.std.specs.Prelude.{if◌then◌else◌}
 use mathlib.Core.Path.{◌≡◌}
 use mathlib.Core.Bool.{Bool, true, false}
 use mathlib.Core.List.{List, [], ◌∷◌, ◌++◌}
@@ -20,7 +21,6 @@ use lib.Seq.{get_or-set_same, get_or-set_other}
 use borrow.Author.Tests.{leb-true, leb-false}
 use Rattle.laws.proofs.Lists.{length_snoc, get_d_snoc_old, get_d_snoc_new, all_set}
 use Rattle.laws.proofs.Sums.{sum_of, sum_of_nil, sum_of_cons, sum_of_set, sum_of_snoc}
-use Rattle.model.specs.Choice.{if◌then◌else◌}
 use Rattle.model.specs.Counters.{Counter, no_counter, counter_at, unreported, unreported_in, Placement, place_of, one_more_of, first_of, replacing, counters_after, dropped_by, after_report}
 use Rattle.model.specs.Site.{report_at}
 use Rattle.model.specs.SoundNetwork.{SoundCounter}

@@ -7,6 +7,7 @@
 --   sound_observed         an arrival; what moves then: unreported-moves, pending-moves
 --   sound_polled           kind 3; sound-told kind 7 (kind 5 changes nothing)
 --   up_to_within           kind 6 never counts more than the site's arrivals
+use Rattle.std.specs.Prelude.{if◌then◌else◌}
 use mathlib.Core.Path.{◌≡◌, refl, ap, ◌∙◌}
 use mathlib.Core.Bool.{Bool, true, false}
 use mathlib.Core.List.{List, [], ◌∷◌}
@@ -18,7 +19,6 @@ use borrow.Author.Tests.{leb-true, leb-false}
 use Rattle.laws.proofs.Sums.{sum_of}
 use Rattle.model.specs.declared.Settings.{Settings}
 use Rattle.model.specs.declared.Arrival.{Arrival}
-use Rattle.model.specs.Choice.{if◌then◌else◌}
 use Rattle.model.specs.Refusals.{no_refusal, site_full}
 use Rattle.model.specs.Limits.{value_count, site_limit}
 use Rattle.model.specs.Counters.{unreported, dropped_by}

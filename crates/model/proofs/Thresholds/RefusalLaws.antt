@@ -17,12 +17,13 @@
 --   passed                a row's test failed, and no later row refuses
 --
 -- What a call hands back by its refusal: accepts, refuses, refuses-by.
+use Rattle.std.specs.Prelude.{if◌then◌else◌}
 use mathlib.Core.Path.{◌≡◌, refl, sym, ap, ◌∙◌}
 use mathlib.Core.Bool.{Bool, true, false}
 use Prim.Native.Nat.{ℕ, zero, suc, ◌<◌}
 use native.Mathlib.Omega.{arith}
 use borrow.Author.Tests.{eq-eqb, ne_eqb}
-use Rattle.model.specs.Choice.{if◌then◌else◌, is_zero}
+use Rattle.model.specs.Choice.{is_zero}
 use Rattle.model.specs.Refusals.{when, ◌or_else◌, no_refusal}
 
 -- ---- The answer of a chain, row by row

@@ -8,9 +8,9 @@ root=$(cd "$(dirname "$0")/.." && pwd)
 file=${1:-$root/examples/one-draw.txt}
 case $file in /*) ;; *) file=$PWD/$file ;; esac
 [ -r "$file" ] || { printf 'run.sh: cannot read %s\n' "$file" >&2; exit 2; }
-cd "$root/crates/drawtrack"
+cd "$root"
 
-# Each crate as it is done, of what `rt` prints.
+# Each crate as it is proved, of what `rt` prints.
 progress() {
   local line name
   while IFS= read -r line; do

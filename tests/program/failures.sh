@@ -11,7 +11,7 @@ folder=$(mktemp -d)
 trap 'rm -rf "$folder"' EXIT
 
 with_status=$root/target/library/drawtrack
-proved=$root/crates/drawtrack/out/drawtrack
+proved=$root/target/bin/drawtrack
 passed=0
 failed=0
 

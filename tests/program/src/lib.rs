@@ -47,9 +47,9 @@ fn below_root(path: &str) -> PathBuf {
     Path::new(env!("CARGO_MANIFEST_DIR")).join("../..").join(path)
 }
 
-/// Where `bash examples/run.sh` leaves the proved program, which has no exit status.
+/// Where the gate leaves the proved program, which has no exit status.
 pub fn proved_program() -> PathBuf {
-    below_root("crates/drawtrack/out/drawtrack")
+    below_root("target/bin/drawtrack")
 }
 
 /// Where library/drawtrack/build.sh leaves the same run under a `main` of C.

@@ -143,8 +143,8 @@ module _ {settings : Settings} (passes : settings_refusal settings ≡ no_refusa
         }
 
     -- All that holds of a state of a history.
-    pub lasting_carried : Lasting settings (carried_to settings start site_memory
-    coordinator_memory)
+    pub lasting_carried : Lasting settings
+        (carried_to settings start site_memory coordinator_memory)
         n (holding state (carried_to settings state.held site_memory coordinator_memory))
     lasting_carried = record {
       ok = ok_carried passes state now.ok site_memory coordinator_memory;

@@ -98,8 +98,8 @@ module _ (settings : Settings) (held : Held) (bytes written : List ℕ) (saved :
         coordinator_after loaded
         → loaded.refusal ≡ no_refusal
         → ReadBack settings held site_memory coordinator_memory site_after coordinator_after loaded
-    read_back site_memory coordinator_memory site_after coordinator_after loaded load_says accepted
-    =
+    read_back site_memory coordinator_memory site_after coordinator_after loaded load_says
+        accepted =
         let says : LoadSays file site_memory coordinator_memory site_after coordinator_after loaded
         =
         subst (λ (theirs : List ℕ).
@@ -202,7 +202,7 @@ module _ {settings : Settings} (passes : settings_refusal settings ≡ no_refusa
     long = passed_save settings lent bytes written saved save_says save_accepted
 
     pub back : ReadBack settings lent site_memory coordinator_memory site_after coordinator_after
-    loaded
+        loaded
     back =
         read_back settings lent bytes written saved save_says save_accepted
         (of_machine passes state start now site_count coordinator_count

@@ -55,7 +55,7 @@ module _ (file site_memory coordinator_memory : List ℕ) where
   -- ---- Accepted
 
   module _ (accepts : load_refusal file (length site_memory) (length coordinator_memory) ≡
-    no_refusal)
+      no_refusal)
     where
       facts : Accepted file (length site_memory) (length coordinator_memory)
       facts = accepted_of file (length site_memory) (length coordinator_memory) accepts
@@ -118,8 +118,7 @@ module _ (file site_memory coordinator_memory : List ℕ) where
               coordinator = coordinator;
             })
         accepted_says site_after coordinator_after row sites coordinator stored desk-stored
-        sites_are
-            row_is found =
+            sites_are row_is found =
             let bench : held_in settings file ≡ bench_in file =
             ap (λ (s : Settings). held_in s file) settings_read in
             record {

@@ -99,7 +99,7 @@ module _ {settings : Settings} {own : SiteRecord} {written : ℕ} (arrival : Arr
           (written_is : written ≡ now.written) (numbers_are : numbers ≡ length now.log)
           (u : OneAsks settings (with_site_memory now memory)) where
         abbrev arrival_asks : ArrivalAsks settings arrival
-        (resting_in (with_site_memory now memory))
+            (resting_in (with_site_memory now memory))
         arrival_asks =
             one_asks u arrival is_draw_lem (none_due none now own_is written_is numbers_are u)
 

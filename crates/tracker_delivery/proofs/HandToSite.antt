@@ -148,8 +148,8 @@ module _ {settings : Settings} {carry : Carrying} (u : Delivering settings carry
         count_is = says.count ∙ ap (λ (x : Site). length (site_receives x m).messages) read
 
         abbrev out_is : answer.reply ≡ get_or after.messages 0 no_message
-        out_is = says.reply ∙ ap (λ (x : Site). get_or (site_receives x m).messages 0 no_message)
-        read
+        out_is =
+            says.reply ∙ ap (λ (x : Site). get_or (site_receives x m).messages 0 no_message) read
 
         pub site_sends : (answer.count ≡ 0 → ⊥)
             → SendAsks (traffic_of next) answer.reply carry.held.sites.messages carry.log

@@ -19,12 +19,12 @@ loop-i-preserved c =
     let scanning = c.loop-i.invariant in
     let order = sym c.is_before.ensures in
     elim c.if-is_before.branch [
-      then-is_before w ↦
-        rw w.best-is
-        (least_new memory a.used i best scanning (search rules) (order ∙ w.if-is_before.true))
-    | else-is_before w ↦
-        rw w.best-is
-        (least_old memory a.used i best scanning (search rules) (order ∙ w.if-is_before.false))
+      | then-is_before w ↦
+          rw w.best-is
+          (least_new memory a.used i best scanning (search rules) (order ∙ w.if-is_before.true))
+      | else-is_before w ↦
+          rw w.best-is
+          (least_old memory a.used i best scanning (search rules) (order ∙ w.if-is_before.false))
     ]
 
 pub returns : goal.returns

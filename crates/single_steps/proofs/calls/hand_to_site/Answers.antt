@@ -54,7 +54,7 @@ with_record-next-requires c =
 
 pub send-requires : goal.send-requires
 send-requires c =
-    c.pre.1.few_carried
+    c.requires.1.few_carried
 
 pub returns : goal.returns
 returns c =

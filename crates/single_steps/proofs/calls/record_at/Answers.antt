@@ -9,5 +9,5 @@ pub returns : goal.returns
 returns c =
     let records = c.args.sites.records in
     let all : length records ≡ 32 =
-    sym (length-map records _) ∙ c.well_formed.0.1.1.0.1.0.1 in
+    c.well_formed.0.1.1.0.1.0.1 in
     get_d_within records c.args.which _ _ (omega (arith, all, c.requires))

@@ -61,9 +61,9 @@ pub struct Handed {
 
 // Runs `drawtrack` on an input in memory. What it hands out stands in the first of the lent bytes,
 // with the end of each piece beside it, and what it says in the first bytes of `words`. Answers as
-// the run does: 0 after results, 1 after a refusal; 2 where the lent memory was too short. The pieces
-// are held in `held` first: a writer that is lent on keeps its bytes, but no contract says that it
-// keeps the place where they lie.
+// the run does: 0 after results, 1 after a refusal; 2 where the lent memory was too short. The
+// pieces are held in `held` first: a writer that is lent on keeps its bytes, but no contract says
+// that it keeps the place where they lie.
 #[unsafe(no_mangle)]
 pub extern "C" fn drawtrack_run_in_memory(
     input: &[u8],

@@ -25,12 +25,11 @@ loop-taken-init g c =
     let given =
     buffers c.args.site_memory.now c.args.coordinator_memory.now c.args.log.now
     c.args.list.now c.args.out.now in
-    let first = c.begin-first in
-    (
+    let first = c.begin-first in (
       serving_begins c.args.input.now given _ _ _ first.result first.ensures c.requires,
       handing_begins _ _ (take first.result.written first.new.out) _ _
-      (begins_bytes c.args.input.now given _ _ _ first.result first.ensures c.requires)
-      c.hand_out-taken.ensures,
+          (begins_bytes c.args.input.now given _ _ _ first.result first.ensures c.requires)
+          c.hand_out-taken.ensures,
     )
 
 pub hand_out-taken-requires-in-loop-taken : goal.hand_out-taken-requires-in-loop-taken
@@ -44,15 +43,14 @@ pub loop-taken-preserved : goal.loop-taken-preserved
 loop-taken-preserved g c =
     let (serving, handing) = c.loop-taken.invariant in
     let moved = c.advance-moved in
-    let more : c.loop-taken.turns < input_room = omega arith in
-    (
+    let more : c.loop-taken.turns < input_room = omega arith in (
       serving_on _ _ _ _ c.loop-taken.turns serving _ moved.result more c.if-session.true
-      moved.ensures,
+          moved.ensures,
       handing_on _ _ _ serving.bytes (take moved.result.written moved.new.out) _ _
-      (on_bytes _ _ _ _ c.loop-taken.turns serving _ moved.result more c.if-session.true
-      moved.ensures)
-      (subst (Handing _ _ serving.bytes) c.loop-taken-test.true handing)
-      c.hand_out-taken-in-loop-taken.ensures,
+          (on_bytes _ _ _ _ c.loop-taken.turns serving _ moved.result more c.if-session.true
+          moved.ensures)
+          (subst (Handing _ _ serving.bytes) c.loop-taken-test.true handing)
+          c.hand_out-taken-in-loop-taken.ensures,
     )
 
 -- ---- After the loop

@@ -75,7 +75,8 @@ fn moved_some(moved: usize, left: usize) -> Transfer
 fn read_some<R: io::Read>(from: &mut R, bytes: &mut [u8], at: usize) -> Transfer
     requires { at ≤ length bytes.old }
     ensures counts { ReadSomeSays at bytes.old bytes.new result }
-    ensures given { ReadSomeGives (R.remaining from.old) (R.remaining from.new) at bytes.new result }
+    ensures given { ReadSomeGives (R.remaining from.old) (R.remaining from.new) at bytes.new
+        result }
 {
     let got = from.read(&mut bytes[at..]);
     match got {

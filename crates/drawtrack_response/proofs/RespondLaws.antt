@@ -14,7 +14,7 @@ use borrow.Author.Tests.{le-leb, eq-eqb, ne_eqb}
 use Rattle.laws.specs.Writing.{written_at}
 use Rattle.laws.proofs.Writing.{written_nothing}
 use Rattle.model.specs.Refusals.{no_refusal}
-use Rattle.output_lines.specs.Promises.{written_to, at_start}
+use Rattle.output_lines.specs.Promises.{written_to}
 use Rattle.output_reason.specs.Reason.{reason_line, reason_room, ReasonSays}
 use Rattle.drawtrack_steps.specs.Outcome.{Buffers}
 use Rattle.drawtrack_course.specs.Ending.{Ending, ending}

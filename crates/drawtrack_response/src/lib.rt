@@ -1,7 +1,7 @@
 // The response of the program `drawtrack` to an input: its status and, of a refusal, the reason.
-// `respond` is internal: the program's run (`drawtrack_run`) calls it. Of a writer that tells what it
-// holds, what is handed out is proved; that it arrives at the system's own, and that a failure is
-// noticed, is tested.
+// `respond` is internal: the program's run (`drawtrack_run`) calls it. Of a writer that tells what
+// it holds, what is handed out is proved; that it arrives at the system's own, and that a failure
+// is noticed, is tested.
 
 #![tactic(auto)]
 

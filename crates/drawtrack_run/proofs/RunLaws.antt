@@ -7,9 +7,8 @@ use Rattle.std.proofs.Common.{◌≡◌, ◌≢◌, refl, sym, ap, ◌∙◌, su
 use Rattle.std.proofs.lemmas.Bool.{false≢true}
 use Rattle.std.specs.declared.option.Option.{Option}
 use Rattle.std.specs.Prelude.{Some, None}
-use Rattle.std.specs.Io.KnownBytes.{Appends, Consumes, IsAtEnd}
+use Rattle.std.specs.Io.KnownBytes.{Appends}
 use borrow.Author.Tests.{ltb-true, ltb-false}
-use Rattle.model.specs.Transcript.{transcript}
 use Rattle.descriptors.specs.declared.Read.{Read}
 use Rattle.descriptors.specs.Descriptors.{ReadAllGives}
 use Rattle.drawtrack_steps.specs.Outcome.{Buffers}
@@ -51,7 +50,7 @@ first_of whole piece rest room is few end = by_less (ltb (length piece) room) re
         omega (arith, few, ltb-false (length piece) room full) in
         sym (ap (take room) is ∙ take_at piece rest room same)
 
--- A response that is not 2 comes of an input that was read whole, and of which every write was taken.
+-- A response that is not 2 comes of an input that was read whole, and every write was taken.
 not_failed : (read : Bool) (input : List ℕ) (given left : Buffers) (before after : List ℕ)
     (answer : Response)
     → RespondSays read input given left before after answer

@@ -2,7 +2,7 @@
 --
 --   memory_says      what the run makes of an input, and a copy of it
 --   memory_failed    the lent memory was too short
-use Rattle.std.proofs.Common.{◌≡◌, refl, sym, ◌∙◌, List, ℕ, take, Some}
+use Rattle.std.proofs.Common.{◌≡◌, refl, ◌∙◌, List, ℕ, take, Some}
 use Rattle.drawtrack_response.specs.Responding.{status_failed}
 use Rattle.drawtrack_run.specs.Running.{RunGives}
 use Rattle.drawtrack_run_c.specs.Memory.{MemorySays}

@@ -61,9 +61,9 @@ pub struct Handed {
 
 // Runs `drawtrack` on an input in memory. What it hands out stands in the first of the lent bytes,
 // with the end of each piece beside it, and what it says in the first bytes of `words`. Answers as
-// the run does: 0 after results, 1 after a refusal; 2 where the lent memory was too short. The pieces
-// are held in `held` first: a writer that is lent on keeps its bytes, but no contract says that it
-// keeps the place where they lie.
+// the run does: 0 after results, 1 after a refusal; 2 where the lent memory was too short. The
+// pieces are held in `held` first: a writer that is lent on keeps its bytes, but no contract says
+// that it keeps the place where they lie.
 #[unsafe(no_mangle)]
 pub extern "C" fn drawtrack_run_in_memory(
     input: &[u8],
@@ -97,4 +97,81 @@ pub extern "C" fn drawtrack_run_in_memory(
     }
     bytes[..length].copy_from_slice(&pieces.bytes[..length]);
     status
+}
+
+#[cfg(test)]
+mod tests {
+    use super::*;
+    use std::test::Fail;
+
+    // The instance that the program's own example has: a piece of messages, and one of results.
+    #[test]
+    fn hands_out_results_in_two_pieces(rt: HostRuntime) -> Result<(), Fail> {
+        let mut held = [0u8; 128];
+        let mut bytes = [0u8; 128];
+        let mut ends = [0usize; 4];
+        let mut words = [0u8; 128];
+        let mut handed = Handed {
+            length: 0,
+            count: 0,
+            said: 0,
+        };
+        let status = drawtrack_run_in_memory(
+            b"1;1000;1000;500;6;10\n0;7;3\n",
+            &mut held,
+            &mut bytes,
+            &mut ends,
+            &mut words,
+            &mut handed,
+        );
+        assert_eq!(rt; status, 0);
+        assert_eq!(rt; handed.length, 68);
+        assert_eq!(rt; handed.count, 2);
+        assert_eq!(rt; handed.said, 0);
+        assert_eq!(rt; ends, [40, 68, 0, 0]);
+        let messages = b"1 0 7 1\n2 0 1 3\n3 0 0 0\n4 0 0 0\n7 0 1 1\n";
+        assert!(rt; bytes[..40] == messages[..]);
+        assert!(rt; bytes[40..68] == b"listed 7\nclass 3\nmessages 5\n"[..]);
+        Ok(())
+    }
+
+    // A refusal, its line and its reason; and no room for the line.
+    #[test]
+    fn says_why_it_refuses(rt: HostRuntime) -> Result<(), Fail> {
+        let mut held = [0u8; 16];
+        let mut bytes = [0u8; 16];
+        let mut ends = [0usize; 1];
+        let mut words = [0u8; 64];
+        let mut handed = Handed {
+            length: 0,
+            count: 0,
+            said: 0,
+        };
+        let status = drawtrack_run_in_memory(
+            b"x\n",
+            &mut held,
+            &mut bytes,
+            &mut ends,
+            &mut words,
+            &mut handed,
+        );
+        assert_eq!(rt; status, 1);
+        assert_eq!(rt; handed.length, 11);
+        assert_eq!(rt; handed.count, 1);
+        assert!(rt; bytes[..11] == b"refused 13\n"[..]);
+        assert_eq!(rt; handed.said, 53);
+        assert!(rt; words[..53] == b"drawtrack: settings line: refused 13: malformed line\n"[..]);
+        let mut short = [0u8; 10];
+        let failed = drawtrack_run_in_memory(
+            b"x\n",
+            &mut short,
+            &mut bytes,
+            &mut ends,
+            &mut words,
+            &mut handed,
+        );
+        assert_eq!(rt; failed, 2);
+        assert_eq!(rt; handed.length, 0);
+        Ok(())
+    }
 }

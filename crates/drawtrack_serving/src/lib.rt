@@ -1,6 +1,6 @@
 // The calls of a session, one after the other, and what they write handed out to a writer: the loop
-// of the program's run (`drawtrack_run`). That what is handed out arrives, and that a failure is
-// noticed, is tested and not proved.
+// of the program's run (`drawtrack_run`). Of a writer that tells what it holds, what is handed out
+// is proved; that it arrives at the system's own, and that a failure is noticed, is tested.
 
 #![tactic(auto)]
 

@@ -17,7 +17,6 @@ use Rattle.model.specs.Refusals.{no_refusal}
 use Rattle.model.specs.Messages.{message_width}
 use Rattle.model.specs.Draws.{draws_of}
 use Rattle.model.specs.SiteMemory.{overwrite}
-use Rattle.model.specs.CoordinatorMemory.{coordinator_memory}
 use Rattle.model.specs.Held.{network_of}
 use Rattle.model.specs.Network.{Network}
 use Rattle.model.specs.Runs.{Batch, batch_refusal, batch_from, batch_of}

@@ -1,6 +1,5 @@
 -- The list is refused, or its line and the others are written one after the other.
 use Rattle.drawtrack_steps.proofs.FinishLaws.{settings_pass, finish_refused, finish_listed}
-use borrow.Author.Rules.{rules}
 use Rattle.drawtrack_steps.proofs.finish.Goals as goal
 
 pub returns-then-listed-ne-NO_REFUSAL : goal.returns-then-listed-ne-NO_REFUSAL
@@ -16,12 +15,6 @@ total_count-total-requires c =
     let listed = c.list_heavy_hitters-listed in
     settings_pass start.session _ _ _ listed.result listed.ensures
     c.if-listed-ne-NO_REFUSAL.false
-
-pub shape_of-list : goal.shape_of-list
-shape_of-list c =
-    let known =
-    (goal.at.shape_of-list c).After-list-1 in
-    search rules
 
 pub returns : goal.returns
 returns c =

@@ -1,5 +1,4 @@
 -- Before the first call of `advance` it is the start's line, and later the last call's.
-use Rattle.drawtrack_start.specs.Start.{start_line}
 use Rattle.drawtrack_turns.proofs.ServingLaws.{line_first, line_later}
 use Rattle.drawtrack_turns.proofs.stopped_at.Goals as goal
 

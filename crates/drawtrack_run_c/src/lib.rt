@@ -129,9 +129,9 @@ mod tests {
         assert_eq!(rt; handed.count, 2);
         assert_eq!(rt; handed.said, 0);
         assert_eq!(rt; ends, [40, 68, 0, 0]);
-        let messages = b"1 0 7 1\n2 0 1 3\n3 0 0 0\n4 0 0 0\n7 0 1 1\n";
-        assert!(rt; bytes[..40] == messages[..]);
-        assert!(rt; bytes[40..68] == b"listed 7\nclass 3\nmessages 5\n"[..]);
+        let transcript =
+            b"1 0 7 1\n2 0 1 3\n3 0 0 0\n4 0 0 0\n7 0 1 1\nlisted 7\nclass 3\nmessages 5\n";
+        assert!(rt; bytes.starts_with(transcript));
         Ok(())
     }
 
@@ -158,9 +158,10 @@ mod tests {
         assert_eq!(rt; status, 1);
         assert_eq!(rt; handed.length, 11);
         assert_eq!(rt; handed.count, 1);
-        assert!(rt; bytes[..11] == b"refused 13\n"[..]);
+        assert!(rt; bytes.starts_with(b"refused 13\n"));
         assert_eq!(rt; handed.said, 53);
-        assert!(rt; words[..53] == b"drawtrack: settings line: refused 13: malformed line\n"[..]);
+        let reason = b"drawtrack: settings line: refused 13: malformed line\n";
+        assert!(rt; words.starts_with(reason));
         let mut short = [0u8; 10];
         let failed = drawtrack_run_in_memory(
             b"x\n",

@@ -23,16 +23,24 @@ record_at-numbers-requires c =
     site_few c.requires.fits c.args.arrival.site c.requires.known
 
 pub offset_bounds-site_memory-start : goal.offset_bounds-site_memory-start
-offset_bounds-site_memory-start c = omega (arith,
-    (starts (goal.at.offset_bounds-site_memory-start c).After-site_words).small)
+offset_bounds-site_memory-start c = omega (
+  arith,
+  (starts (goal.at.offset_bounds-site_memory-start c).After-site_words).small,
+)
 
 pub slice_bounds-observe-count : goal.slice_bounds-observe-count
-slice_bounds-observe-count c = omega (arith, (starts
-    (goal.at.slice_bounds-observe-count c).After-site_words).within)
+slice_bounds-observe-count c = omega (
+  arith,
+  (starts
+      (goal.at.slice_bounds-observe-count c).After-site_words).within,
+)
 
 pub slice_bounds-observe-start : goal.slice_bounds-observe-start
-slice_bounds-observe-start c = omega (arith, (starts
-    (goal.at.slice_bounds-observe-start c).After-site_words).within)
+slice_bounds-observe-start c = omega (
+  arith,
+  (starts
+      (goal.at.slice_bounds-observe-start c).After-site_words).within,
+)
 
 pub with_record-sites_then-requires : goal.with_record-sites_then-requires
 with_record-sites_then-requires c =

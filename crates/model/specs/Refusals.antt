@@ -5,7 +5,9 @@
 --
 -- A chain `when .. or_else when .. or_else accepted` is an ordered list of tests with their
 -- numbers.
-use Rattle.std.specs.Prelude.{Bool, true, false, ℕ, zero, suc}
+use Rattle.std.specs.Prelude.{Bool, true, false, ℕ, zero, suc, Result, Ok, Err}
+use Rattle.model.specs.declared.Refusal.{Refusal}
+use Rattle.model.specs.declared.Refusal.TheVariants.{SettingOutOfRange, PhiBelowEpsilon, TooFewCounters, MemoryTooShort, UnknownSite, UnknownItem, ValueTooLarge, SiteFull, MessageNotDue, AmountNotDue, MemoryInconsistent, ListTooShort, MalformedLine, LogTooShort, FileUnreadable, ChecksumWrong}
 
 infixr 15 ◌or_else◌
 abbrev pub when : Bool → ℕ → ℕ
@@ -83,3 +85,27 @@ file_unreadable = 15
 -- Request N3: "16 .. when the sum differs"
 abbrev pub checksum_wrong : ℕ
 checksum_wrong = 16
+
+-- The number of a refusal: "refused by its own number".
+abbrev pub number_of : Refusal → ℕ
+number_of SettingOutOfRange = setting_out_of_range
+number_of PhiBelowEpsilon = phi_below_epsilon
+number_of TooFewCounters = too_few_counters
+number_of MemoryTooShort = memory_too_short
+number_of UnknownSite = unknown_site
+number_of UnknownItem = unknown_item
+number_of ValueTooLarge = value_too_large
+number_of SiteFull = site_full
+number_of MessageNotDue = message_not_due
+number_of AmountNotDue = amount_not_due
+number_of MemoryInconsistent = memory_inconsistent
+number_of ListTooShort = list_too_short
+number_of MalformedLine = malformed_line
+number_of LogTooShort = log_too_short
+number_of FileUnreadable = file_unreadable
+number_of ChecksumWrong = checksum_wrong
+
+-- What a call comes to, as a number: that of its refusal, or 0 where it accepts.
+abbrev pub refusal_in : {A : Type 0} → Result A Refusal → ℕ
+refusal_in (Ok _) = no_refusal
+refusal_in (Err refusal) = number_of refusal

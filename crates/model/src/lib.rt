@@ -6,6 +6,9 @@
 
 #![tactic(auto)]
 
+ghost use Rattle.std.specs.Prelude.{◌≡◌};
+ghost use Rattle.model.specs.Refusals.{number_of, refusal_in};
+
 // Why a call is refused: document 01's table "Refused".
 pub const NO_REFUSAL: u32 = 0;
 
@@ -40,6 +43,46 @@ pub const LOG_TOO_SHORT: u32 = 14;
 pub const FILE_UNREADABLE: u32 = 15;
 
 pub const CHECKSUM_WRONG: u32 = 16;
+
+// Why a call is refused: document 01's table "Refused", each row with its number.
+#[derive(Clone, Copy, Debug, PartialEq, Eq)]
+pub enum Refusal {
+    SettingOutOfRange = 1,
+    PhiBelowEpsilon = 2,
+    TooFewCounters = 3,
+    MemoryTooShort = 4,
+    UnknownSite = 5,
+    UnknownItem = 6,
+    ValueTooLarge = 7,
+    SiteFull = 8,
+    MessageNotDue = 9,
+    AmountNotDue = 10,
+    MemoryInconsistent = 11,
+    ListTooShort = 12,
+    MalformedLine = 13,
+    LogTooShort = 14,
+    FileUnreadable = 15,
+    ChecksumWrong = 16,
+}
+
+impl Refusal {
+    // The number of a refusal.
+    pub fn number(self) -> u32
+        ensures { result ≡ number_of self }
+    {
+        self as u32
+    }
+}
+
+// What a test came to, as the number that a caller outside is told: 0 where it accepts.
+pub fn refusal_number(tested: Result<(), Refusal>) -> u32
+    ensures { result ≡ refusal_in tested }
+{
+    match tested {
+        Ok(()) => 0,
+        Err(refusal) => refusal.number(),
+    }
+}
 
 // The ranges of the settings: "Decks k 1 to 32. Leeway e 2 to 1000, list share p 1 to 1000, rank q
 // 1 to 1000, all in thousandths. Slots c 1 to 3000 for each deck. Code space u 1 to 65,536". All

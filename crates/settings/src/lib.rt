@@ -6,21 +6,15 @@
 ghost use Rattle.std.specs.Prelude.{◌≡◌, not};
 ghost use Rattle.model.specs.Choice.{between};
 ghost use Rattle.model.specs.Limits.{most_messages};
+ghost use Rattle.model.specs.Refusals.{refusal_in};
 ghost use Rattle.model.specs.Settings.{in_range, settings_refusal, digits};
 ghost use Rattle.settings.specs.Promises.{AllowanceSays};
 
 use model::{
     ALLOWANCE_FACTOR, ARRIVAL_MESSAGES, CLOSING_MESSAGES, LEAST_EPSILON, LEAST_PRODUCT,
     LEAST_SETTING, MOST_CAPACITY, MOST_EPSILON, MOST_PHI, MOST_RANK, MOST_SITES, MOST_UNIVERSE,
-    NO_REFUSAL, PHI_BELOW_EPSILON, SETTING_OUT_OF_RANGE, Settings, TOO_FEW_COUNTERS,
+    Refusal, Settings,
 };
-
-// The allowance, or the refusal of the settings and 0.
-#[derive(Clone, Copy)]
-pub struct Allowance {
-    pub refusal: u32,
-    pub messages: u64,
-}
 
 // Whether x is none of the numbers from low to high.
 fn outside(low: u32, x: u32, high: u32) -> bool
@@ -54,21 +48,21 @@ fn any_outside(settings: Settings) -> bool
     outside(LEAST_SETTING, settings.universe, MOST_UNIVERSE)
 }
 
-// The settings test: refusal 1, 2 or 3, tested in this order, or 0.
-pub fn test_settings(settings: Settings) -> u32
-    ensures { result ≡ settings_refusal settings }
+// The settings test: refusal 1, 2 or 3, tested in this order.
+pub fn test_settings(settings: Settings) -> Result<(), Refusal>
+    ensures { refusal_in result ≡ settings_refusal settings }
 {
     if any_outside(settings) {
-        return SETTING_OUT_OF_RANGE;
+        return Err(Refusal::SettingOutOfRange);
     }
     if settings.phi < settings.epsilon {
-        return PHI_BELOW_EPSILON;
+        return Err(Refusal::PhiBelowEpsilon);
     }
     let product = (settings.capacity as u64) * (settings.epsilon as u64);
     if product < LEAST_PRODUCT {
-        return TOO_FEW_COUNTERS;
+        return Err(Refusal::TooFewCounters);
     }
-    NO_REFUSAL
+    Ok(())
 }
 
 // How many messages follow one arrival at most: "23 × k + 2".
@@ -92,21 +86,12 @@ fn count_digits(n: u64) -> u64
 }
 
 // How many messages n arrivals may cost at most under these settings (demand 3).
-pub fn message_allowance(settings: Settings, arrivals: u64) -> Allowance
+pub fn message_allowance(settings: Settings, arrivals: u64) -> Result<u64, Refusal>
     ensures { AllowanceSays settings arrivals result }
 {
-    let refusal = test_settings(settings);
-    if refusal != NO_REFUSAL {
-        return Allowance {
-            refusal: refusal,
-            messages: 0,
-        };
-    }
+    test_settings(settings)?;
     let rounds = count_digits(arrivals) + 1;
     let sites = settings.sites as u64;
     let epsilon = settings.epsilon as u64;
-    Allowance {
-        refusal: NO_REFUSAL,
-        messages: ALLOWANCE_FACTOR * (sites * rounds) / epsilon,
-    }
+    Ok(ALLOWANCE_FACTOR * (sites * rounds) / epsilon)
 }

@@ -8,6 +8,9 @@
 --   refuse, refuse_part   the answer: a row whose test holds, or a part that refuses
 --   end                   the answer: what the rest says
 --   told                  a test, or a part, by the result of the call that found it
+--   refuse_err            the answer: a part whose call refused
+--
+-- What a call's refusal says of its number: accepted_by, refused_by, some_number.
 --
 -- The row and what comes after it are read off the step before (`_`, and `refl`).
 --
@@ -17,14 +20,16 @@
 --   passed                a row's test failed, and no later row refuses
 --
 -- What a call hands back by its refusal: accepts, refuses, refuses-by.
-use Rattle.std.specs.Prelude.{if◌then◌else◌}
+use Rattle.std.specs.Prelude.{if◌then◌else◌, Result, Ok, Err}
 use mathlib.Core.Path.{◌≡◌, refl, sym, ap, ◌∙◌}
 use mathlib.Core.Bool.{Bool, true, false}
 use Prim.Native.Nat.{ℕ, zero, suc, ◌<◌}
 use native.Mathlib.Omega.{arith}
 use borrow.Author.Tests.{eq-eqb, ne_eqb}
+use Rattle.model.specs.declared.Refusal.{Refusal}
+use Rattle.model.specs.declared.Refusal.TheVariants.{SettingOutOfRange, PhiBelowEpsilon, TooFewCounters, MemoryTooShort, UnknownSite, UnknownItem, ValueTooLarge, SiteFull, MessageNotDue, AmountNotDue, MemoryInconsistent, ListTooShort, MalformedLine, LogTooShort, FileUnreadable, ChecksumWrong}
 use Rattle.model.specs.Choice.{is_zero}
-use Rattle.model.specs.Refusals.{when, ◌or_else◌, no_refusal}
+use Rattle.model.specs.Refusals.{when, ◌or_else◌, no_refusal, number_of, refusal_in}
 
 -- ---- The answer of a chain, row by row
 
@@ -82,6 +87,47 @@ pub told : {A : Type 0} {result value known : A}
     → value ≡ known
 told is Known-is = sym is ∙ Known-is
 
+-- ---- What a call says of its number
+
+zero≢suc : {n : ℕ} → zero ≡ suc n → ⊥
+zero≢suc impossible = omega arith
+
+module _ {A : Type 0} {answer : Result A Refusal} {known : ℕ} (is : refusal_in answer ≡ known) where
+  pub accepted_by : {value : A} → answer ≡ Ok value → known ≡ no_refusal
+  accepted_by was = sym is ∙ ap refusal_in was
+
+  pub refused_by : {refusal : Refusal} → answer ≡ Err refusal → known ≡ number_of refusal
+  refused_by was = sym is ∙ ap refusal_in was
+
+-- No refusal has the number 0.
+pub some_number : (refusal : Refusal) → number_of refusal ≡ no_refusal → ⊥
+some_number SettingOutOfRange none = absurd (zero≢suc (sym none))
+some_number PhiBelowEpsilon none = absurd (zero≢suc (sym none))
+some_number TooFewCounters none = absurd (zero≢suc (sym none))
+some_number MemoryTooShort none = absurd (zero≢suc (sym none))
+some_number UnknownSite none = absurd (zero≢suc (sym none))
+some_number UnknownItem none = absurd (zero≢suc (sym none))
+some_number ValueTooLarge none = absurd (zero≢suc (sym none))
+some_number SiteFull none = absurd (zero≢suc (sym none))
+some_number MessageNotDue none = absurd (zero≢suc (sym none))
+some_number AmountNotDue none = absurd (zero≢suc (sym none))
+some_number MemoryInconsistent none = absurd (zero≢suc (sym none))
+some_number ListTooShort none = absurd (zero≢suc (sym none))
+some_number MalformedLine none = absurd (zero≢suc (sym none))
+some_number LogTooShort none = absurd (zero≢suc (sym none))
+some_number FileUnreadable none = absurd (zero≢suc (sym none))
+some_number ChecksumWrong none = absurd (zero≢suc (sym none))
+
+-- The answer of a chain: that of a part whose call refused.
+pub refuse_err : {A : Type 0} {called : Result A Refusal} {refusal : Refusal} {answer : ℕ}
+    (first later : ℕ) (so_far : Still answer)
+    → so_far.rest ≡ (first or_else later)
+    → refusal_in called ≡ first
+    → called ≡ Err refusal
+    → number_of refusal ≡ answer
+refuse_err {refusal = refusal} first later so_far is told_first was =
+    refuse_part first later so_far is (sym (refused_by told_first was)) (some_number refusal)
+
 -- ---- A chain that refuses nothing
 
 pub record BothAccepted (first later : ℕ) : Type 0 where
@@ -107,9 +153,6 @@ passed true refusal later positive none =
 passed false refusal later positive none = record { test_failed = refl; later_accepted = none }
 
 -- ---- What is handed back
-
-zero≢suc : {n : ℕ} → zero ≡ suc n → ⊥
-zero≢suc impossible = omega arith
 
 module _ {A : Type 0} (refusal : ℕ) (chosen other : A) where
   pub accepts : refusal ≡ no_refusal → chosen ≡ (if is_zero refusal then chosen else other)

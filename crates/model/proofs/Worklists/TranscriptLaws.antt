@@ -16,11 +16,11 @@ use lib.Seq.{take_all, take-append-add, length-take-le}
 use borrow.Author.Tests.{lt-ltb, ne_eqb}
 use Rattle.model.specs.declared.Settings.{Settings}
 use Rattle.model.specs.Choice.{is_zero}
-use Rattle.model.specs.Refusals.{when, ◌or_else◌, no_refusal, memory_too_short, malformed_line}
+use Rattle.model.specs.Refusals.{when, ◌or_else◌, no_refusal, memory_too_short}
 use Rattle.model.specs.Settings.{settings_refusal}
 use Rattle.model.specs.Lines.{Fields, malformed, fields, line_feed, read_fields, settings_of, read_worklist}
 use Rattle.model.specs.Runs.{fresh_run}
-use Rattle.model.specs.Transcript.{transcript, transcript_of, transcript_with, transcript_from, beyond_program, program_refusal, refused_line}
+use Rattle.model.specs.Transcript.{transcript_of, transcript_with, transcript_from, beyond_program, program_refusal, refused_line}
 use Rattle.model.specs.TranscriptClaims.{TranscriptClaims}
 use Rattle.model.proofs.Worklists.LineTaken.{FieldsTaken, fields_taken}
 

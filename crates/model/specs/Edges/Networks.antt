@@ -6,7 +6,7 @@ use Rattle.model.specs.declared.Phase.TheVariants.{Idle, Announcing}
 use Rattle.model.specs.Settings.{settings_with}
 use Rattle.model.specs.Network.{Network, fresh_network, with_site}
 use Rattle.model.specs.NetworkMemory.{fresh_sites, network_refusal}
-use Rattle.model.specs.Runs.{Batch, batch_refusal, batch_of, run_of}
+use Rattle.model.specs.Runs.{batch_refusal, batch_of, run_of}
 use Rattle.model.specs.Instances.{settings_a, settings_p6, arrival_with, draw, draws, messages_p2}
 use Rattle.model.specs.Edges.Inputs.{site_numbers, coordinator_numbers, fresh_numbers, end_counts, network_refusal_of}
 use Rattle.model.specs.Edges.Sites.{site_having}

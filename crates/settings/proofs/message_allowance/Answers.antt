@@ -1,12 +1,12 @@
 -- The allowance is the definition's quotient: settings that pass their test keep every product
 -- within 64 bits, since the sites are few and digits at most 64.
-use mathlib.Core.Path.{◌≡◌, sym, ◌∙◌, ap}
+use mathlib.Core.Path.{◌≡◌, sym, ap}
 use Prim.Native.Nat.{ℕ, ◌+◌, ◌*◌, ◌/◌, ◌≤◌}
 use native.Mathlib.Nat.{mul-le-mul}
 use native.Mathlib.Omega.{arith}
-use borrow.Author.Tests.{eq-eqb, ne_eqb}
 use Rattle.model.specs.Limits.{most_sites, allowance_factor}
 use Rattle.model.specs.Settings.{settings_refusal}
+use Rattle.model.proofs.Thresholds.RefusalLaws.{accepted_by}
 use Rattle.model.proofs.Thresholds.SettingsLaws.{settled}
 use Rattle.model.proofs.MessageCount.Digits.{digits_bound}
 use Rattle.settings.proofs.message_allowance.Goals as goal
@@ -25,7 +25,7 @@ few_digits c =
 -- Where the branch was not taken, the settings are accepted.
 none_refused : (c : After-count_digits-rounds)
     → settings_refusal c.args.settings ≡ 0
-none_refused c = sym c.test_settings-refusal.ensures ∙ c.if-refusal-ne-NO_REFUSAL.false
+none_refused c = accepted_by c.test_settings.ensures c.in_ok-test_settings.was
 
 -- The number n has at most 64 digits.
 few_rounds : (c : After-count_digits-rounds)
@@ -35,16 +35,6 @@ few_rounds c =
     let few : c.count_digits-rounds.result + 1 ≤ 65 = omega (arith, few_digits c) in
     let facts = settled c.args.settings (none_refused c) in
     omega (arith, mul-le-mul facts.sites.at_most few)
-
-pub returns-then-refusal-ne-NO_REFUSAL : goal.returns-then-refusal-ne-NO_REFUSAL
-returns-then-refusal-ne-NO_REFUSAL c =
-    let answer = c.test_settings-refusal in
-    record {
-      refusal = answer.ensures;
-      messages =
-          rw (ne_eqb (settings_refusal c.args.settings) 0
-          (λ none. c.if-refusal-ne-NO_REFUSAL.true (answer.ensures ∙ none)));
-    }
 
 pub overflow_add-rounds : goal.overflow_add-rounds
 overflow_add-rounds c = record { fits = omega (arith, few_digits c) }
@@ -64,11 +54,9 @@ nonzero_div-result c =
 pub returns : goal.returns
 returns c =
     let s = c.args.settings in
-    let none = none_refused c.before.before in
     record {
-      refusal = sym none;
+      refusal = sym (none_refused c.before.before);
       messages =
-          rw (eq-eqb (settings_refusal s) 0 none)
-          (ap (λ (n : ℕ). allowance_factor s * (s.sites * (n + 1)) / s.epsilon)
-          c.count_digits-rounds.ensures);
+          ap (λ (n : ℕ). allowance_factor s * (s.sites * (n + 1)) / s.epsilon)
+          c.count_digits-rounds.ensures;
     }

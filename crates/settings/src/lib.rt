@@ -6,8 +6,8 @@
 ghost use Rattle.std.specs.Prelude.{◌≡◌, not};
 ghost use Rattle.model.specs.Choice.{between};
 ghost use Rattle.model.specs.Limits.{most_messages};
-ghost use Rattle.model.specs.Refusals.{refusal_in};
-ghost use Rattle.model.specs.Settings.{in_range, settings_refusal, digits};
+ghost use Rattle.model.specs.Refusals.{no_refusal, refusal_in};
+ghost use Rattle.model.specs.Settings.{in_range, settings_refusal, digits, allowance};
 ghost use Rattle.settings.specs.Promises.{AllowanceSays};
 
 use model::{
@@ -85,13 +85,21 @@ fn count_digits(n: u64) -> u64
     count
 }
 
+// How many messages n arrivals may cost at most under settings that passed their test.
+fn allowance_of(settings: Settings, arrivals: u64) -> u64
+    requires { settings_refusal settings ≡ no_refusal }
+    ensures { result ≡ allowance settings arrivals }
+{
+    let rounds = count_digits(arrivals) + 1;
+    let sites = settings.sites as u64;
+    let epsilon = settings.epsilon as u64;
+    ALLOWANCE_FACTOR * (sites * rounds) / epsilon
+}
+
 // How many messages n arrivals may cost at most under these settings (demand 3).
 pub fn message_allowance(settings: Settings, arrivals: u64) -> Result<u64, Refusal>
     ensures { AllowanceSays settings arrivals result }
 {
     test_settings(settings)?;
-    let rounds = count_digits(arrivals) + 1;
-    let sites = settings.sites as u64;
-    let epsilon = settings.epsilon as u64;
-    Ok(ALLOWANCE_FACTOR * (sites * rounds) / epsilon)
+    Ok(allowance_of(settings, arrivals))
 }

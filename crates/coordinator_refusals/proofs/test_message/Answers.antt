@@ -6,5 +6,6 @@ use Rattle.coordinator_refusals.proofs.test_message.Goals as goal
 
 pub returns : goal.returns
 returns c memory =
-    end (pass _ _ _ (begin _) refl (lt-leb _ _ c.if-settings-message.false))
+    end (pass _ _ _ (begin _) refl (lt-leb c.args.message.site c.args.settings.sites
+    (omega (arith, c.if-settings-message.false))))
     (c.test_due.ensures memory)

@@ -9,7 +9,7 @@ use Rattle.model.specs.Refusals.{no_refusal, malformed_line, number_of}
 use Rattle.model.specs.Lines.{Fields, malformed, fields, read_fields, arrival_of, Worklist, ended, malformed_at, next}
 use Rattle.model.specs.declared.Arrival.{Arrival}
 use Rattle.model.specs.declared.Refusal.{Refusal}
-use Rattle.worklist_reader.specs.declared.LineStep.{LineStep}
+use Rattle.worklist_reader.specs.declared.NextLine.{NextLine}
 
 -- The last number that a line can have, and the number of the line after one.
 abbrev pub last_line : ℕ
@@ -69,8 +69,15 @@ step_in (Ok (Some arrival)) at line = record {
 step_in (Ok None) at line = standing no_refusal at line
 step_in (Err refusal) at line = standing (number_of refusal) at line
 
-abbrev pub step_of_line : LineStep → Step
-step_of_line step = step_in step.read step.at step.line
+-- The step that takes a line that was read.
+abbrev pub step_to : NextLine → Step
+step_to taken = step_in (Ok (Some taken.arrival)) taken.at taken.line
+
+-- The step that an answer stands for, of a walk that stood at a place and line.
+abbrev pub step_of_line : ℕ → ℕ → Result (Option NextLine) Refusal → Step
+step_of_line at line (Ok (Some taken)) = step_to taken
+step_of_line at line (Ok None) = standing no_refusal at line
+step_of_line at line (Err refusal) = standing (number_of refusal) at line
 
 -- ---- All steps
 

@@ -17,12 +17,11 @@ pub struct SettingsRead {
     pub used: usize,
 }
 
-// One step of a walk through a worklist: the arrival that was read, none at the end, or refusal 13;
-// and where the walk stands after the step: a place in the bytes, and the number of the line there,
-// counted from 0. A walk stays before a malformed line, so `line` is that line's number.
+// A line of a worklist that was read: its arrival, and where a walk through the worklist stands
+// after it: a place in the bytes, and the number of the line there, counted from 0.
 #[derive(Clone, Copy)]
-pub struct LineStep {
-    pub read: Result<Option<Arrival>, Refusal>,
+pub struct NextLine {
+    pub arrival: Arrival,
     pub at: usize,
     pub line: usize,
 }
@@ -91,15 +90,18 @@ impl<'a> Reader<'a> {
 }
 
 // The line at a place of a worklist, by a reader that stands there: for a caller that keeps the
-// place and the line's number between its calls, and can keep no reference.
-pub fn read_line(bytes: &[u8], at: usize, line: usize) -> LineStep
-    ensures { step_of_line result ≡ step_at bytes.now at line }
+// place and the line's number between its calls, and can keep no reference. At the end, and before
+// a malformed line, the walk stays where it is: `line` is that line's number.
+pub fn read_line(bytes: &[u8], at: usize, line: usize) -> Result<Option<NextLine>, Refusal>
+    ensures { step_of_line at line result ≡ step_at bytes.now at line }
 {
     let mut reader = Reader { bytes, at, line };
-    let read = reader.next();
-    LineStep {
-        read,
+    let Some(arrival) = reader.next()? else {
+        return Ok(None);
+    };
+    Ok(Some(NextLine {
+        arrival,
         at: reader.at,
         line: reader.line,
-    }
+    }))
 }

@@ -4,97 +4,85 @@
 
 #![tactic(auto)]
 
-ghost use Rattle.std.specs.Prelude.{◌≡◌};
-ghost use Rattle.site.specs.Calls.{observe_refusal, unchanged_by, receive_refusal, ObserveSays, SiteReceiveSays};
+ghost use Rattle.std.specs.Prelude.{◌≡◌, Ok};
+ghost use Rattle.model.specs.Refusals.{no_refusal, refusal_in};
+ghost use Rattle.site.specs.Calls.{observation, observe_refusal, unchanged_by, ObserveSays, site_reply, receive_refusal, SiteReceiveSays};
 
 use messages::no_message;
-use model::{Arrival, Message, NO_REFUSAL, Settings, SiteRecord, UNKNOWN_SITE, Word};
+use model::{Arrival, Message, Refusal, Settings, SiteRecord, Word};
 use site_receiving::Replied;
 use site_steps::Observed;
 
-// Why an arrival is refused: 1, 2, 3, 4, 11; then 5, 6, 7; then 8, unless it is a touch.
-fn observe_refusal(settings: Settings, site: SiteRecord, arrival: Arrival, memory: &[Word]) -> u32
-    ensures { result ≡ observe_refusal settings site arrival memory.now }
+// Whether an arrival is accepted: 1, 2, 3, 4, 11; then 5, 6, 7; then 8, unless it is a touch.
+fn test_observe(
+    settings: Settings,
+    site: SiteRecord,
+    arrival: Arrival,
+    memory: &[Word],
+) -> Result<(), Refusal>
+    ensures { refusal_in result ≡ observe_refusal settings site arrival memory.now }
 {
-    let refusal = site_memory::site_memory_refusal(settings, site, memory);
-    if refusal != NO_REFUSAL {
-        return refusal;
-    }
-    site_refusals::line_refusal(settings, site, arrival)
+    site_memory::test_site_memory(settings, site, memory)?;
+    site_refusals::test_arrival(settings, site, arrival)
 }
 
-// The answer of an arrival that changes nothing: refused with this number, or a touch.
-fn unchanged(refusal: u32, site: SiteRecord) -> Observed
-    ensures { result ≡ unchanged_by refusal site }
+// The answer of a touch, which changes nothing.
+fn unchanged(site: SiteRecord) -> Observed
+    ensures { observation site (Ok result) ≡ unchanged_by no_refusal site }
 {
-    let none = no_message();
     Observed {
-        refusal: refusal,
-        site: site,
+        site,
         count: 0,
-        first: none,
-        second: none,
+        first: no_message(),
+        second: no_message(),
     }
 }
 
 // An arrival at a site, with its messages. The memory is the site's own, and may be longer.
+#[tactic(auto, using(crate::proofs::CallLaws::observing))]
 pub fn observe(
     settings: Settings,
     site: SiteRecord,
     arrival: Arrival,
     memory: &mut [Word],
-) -> Observed
-    ensures { ObserveSays settings site arrival memory.old memory.new result }
+) -> Result<Observed, Refusal>
+    ensures { ObserveSays settings site arrival memory.old memory.new (observation site result) }
 {
-    let refusal = observe_refusal(settings, site, arrival, memory);
-    if refusal != NO_REFUSAL {
-        return unchanged(refusal, site);
-    }
+    test_observe(settings, site, arrival, memory)?;
     if site_refusals::is_draw(arrival) {
-        return site_steps::observe_step(settings, site, arrival, memory);
+        return Ok(site_steps::observe_step(settings, site, arrival, memory));
     }
-    unchanged(refusal, site)
+    Ok(unchanged(site))
 }
 
-// Why a message is refused: 1, 2, 3, 4, 11; 5 for the site's own number; then 5, 9, 7, 10.
-fn receive_refusal(
+// Whether a message is accepted: 1, 2, 3, 4, 11; 5 for the site's own number; then 5, 9, 7, 10.
+fn test_receive(
     settings: Settings,
     site: SiteRecord,
     which: u32,
     message: Message,
     memory: &[Word],
-) -> u32
-    ensures { result ≡ receive_refusal settings site which message memory.now }
+) -> Result<(), Refusal>
+    ensures { refusal_in result ≡ receive_refusal settings site which message memory.now }
 {
-    let refusal = site_memory::site_memory_refusal(settings, site, memory);
-    if refusal != NO_REFUSAL {
-        return refusal;
-    }
+    site_memory::test_site_memory(settings, site, memory)?;
     if settings.sites <= which {
-        return UNKNOWN_SITE;
+        return Err(Refusal::UnknownSite);
     }
-    site_refusals::message_refusal(settings, site, which, message)
+    site_refusals::test_message(settings, site, which, message)
 }
 
 // A message at site `which`, with the reply, if there is one. The memory is only read.
+#[tactic(auto, using(crate::proofs::CallLaws::receive_asks))]
 pub fn receive(
     settings: Settings,
     site: SiteRecord,
     which: u32,
     message: Message,
     memory: &[Word],
-) -> Replied
-    ensures { SiteReceiveSays settings site which message memory.now result }
+) -> Result<Replied, Refusal>
+    ensures { SiteReceiveSays settings site which message memory.now (site_reply site result) }
 {
-    let refusal = receive_refusal(settings, site, which, message, memory);
-    if refusal != NO_REFUSAL {
-        let none = no_message();
-        return Replied {
-            refusal: refusal,
-            site: site,
-            count: 0,
-            reply: none,
-        };
-    }
-    site_receiving::receive_step(settings, site, message, memory)
+    test_receive(settings, site, which, message, memory)?;
+    Ok(site_receiving::receive_step(settings, site, message, memory))
 }

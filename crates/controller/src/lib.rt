@@ -6,11 +6,12 @@ ghost use Rattle.std.specs.Prelude.{◌≡◌};
 ghost use Rattle.model.specs.Settings.{settings_with, settings_refusal};
 ghost use Rattle.controller.specs.Promises.{AllowanceExported, LineExported, line_numbers};
 
-use model::{NO_REFUSAL, Settings};
+use model::{NO_REFUSAL, Settings, refusal_number};
 use settings::{message_allowance, test_settings};
 use worklist::test_line;
 
 // The settings with these numbers.
+// As it is: the C interface names the six settings one by one.
 fn settings_from(
     sites: u32,
     epsilon: u32,
@@ -22,12 +23,12 @@ fn settings_from(
     ensures { result ≡ settings_with sites epsilon phi rank capacity universe }
 {
     Settings {
-        sites: sites,
-        epsilon: epsilon,
-        phi: phi,
-        rank: rank,
-        capacity: capacity,
-        universe: universe,
+        sites,
+        epsilon,
+        phi,
+        rank,
+        capacity,
+        universe,
     }
 }
 
@@ -42,7 +43,7 @@ pub fn tracker_test_settings(
 ) -> u32
     ensures { result ≡ settings_refusal (settings_with sites epsilon phi rank capacity universe) }
 {
-    test_settings(settings_from(sites, epsilon, phi, rank, capacity, universe))
+    refusal_number(test_settings(settings_from(sites, epsilon, phi, rank, capacity, universe)))
 }
 
 // The allowance of `arrivals` draws into `messages`, or the refusal of the settings.
@@ -60,11 +61,13 @@ pub fn tracker_allowance(
         arrivals messages.old messages.new result }
 {
     let settings = settings_from(sites, epsilon, phi, rank, capacity, universe);
-    let allowance = message_allowance(settings, arrivals);
-    if allowance.refusal == NO_REFUSAL {
-        *messages = allowance.messages;
+    match message_allowance(settings, arrivals) {
+        Ok(allowance) => {
+            *messages = allowance;
+            NO_REFUSAL
+        }
+        Err(refusal) => refusal.number(),
     }
-    allowance.refusal
 }
 
 // The line test: deck, code and class of the first line and the bytes it takes, or refusal 13.
@@ -80,12 +83,14 @@ pub fn tracker_test_line(
         (line_numbers site.new item.new value.new used.new)
         result }
 {
-    let line = test_line(bytes);
-    if line.refusal == NO_REFUSAL {
-        *site = line.arrival.site;
-        *item = line.arrival.item;
-        *value = line.arrival.value;
-        *used = line.used;
+    match test_line(bytes) {
+        Ok(line) => {
+            *site = line.arrival.site;
+            *item = line.arrival.item;
+            *value = line.arrival.value;
+            *used = line.used;
+            NO_REFUSAL
+        }
+        Err(malformed) => malformed.number(),
     }
-    line.refusal
 }

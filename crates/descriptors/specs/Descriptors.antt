@@ -9,32 +9,55 @@
 --   ReadAllGives old new after read           its bytes
 --   WriteAllSays bytes taken                  a whole writing
 --   WriteAllGives old new bytes taken         its bytes
-use Rattle.std.specs.Prelude.{◌≡◌, Bool, true, List, ℕ, ◌+◌, ◌<◌, ◌≤◌, length, take, drop}
+--   FailGives old new what                    the line of a failure
+use Rattle.std.specs.Prelude.{◌≡◌, Bool, true, false, Result, Ok, Err, List, [], ◌∷◌, ◌++◌, ℕ, ◌+◌, ◌<◌, ◌≤◌, length, take, drop}
 use Rattle.std.specs.declared.option.Option.{Option}
 use Rattle.std.specs.Io.KnownBytes.{Appends, Consumes, IsAtEnd}
 use Rattle.descriptors.specs.declared.Transfer.{Transfer}
-use Rattle.descriptors.specs.declared.Read.{Read}
+use Rattle.descriptors.specs.declared.Transfer.TheVariants.{Whole, Part, Failed}
+use Rattle.descriptors.specs.declared.ReadFailed.{ReadFailed}
+
+-- How many bytes a call moved, and whether nothing is missing after it.
+abbrev pub moved_by : Transfer → ℕ
+moved_by (Whole moved) = moved
+moved_by (Part moved) = moved
+moved_by (Failed error) = 0
+
+abbrev pub is_whole : Transfer → Bool
+is_whole (Whole moved) = true
+is_whole (Part moved) = false
+is_whole (Failed error) = false
 
 -- What was read before stays; what is new fits.
 pub record ReadSomeSays (at : ℕ) (before after : List ℕ) (transfer : Transfer) : Type 0 where
-  pub fits : at + transfer.moved ≤ length after
+  pub fits : at + moved_by transfer ≤ length after
   pub front : take at after ≡ take at before
 
 -- What is new was the first of what the reader had left. Where nothing is missing and there is room
 -- for more, nothing is left.
 pub record ReadSomeGives (old new : Option (List ℕ)) (at : ℕ) (after : List ℕ)
     (transfer : Transfer) : Type 0 where
-  pub bytes : Consumes old new (take transfer.moved (drop at after))
-  pub end : transfer.whole ≡ true → at + transfer.moved < length after → IsAtEnd new
+  pub bytes : Consumes old new (take (moved_by transfer) (drop at after))
+  pub end : is_whole transfer ≡ true → at + moved_by transfer < length after → IsAtEnd new
 
 pub record WriteSomeSays (at : ℕ) (bytes : List ℕ) (transfer : Transfer) : Type 0 where
-  pub fits : at + transfer.moved ≤ length bytes
+  pub fits : at + moved_by transfer ≤ length bytes
 
 -- What was taken follows what the writer held.
 pub record WriteSomeGives (old new : Option (List ℕ)) (at : ℕ) (bytes : List ℕ)
     (transfer : Transfer) : Type 0 where
-  pub added : Appends old new (take transfer.moved (drop at bytes))
-  pub whole : transfer.whole ≡ true → at + transfer.moved ≡ length bytes
+  pub added : Appends old new (take (moved_by transfer) (drop at bytes))
+  pub whole : is_whole transfer ≡ true → at + moved_by transfer ≡ length bytes
+
+-- A whole reading: whether the input was read to its end, or until the lent bytes were full, and
+-- how many bytes were read.
+pub record Read : Type 0 where
+  pub whole : Bool
+  pub length : ℕ
+
+abbrev pub read_in : Result ℕ ReadFailed → Read
+read_in (Ok length) = record { whole = true; length = length }
+read_in (Err failed) = record { whole = false; length = failed.length }
 
 -- What was read stands in the first of the lent bytes.
 pub record ReadAllSays (after : List ℕ) (read : Read) : Type 0 where
@@ -55,3 +78,15 @@ pub record WriteAllGives (old new : Option (List ℕ)) (bytes : List ℕ) (taken
   pub count : ℕ
   pub front : Appends old new (take count bytes)
   pub whole : taken ≡ true → Appends old new bytes
+
+-- The first bytes of each piece follow what the writer held, piece after piece: what failed, a
+-- colon and a space, some words and a line feed.
+pub record FailGives (old new : Option (List ℕ)) (what : List ℕ) : Type 0 where
+  pub words : List ℕ
+  pub named : ℕ
+  pub marked : ℕ
+  pub explained : ℕ
+  pub ended : ℕ
+  pub added : Appends old new
+      (take named what ++ take marked (58 ∷ 32 ∷ []) ++ take explained words
+      ++ take ended (10 ∷ []))

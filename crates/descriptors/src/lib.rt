@@ -5,8 +5,8 @@
 
 #![tactic(auto)]
 
-ghost use Rattle.std.specs.Prelude.{◌≡◌, true, false, ◌≤◌, length};
-ghost use Rattle.descriptors.specs.Descriptors.{ReadSomeSays, ReadSomeGives, WriteSomeSays, WriteSomeGives, ReadAllSays, ReadAllGives, WriteAllSays, WriteAllGives};
+ghost use Rattle.std.specs.Prelude.{◌≡◌, true, false, ◌≤◌, length, is_ok};
+ghost use Rattle.descriptors.specs.Descriptors.{moved_by, is_whole, ReadSomeSays, ReadSomeGives, WriteSomeSays, WriteSomeGives, read_in, ReadAllSays, ReadAllGives, WriteAllSays, WriteAllGives, FailGives};
 
 use std::io;
 use std::io::Write;
@@ -14,29 +14,19 @@ use std::io::Write;
 // More bytes than the message of any error of the system takes.
 const MESSAGE_BYTES: usize = 320;
 
-// What one call came to: whether nothing is missing after it, whether another is to follow, how
-// many bytes it moved, and why it failed, if it did. After a call that failed neither holds.
+// What one call came to: nothing is missing after it, or another is to follow, each with how many
+// bytes the call moved; or why it failed.
 #[derive(Clone, Copy)]
-pub struct Transfer {
-    pub whole: bool,
-    pub going: bool,
-    pub moved: usize,
-    pub error: io::Error,
+pub enum Transfer {
+    Whole(usize),
+    Part(usize),
+    Failed(io::Error),
 }
 
-// Whether an input was read whole, to its end or until the lent bytes were full; how many bytes
-// were read; and why not all of them, if it was not read whole.
+// An input that was not read whole: how many bytes were read, and why not all of them.
 #[derive(Clone, Copy)]
-pub struct Read {
-    pub whole: bool,
+pub struct ReadFailed {
     pub length: usize,
-    pub error: io::Error,
-}
-
-// Whether all of the bytes were taken; and why not, if they were not.
-#[derive(Clone, Copy)]
-pub struct Written {
-    pub whole: bool,
     pub error: io::Error,
 }
 
@@ -47,28 +37,24 @@ fn no_error() -> io::Error {
 
 // A call that failed: it is made again if a signal interrupted it.
 fn moved_nothing(error: io::Error) -> Transfer
-    ensures none { result.moved ≡ 0 }
-    ensures missing { result.whole ≡ false }
+    ensures none { moved_by result ≡ 0 }
+    ensures missing { is_whole result ≡ false }
 {
-    Transfer {
-        whole: false,
-        going: error.kind() == io::ErrorKind::Interrupted,
-        moved: 0,
-        error: error,
+    if error.kind() == io::ErrorKind::Interrupted {
+        return Transfer::Part(0);
     }
+    Transfer::Failed(error)
 }
 
 // A call that moved so many of the bytes that were left.
 fn moved_some(moved: usize, left: usize) -> Transfer
-    ensures count { result.moved ≡ moved }
-    ensures whole { result.whole ≡ true → moved ≡ left }
+    ensures count { moved_by result ≡ moved }
+    ensures whole { is_whole result ≡ true → moved ≡ left }
 {
-    Transfer {
-        whole: moved == left,
-        going: moved != left,
-        moved: moved,
-        error: no_error(),
+    if moved == left {
+        return Transfer::Whole(moved);
     }
+    Transfer::Part(moved)
 }
 
 // One read, into the bytes from a place on. An answer of 0 is the end of the input.
@@ -78,42 +64,33 @@ fn read_some<R: io::Read>(from: &mut R, bytes: &mut [u8], at: usize) -> Transfer
     ensures given { ReadSomeGives (R.remaining from.old) (R.remaining from.new) at bytes.new
         result }
 {
-    let got = from.read(&mut bytes[at..]);
-    match got {
+    match from.read(&mut bytes[at..]) {
+        Ok(0) => Transfer::Whole(0),
+        Ok(moved) => moved_some(moved, bytes.len() - at),
         Err(error) => moved_nothing(error),
-        Ok(moved) => {
-            if moved == 0 {
-                return moved_some(0, 0);
-            }
-            moved_some(moved, bytes.len() - at)
-        }
     }
 }
 
-// Reads an input into the lent bytes, until it ends or these are full. A loop that is proved has to
-// end, so the turns are counted down from a number that no run uses up.
-pub fn read_all<R: io::Read>(from: &mut R, bytes: &mut [u8]) -> Read
-    ensures counts { ReadAllSays bytes.new result }
-    ensures given { ReadAllGives (R.remaining from.old) (R.remaining from.new) bytes.new result }
+// Reads an input into the lent bytes, until it ends or these are full, and answers how many bytes
+// were read, also where it fails. A loop that is proved has to end, so the turns are counted to a
+// number that no run uses up.
+pub fn read_all<R: io::Read>(from: &mut R, bytes: &mut [u8]) -> Result<usize, ReadFailed>
+    ensures counts { ReadAllSays bytes.new (read_in result) }
+    ensures given { ReadAllGives (R.remaining from.old) (R.remaining from.new) bytes.new
+        (read_in result) }
 {
     let mut length: usize = 0;
-    let mut whole = false;
-    let mut going = true;
-    let mut error = no_error();
-    let mut turns = u64::MAX;
-    while going && turns > 0 {
-        let transfer = read_some(from, bytes, length);
-        length += transfer.moved;
-        whole = transfer.whole;
-        going = transfer.going;
-        error = transfer.error;
-        turns -= 1;
+    for _ in 0..u64::MAX {
+        match read_some(from, bytes, length) {
+            Transfer::Whole(moved) => return Ok(length + moved),
+            Transfer::Part(moved) => length += moved,
+            Transfer::Failed(error) => return Err(ReadFailed { length, error }),
+        }
     }
-    Read {
-        whole: whole,
-        length: length,
-        error: error,
-    }
+    Err(ReadFailed {
+        length,
+        error: no_error(),
+    })
 }
 
 // One write, of the bytes from a place on. An answer of 0 is a failure: nothing was taken.
@@ -122,61 +99,42 @@ fn write_some<W: io::Write>(to: &mut W, bytes: &[u8], at: usize) -> Transfer
     ensures counts { WriteSomeSays at bytes.now result }
     ensures taken { WriteSomeGives (W.contents to.old) (W.contents to.new) at bytes.now result }
 {
-    let put = to.write(&bytes[at..]);
-    match put {
+    match to.write(&bytes[at..]) {
+        Ok(0) => Transfer::Failed(no_error()),
+        Ok(moved) => moved_some(moved, bytes.len() - at),
         Err(error) => moved_nothing(error),
-        Ok(moved) => {
-            if moved == 0 {
-                return Transfer {
-                    whole: false,
-                    going: false,
-                    moved: 0,
-                    error: no_error(),
-                };
-            }
-            moved_some(moved, bytes.len() - at)
-        }
     }
 }
 
-// Writes the bytes, and answers whether all of them were taken. For none no call is made.
-pub fn write_all<W: io::Write>(to: &mut W, bytes: &[u8]) -> Written
-    ensures counts { WriteAllSays bytes.now result.whole }
-    ensures taken { WriteAllGives (W.contents to.old) (W.contents to.new) bytes.now result.whole }
+// Writes the bytes, and answers why not all of them were taken, if they were not. For none no call
+// is made.
+pub fn write_all<W: io::Write>(to: &mut W, bytes: &[u8]) -> io::Result<()>
+    ensures counts { WriteAllSays bytes.now (is_ok result) }
+    ensures taken { WriteAllGives (W.contents to.old) (W.contents to.new) bytes.now
+        (is_ok result) }
 {
-    if bytes.len() == 0 {
-        return Written {
-            whole: true,
-            error: no_error(),
-        };
+    if bytes.is_empty() {
+        return Ok(());
     }
     let mut done: usize = 0;
-    let mut whole = false;
-    let mut going = true;
-    let mut error = no_error();
-    let mut turns = u64::MAX;
-    while going && turns > 0 {
-        let transfer = write_some(to, bytes, done);
-        done += transfer.moved;
-        whole = transfer.whole;
-        going = transfer.going;
-        error = transfer.error;
-        turns -= 1;
+    for _ in 0..u64::MAX {
+        match write_some(to, bytes, done) {
+            Transfer::Whole(_) => return Ok(()),
+            Transfer::Part(moved) => done += moved,
+            Transfer::Failed(error) => return Err(error),
+        }
     }
-    Written {
-        whole: whole,
-        error: error,
-    }
+    Err(no_error())
 }
 
 // How many bytes of a message there are, before the zeros.
 fn message_length(message: &[u8]) -> usize
     ensures { result ≤ length message.now }
 {
-    match message.iter().position(|byte| *byte == 0) {
-        Some(at) => at,
-        None => message.len(),
-    }
+    message
+        .iter()
+        .position(|byte| *byte == 0)
+        .unwrap_or(message.len())
 }
 
 // How many bytes of the message of an error of the system are words: all before the last bracket
@@ -192,7 +150,9 @@ fn words_length(message: &[u8]) -> usize
 
 // Writes a line that says what failed, as the caller names it, and the system's words for why.
 // Where that fails too, nothing more can be said.
-pub fn fail<W: io::Write>(to: &mut W, what: &[u8], error: io::Error) {
+pub fn fail<W: io::Write>(to: &mut W, what: &[u8], error: io::Error)
+    ensures { FailGives (W.contents to.old) (W.contents to.new) what.now }
+{
     let mut message = io::Cursor::new([0u8; MESSAGE_BYTES]);
     let _ = write!(message, "{error}");
     let text = message.get_ref();
@@ -201,8 +161,8 @@ pub fn fail<W: io::Write>(to: &mut W, what: &[u8], error: io::Error) {
     } else {
         message_length(text)
     };
-    write_all(to, what);
-    write_all(to, b": ");
-    write_all(to, &text[..words]);
-    write_all(to, b"\n");
+    let _ = write_all(to, what);
+    let _ = write_all(to, b": ");
+    let _ = write_all(to, &text[..words]);
+    let _ = write_all(to, b"\n");
 }

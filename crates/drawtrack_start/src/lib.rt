@@ -5,14 +5,13 @@
 #![tactic(auto)]
 
 ghost use Rattle.std.specs.Prelude.{◌≡◌};
+ghost use Rattle.model.specs.Refusals.{no_refusal, refusal_in};
 ghost use Rattle.model.specs.Transcript.{beyond_program};
 ghost use Rattle.drawtrack_start.specs.Start.{shorter_than_limits, start_refusal_of, start_line};
 
-use model::{
-    ARRIVAL_MESSAGES, CLOSING_MESSAGES, MEMORY_TOO_SHORT, MESSAGE_WIDTH, NO_REFUSAL, Settings,
-};
+use model::{ARRIVAL_MESSAGES, CLOSING_MESSAGES, MESSAGE_WIDTH, Refusal, Settings};
 use output_reason::{SETTINGS_LINE, WHOLE_WORKLIST};
-use worklist_reader::SettingsRead;
+use settings::test_settings;
 
 // The program's limits: "Its memory serves k up to 4, c up to 100, u up to 1000 and a worklist up
 // to 8192 bytes".
@@ -47,53 +46,35 @@ pub const SESSION_INPUT_BYTES: usize = 8241;
 fn beyond_limits(settings: Settings, bytes: usize) -> bool
     ensures { result ≡ beyond_program settings bytes }
 {
-    if SESSION_SITES < settings.sites {
-        return true;
-    }
-    if SESSION_CAPACITY < settings.capacity {
-        return true;
-    }
-    if SESSION_UNIVERSE < settings.universe {
-        return true;
-    }
-    SESSION_BYTES < bytes
+    SESSION_SITES < settings.sites
+        || SESSION_CAPACITY < settings.capacity
+        || SESSION_UNIVERSE < settings.universe
+        || SESSION_BYTES < bytes
 }
 
 // Whether lent memory is too short for the program's limits.
 fn shorter_than_limits(site_numbers: usize, coordinator_numbers: usize) -> bool
     ensures { result ≡ shorter_than_limits site_numbers coordinator_numbers }
 {
-    if site_numbers < SESSION_SITE_NUMBERS {
-        return true;
-    }
-    coordinator_numbers < SESSION_COORDINATOR_NUMBERS
+    site_numbers < SESSION_SITE_NUMBERS || coordinator_numbers < SESSION_COORDINATOR_NUMBERS
 }
 
-// Why a session does not start, or 0: 13 for the settings line; 1, 2, 3; 4 beyond the program's
+// Why a session with settings that were read does not start: 1, 2, 3; 4 beyond the program's
 // limits, or with less memory than they ask for.
-pub fn start_refusal(
-    read: SettingsRead,
+pub fn test_start(
+    settings: Settings,
     bytes: usize,
     site_numbers: usize,
     coordinator_numbers: usize,
-) -> u32
-    ensures { result ≡ start_refusal_of read.refusal read.settings bytes site_numbers
+) -> Result<(), Refusal>
+    ensures { refusal_in result ≡ start_refusal_of no_refusal settings bytes site_numbers
         coordinator_numbers }
 {
-    if read.refusal != NO_REFUSAL {
-        return read.refusal;
+    test_settings(settings)?;
+    if beyond_limits(settings, bytes) || shorter_than_limits(site_numbers, coordinator_numbers) {
+        return Err(Refusal::MemoryTooShort);
     }
-    let refusal = settings::test_settings(read.settings);
-    if refusal != NO_REFUSAL {
-        return refusal;
-    }
-    if beyond_limits(read.settings, bytes) {
-        return MEMORY_TOO_SHORT;
-    }
-    if shorter_than_limits(site_numbers, coordinator_numbers) {
-        return MEMORY_TOO_SHORT;
-    }
-    NO_REFUSAL
+    Ok(())
 }
 
 // Which line is refused where `begin` refuses an input: that of the settings; but where these are
@@ -101,10 +82,7 @@ pub fn start_refusal(
 pub fn start_line(settings: Settings, refusal: u32) -> usize
     ensures { result ≡ start_line settings refusal }
 {
-    if refusal == MEMORY_TOO_SHORT {
-        if beyond_limits(settings, 0) {
-            return SETTINGS_LINE;
-        }
+    if refusal == Refusal::MemoryTooShort.number() && !beyond_limits(settings, 0) {
         return WHOLE_WORKLIST;
     }
     SETTINGS_LINE

@@ -2,18 +2,15 @@
 --
 --   same_length, last_inside   the digits of a tenth are written: room for the last digit
 --   digit_more                 the last digit of a number, right after those of its tenth
---   not_written, all_written   the answer where the digits don't fit, and where they do
 use mathlib.Core.Path.{◌≡◌, sym, ap, ◌∙◌}
 use mathlib.Core.List.{List, [], ◌∷◌, ◌++◌}
 use Prim.Native.Nat.{ℕ, ◌+◌, ◌/◌, ◌%◌, ◌≤◌, ◌<◌}
 use native.Mathlib.Omega.{arith}
 use lib.ListN.{length, set}
-use borrow.Author.Tests.{le-leb, lt-leb}
 use Rattle.laws.specs.Writing.{written_at, Put}
 use Rattle.laws.proofs.Writing.{written_snoc, put_length}
 use Rattle.model.specs.Decimal.{decimal, digit_byte}
 use Rattle.model.proofs.Worklists.DecimalLaws.{decimal_large, length_decimal_large}
-use Rattle.output_decimals.specs.Promises.{DecimalSays}
 
 -- ---- One digit more
 
@@ -44,21 +41,3 @@ module _ (n place : ℕ) (before middle : List ℕ) (used : ℕ)
         ∙ ap (λ (digits : List ℕ). written_at place digits before)
         (ap (λ (b : ℕ). decimal (n / 10) ++ (b ∷ [])) is ∙ sym (decimal_large n large));
   }
-
--- ---- The whole number
-
--- Where the digits don't fit, nothing is written.
-pub not_written : (n place : ℕ) (bytes : List ℕ)
-    → length bytes < place + length (decimal n)
-    → DecimalSays n place bytes bytes 0
-not_written n place bytes short =
-    let small = lt-leb (place + length (decimal n)) (length bytes) short in
-    record { count = rw small; bytes = rw small }
-
-pub all_written : (n place : ℕ) (before after : List ℕ) (count : ℕ)
-    → place + length (decimal n) ≤ length before
-    → Put (decimal n) place before after (place + count)
-    → DecimalSays n place before after count
-all_written n place before after count fits put =
-    let room = le-leb (place + length (decimal n)) (length before) fits in
-    record { count = rw room (omega (arith, put.place_after)); bytes = rw room put.out }

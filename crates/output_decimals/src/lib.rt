@@ -16,7 +16,7 @@ pub fn count_decimal(n: u64) -> usize
     let mut rest = n;
     let mut count: usize = 1;
     while 9 < rest {
-        rest = rest / 10;
+        rest /= 10;
         count += 1;
     }
     count
@@ -49,11 +49,7 @@ fn put_digits(n: u64, bytes: &mut [u8], at: usize) -> usize
 pub fn write_decimal(n: u64, bytes: &mut [u8], at: usize) -> usize
     ensures { DecimalSays n at bytes.old bytes.new result }
 {
-    let count = count_decimal(n);
-    if bytes.len() < at {
-        return 0;
-    }
-    if bytes.len() - at < count {
+    if bytes.len() < at || bytes.len() - at < count_decimal(n) {
         return 0;
     }
     put_digits(n, bytes, at)

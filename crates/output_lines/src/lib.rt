@@ -18,10 +18,7 @@ use output_decimals::{count_decimal, write_decimal};
 fn has_room(length: usize, at: usize, need: usize) -> bool
     ensures { result ≡ leb (at + need) length }
 {
-    if length < at {
-        return false;
-    }
-    need <= length - at
+    at <= length && need <= length - at
 }
 
 // How many bytes a number takes with a space before it.
@@ -36,12 +33,9 @@ pub fn put_text(text: &[u8], out: &mut [u8], at: usize) -> usize
     requires { at + length text.now ≤ length out.old }
     ensures { Put text.now at out.old out.new result }
 {
-    let mut done: usize = 0;
-    while done < text.len() {
-        out[at + done] = text[done];
-        done += 1;
-    }
-    at + done
+    let end = at + text.len();
+    out[at..end].copy_from_slice(text);
+    end
 }
 
 // Writes a number with a space before it, where they fit. Internal.
@@ -118,14 +112,12 @@ fn numbers_fit(items: &[u32], room: usize) -> bool
     ensures { result ≡ leb (length (spaced items.now)) room }
 {
     let mut left = room;
-    let mut done: usize = 0;
-    while done < items.len() {
-        let need = spaced_length(items[done] as u64);
+    for item in items {
+        let need = spaced_length(u64::from(*item));
         if left < need {
             return false;
         }
         left -= need;
-        done += 1;
     }
     true
 }
@@ -136,10 +128,8 @@ fn put_numbers(items: &[u32], out: &mut [u8], at: usize) -> usize
     ensures { Put (spaced items.now) at out.old out.new result }
 {
     let mut place = at;
-    let mut done: usize = 0;
-    while done < items.len() {
-        place = put_spaced(items[done] as u64, out, place);
-        done += 1;
+    for item in items {
+        place = put_spaced(u64::from(*item), out, place);
     }
     place
 }
@@ -160,10 +150,8 @@ pub fn write_items(items: &[u32], out: &mut [u8], at: usize) -> usize
     ensures { LineWritten (listed_line items.now) at out.old
         out.new result }
 {
-    if has_room(out.len(), at, 7) {
-        if numbers_fit(items, out.len() - at - 7) {
-            return put_listed(items, out, at);
-        }
+    if has_room(out.len(), at, 7) && numbers_fit(items, out.len() - at - 7) {
+        return put_listed(items, out, at);
     }
     at
 }

@@ -24,14 +24,14 @@ fn put_place(line: usize, out: &mut [u8], at: usize) -> usize
     requires { at + length (place_words line) ≤ length out.old }
     ensures { Put (place_words line) at out.old out.new result }
 {
-    if line == WHOLE_WORKLIST {
-        return put_text(b"worklist", out, at);
+    match line {
+        WHOLE_WORKLIST => put_text(b"worklist", out, at),
+        SETTINGS_LINE => put_text(b"settings line", out, at),
+        _ => {
+            let after_word = put_text(b"line", out, at);
+            put_spaced(line as u64, out, after_word)
+        }
     }
-    if line == SETTINGS_LINE {
-        return put_text(b"settings line", out, at);
-    }
-    let after_word = put_text(b"line", out, at);
-    put_spaced(line as u64, out, after_word)
 }
 
 // Writes the line of a reason, where it fits.

@@ -4,7 +4,7 @@
 
 #![tactic(auto)]
 
-ghost use Rattle.std.specs.Prelude.{◌≡◌, ◌++◌, min, take};
+ghost use Rattle.std.specs.Prelude.{◌++◌, take};
 ghost use Rattle.model.specs.Transcript.{end_line, message_line, refused_line, class_word, messages_word, quantile_word};
 ghost use Rattle.output_lines.specs.Promises.{counted_line, listed_line, LineWritten};
 
@@ -25,22 +25,12 @@ pub fn write_refused(refusal: u32, out: &mut [u8], at: usize) -> usize
     write_counted(b"refused", refusal as u64, out, at)
 }
 
-// The lesser of two numbers.
-fn lesser(a: usize, b: usize) -> usize
-    ensures { result ≡ min a b }
-{
-    if a < b {
-        return a;
-    }
-    b
-}
-
 // "listed" and the first so many items, or all if there are fewer.
 pub fn write_listed(items: &[u32], count: usize, out: &mut [u8], at: usize) -> usize
     ensures { LineWritten (listed_line (take count items.now)) at
         out.old out.new result }
 {
-    let listed = lesser(count, items.len());
+    let listed = count.min(items.len());
     write_items(&items[..listed], out, at)
 }
 

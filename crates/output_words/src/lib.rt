@@ -3,7 +3,7 @@
 
 #![tactic(auto)]
 
-ghost use Rattle.std.specs.Prelude.{◌+◌, ◌≤◌, length};
+ghost use Rattle.std.specs.Prelude.{◌≡◌, ◌+◌, ◌≤◌, length};
 ghost use Rattle.laws.specs.Writing.{Put};
 ghost use Rattle.output_words.specs.Words.{words_of};
 
@@ -14,27 +14,34 @@ use model::{
 };
 use output_lines::put_text;
 
+// The words of a refusal.
+fn words(refusal: u32) -> &'static [u8]
+    ensures { result.now ≡ words_of refusal }
+{
+    match refusal {
+        NO_REFUSAL => b"accepted",
+        SETTING_OUT_OF_RANGE => b"setting outside its range",
+        PHI_BELOW_EPSILON => b"list share below leeway",
+        TOO_FEW_COUNTERS => b"too few slots for the leeway",
+        MEMORY_TOO_SHORT => b"beyond what this program serves",
+        UNKNOWN_SITE => b"unknown deck",
+        UNKNOWN_ITEM => b"unknown code",
+        VALUE_TOO_LARGE => b"class above 1023",
+        SITE_FULL => b"deck full",
+        MESSAGE_NOT_DUE => b"message not due",
+        AMOUNT_NOT_DUE => b"amount not due",
+        MEMORY_INCONSISTENT => b"memory inconsistent",
+        LIST_TOO_SHORT => b"list too short",
+        MALFORMED_LINE => b"malformed line",
+        LOG_TOO_SHORT => b"log too short",
+        _ => b"unknown refusal",
+    }
+}
+
 // Writes the words of a refusal, where they fit.
 pub fn put_words(refusal: u32, out: &mut [u8], at: usize) -> usize
     requires { at + length (words_of refusal) ≤ length out.old }
     ensures { Put (words_of refusal) at out.old out.new result }
 {
-    match refusal {
-        NO_REFUSAL => put_text(b"accepted", out, at),
-        SETTING_OUT_OF_RANGE => put_text(b"setting outside its range", out, at),
-        PHI_BELOW_EPSILON => put_text(b"list share below leeway", out, at),
-        TOO_FEW_COUNTERS => put_text(b"too few slots for the leeway", out, at),
-        MEMORY_TOO_SHORT => put_text(b"beyond what this program serves", out, at),
-        UNKNOWN_SITE => put_text(b"unknown deck", out, at),
-        UNKNOWN_ITEM => put_text(b"unknown code", out, at),
-        VALUE_TOO_LARGE => put_text(b"class above 1023", out, at),
-        SITE_FULL => put_text(b"deck full", out, at),
-        MESSAGE_NOT_DUE => put_text(b"message not due", out, at),
-        AMOUNT_NOT_DUE => put_text(b"amount not due", out, at),
-        MEMORY_INCONSISTENT => put_text(b"memory inconsistent", out, at),
-        LIST_TOO_SHORT => put_text(b"list too short", out, at),
-        MALFORMED_LINE => put_text(b"malformed line", out, at),
-        LOG_TOO_SHORT => put_text(b"log too short", out, at),
-        _ => put_text(b"unknown refusal", out, at),
-    }
+    put_text(words(refusal), out, at)
 }

@@ -1,3 +1,2 @@
 -- Laws of reading numbers that the functions' proofs share.
 pub mod ReadingLaws
-pub mod FieldLaws

@@ -1,5 +1,3 @@
 -- Laws of reading that the functions' proofs share.
-pub mod ThreeLaws
-pub mod SettingsLaws
 pub mod StepLaws
 pub mod WalkLaws

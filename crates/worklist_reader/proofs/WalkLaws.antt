@@ -16,8 +16,7 @@ use Rattle.model.specs.Refusals.{no_refusal, malformed_line}
 use Rattle.model.specs.Lines.{Fields, malformed, fields, line_feed, read_fields, arrival_of, malformed_at, next, read_from}
 use Rattle.model.proofs.Worklists.LineTaken.{fields_taken}
 use Rattle.model.proofs.Worklists.WorklistLaws.{read_from_malformed, read_all_line}
-use Rattle.worklist_reader.specs.declared.Step.{Step}
-use Rattle.worklist_reader.specs.Walk.{last_line, standing, step_of, step_at, then_read, walk_from}
+use Rattle.worklist_reader.specs.Walk.{Step, last_line, standing, step_of, step_at, then_read, walk_from}
 use Rattle.worklist_reader.specs.WalkClaims.{GoesOn, WalkClaims}
 use Rattle.worklist_reader.proofs.StepLaws.{line_after_more, step_past, step_by}
 

@@ -2,8 +2,7 @@
 use Rattle.std.specs.Prelude.{◌≡◌, List, ℕ}
 use Rattle.std.specs.Borrow.{Bor}
 use Rattle.worklist_reader.specs.declared.Reader.{Reader}
-use Rattle.worklist_reader.specs.declared.Step.{Step}
-use Rattle.worklist_reader.specs.Walk.{step_at}
+use Rattle.worklist_reader.specs.Walk.{Step, step_at}
 
 -- A reader of these bytes stands before the first of them, at line 0.
 pub record OpenReaderSays (bytes : Bor (List ℕ)) (answer : Reader) : Type 0 where

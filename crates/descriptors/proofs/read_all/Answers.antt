@@ -11,15 +11,24 @@ joined at moved before after front =
     ap (λ (l : List ℕ). l ++ take moved (drop at after)) (sym front)
     ∙ sym (take-add at moved after)
 
-pub loop-going-preserved : goal.loop-going-preserved
-loop-going-preserved g c =
-    let at = c.loop-going.length in
-    let transfer = c.read_some-transfer in (
-      transfer.ensures.counts.fits,
+pub returns-in-Whole-clause-given : goal.returns-in-Whole-clause-given
+returns-in-Whole-clause-given g c =
+    let says = c.in-Whole.ensures in
+    record {
+      bytes = subst (Consumes _ _)
+          (joined c.loop.length c.in-Whole.moved c.loop.bytes c.read_some.new.bytes
+          says.counts.front)
+          (Consumes-trans _ _ _ _ _ c.loop.invariant.2 says.given.bytes);
+      end = says.given.end;
+    }
+
+pub loop-preserved : goal.loop-preserved
+loop-preserved g c =
+    let says = c.in-Part.ensures in (
+      says.counts.fits,
       search rules,
       subst (Consumes _ _)
-          (joined at transfer.result.moved c.loop-going.bytes transfer.new.bytes
-          transfer.ensures.counts.front)
-          (Consumes-trans _ _ _ _ _ c.loop-going.invariant.2 transfer.ensures.given.bytes),
-      transfer.ensures.given.end,
+          (joined c.loop.length c.in-Part.moved c.loop.bytes c.read_some.new.bytes
+          says.counts.front)
+          (Consumes-trans _ _ _ _ _ c.loop.invariant.2 says.given.bytes),
     )

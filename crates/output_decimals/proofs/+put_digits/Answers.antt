@@ -3,10 +3,10 @@ use mathlib.Core.Path.{refl, sym, ap, ◌∙◌}
 use mathlib.Core.List.{[], ◌∷◌}
 use Prim.Native.Nat.{ℕ}
 use native.Mathlib.Omega.{arith}
-use lib.ListN.{length, length-set}
+use lib.ListN.{length}
 use Rattle.model.proofs.Worklists.DecimalLaws.{decimal_small, length_decimal_large}
 use Rattle.laws.proofs.Writing.{put_one, put_as}
-use Rattle.output_decimals.proofs.WritingLaws.{same_length, last_inside, digit_more}
+use Rattle.output_decimals.proofs.WritingLaws.{last_inside, digit_more}
 use Rattle.output_decimals.proofs.+put_digits.Goals as goal
 
 pub bounds-bytes-at : goal.bounds-bytes-at

@@ -1,58 +1,44 @@
 -- Each turn of the loop takes a digit into the number, as `more_digits` does.
-use mathlib.Core.Path.{sym, ◌∙◌}
-use Prim.Native.Nat.{◌*◌, ◌<◌}
+use mathlib.Core.Path.{◌≡◌, sym, ◌∙◌}
+use Prim.Native.Nat.{◌+◌, ◌-◌, ◌*◌, ◌<◌}
 use native.Mathlib.Omega.{arith}
+use lib.ListN.{length}
 use Rattle.model.specs.Limits.{number_limit}
-use Rattle.worklist.proofs.ReadingLaws.{reading_begins, reading_room, reading_on, reading_long, reading_stop, reading_end}
+use Rattle.worklist.proofs.ReadingLaws.{reading_room, reading_on, reading_stop, reading_end}
 use Rattle.worklist.proofs.more_digits.Goals as goal
-use Rattle.worklist.proofs.more_digits.Goals.{Else-more-eq0}
+use Rattle.worklist.proofs.more_digits.Goals.{Else-next-start}
 
 -- A digit may still come, so ten times the value fits.
-value_small : (c : Else-more-eq0)
-    → 10 * c.loop-next.value < number_limit
-value_small c =
-    reading_room _ (omega (arith, c.if-more-eq0.false)) c.loop-next.invariant
+value_small : (c : Else-next-start) → 10 * c.loop-next.value < number_limit
+value_small c = reading_room _ (omega (arith, c.if-next-start.false)) c.loop-next.invariant.0
 
-pub loop-next-init : goal.loop-next-init
-loop-next-init c =
-    let args = c.args in
-    let within = c.requires in
-    reading_begins args.bytes.now args.start args.first within.0 within.1
-
-pub returns-then-more-eq0 : goal.returns-then-more-eq0
-returns-then-more-eq0 c =
-    let digit = sym c.is_digit.ensures ∙ c.if-is_digit.true in
-    rw c.no_number.ensures
-    (reading_long c.loop-next-test.true digit
-    (rw c.if-more-eq0.true at c.loop-next.invariant))
+pub returns-then-not-is_digit : goal.returns-then-not-is_digit
+returns-then-not-is_digit c =
+    let other = sym c.is_digit.ensures ∙ c.if-not-is_digit.true in
+    reading_stop _ c.loop-next-test.true other c.loop-next.invariant.0
 
 pub overflow_mul-value : goal.overflow_mul-value
 overflow_mul-value c = record { fits = omega (arith, value_small c) }
-
-pub digit_value-requires : goal.digit_value-requires
-digit_value-requires c = sym c.is_digit.ensures ∙ c.if-is_digit.true
 
 pub overflow_add-value : goal.overflow_add-value
 overflow_add-value c = record {
   fits = omega (
     arith,
     value_small
-        (goal.at.overflow_add-value c).Else-more-eq0,
+        (goal.at.overflow_add-value c).Else-next-start,
     c.digit_value.ensures.1,
   );
 }
 
 pub loop-next-preserved : goal.loop-next-preserved
 loop-next-preserved c =
-    let digit = sym c.is_digit.ensures ∙ c.if-is_digit.true in
-    rw c.digit_value.ensures.0
-    (reading_on _ (omega (arith, c.if-more-eq0.false)) c.loop-next-test.true digit
-    c.loop-next.invariant)
-
-pub returns-else-is_digit : goal.returns-else-is_digit
-returns-else-is_digit c =
-    let other = sym c.is_digit.ensures ∙ c.if-is_digit.false in
-    reading_stop _ c.loop-next-test.true other c.loop-next.invariant
+    let here = c.loop-next.next in
+    let more : c.args.start + 6 - here - 1 ≡ c.args.start + 6 - (here + 1) = omega arith in
+    let on = reading_on _ (omega (arith, c.if-next-start.false)) c.loop-next-test.true
+    (sym c.is_digit.ensures ∙ c.if-not-is_digit.false) c.loop-next.invariant.0 in
+    (rw (c.digit_value.ensures.0, ← more) on, omega (arith, c.if-next-start.false))
 
 pub returns : goal.returns
-returns c = reading_end _ c.loop-next-test.false c.loop-next.invariant
+returns c =
+    let whole : c.loop-next.next ≡ length c.args.bytes.now = omega arith in
+    rw whole at (reading_end _ c.loop-next-test.false c.loop-next.invariant.0)

@@ -4,9 +4,9 @@
 
 #![tactic(auto)]
 
-ghost use Rattle.std.specs.Prelude.{◌≡◌, ◌+◌, ◌≤◌, length};
+ghost use Rattle.std.specs.Prelude.{◌≡◌, ◌+◌, ◌^◌, ◌≤◌, ◌<◌, length};
 ghost use Rattle.laws.specs.Writing.{written_at};
-ghost use Rattle.little_endian.specs.Numbers.{little_endian, number_at};
+ghost use Rattle.little_endian.specs.Numbers.{byte_range, little_endian, number_at};
 
 // Writes a number from a place on, in as many bytes as its width says.
 pub fn write_number(bytes: &mut [u8], place: usize, width: usize, n: u64)
@@ -35,7 +35,7 @@ pub fn read_number(bytes: &[u8], place: usize, width: usize) -> u64
 // The number of a fixed width that stands from a place on: the compiler makes one load of it.
 pub fn read_fixed<const WIDTH: usize>(bytes: &[u8], place: usize) -> u64
     requires { (place + WIDTH ≤ length bytes.now) × (WIDTH ≤ 8) }
-    ensures { result ≡ number_at WIDTH place bytes.now }
+    ensures { (result ≡ number_at WIDTH place bytes.now) × (result < byte_range ^ WIDTH) }
 {
     let mut held = [0u8; 8];
     held[..WIDTH].copy_from_slice(&bytes[place..place + WIDTH]);

@@ -19,7 +19,7 @@ pub struct Replied {
 
 // A message at a site: a poll is answered by what is pending, a probe by the arrivals at or below
 // its value, and an announcement sets the threshold. The memory is only read. Internal: what it
-// requires is decided by `site_memory::site_memory_refusal` and `site_refusals::message_refusal`,
+// requires is decided by `site_memory::test_site_memory` and `site_refusals::test_message`,
 // or by the tests of the batch call.
 pub fn receive_step(
     settings: Settings,
@@ -31,41 +31,29 @@ pub fn receive_step(
     ensures { ReceiveStepSays settings site message memory.now result }
 {
     if message.kind == POLL {
-        let after = SiteRecord {
-            arrivals: site.arrivals,
-            pending: 0,
-            threshold: site.threshold,
-            used: site.used,
-            dropped: site.dropped,
-        };
         return Replied {
             refusal: NO_REFUSAL,
-            site: after,
+            site: SiteRecord { pending: 0, ..site },
             count: 1,
             reply: poll_answer_of(message.site, site.pending),
         };
     }
     if message.kind == PROBE {
         let from = 4 * (settings.capacity as usize);
-        let value = message.a as usize;
-        let count = site_memory::count_up_to(memory, from, value);
+        let count = site_memory::count_up_to(memory, from, message.a as usize);
         return Replied {
             refusal: NO_REFUSAL,
-            site: site,
+            site,
             count: 1,
             reply: probe_answer_of(message.site, message.a, count),
         };
     }
-    let after = SiteRecord {
-        arrivals: site.arrivals,
-        pending: site.pending,
-        threshold: message.a,
-        used: site.used,
-        dropped: site.dropped,
-    };
     Replied {
         refusal: NO_REFUSAL,
-        site: after,
+        site: SiteRecord {
+            threshold: message.a,
+            ..site
+        },
         count: 0,
         reply: no_message(),
     }

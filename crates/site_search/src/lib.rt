@@ -1,6 +1,6 @@
 // Where a counter of one site stands in its lent memory (Space-Saving): the search for an item and
 // the scan for the least count. The functions with a `requires` are internal; the test that decides
-// it is `site_memory::site_memory_refusal`, which every call on a site makes first, or the batch
+// it is `site_memory::test_site_memory`, which every call on a site makes first, or the batch
 // call's start test.
 
 #![tactic(auto)]
@@ -13,22 +13,17 @@ ghost use Rattle.site_search.specs.Order.{ordered};
 use model::Word;
 
 // The lowest place of the item's counter, or the number of counters in use if it has none.
-// Internal: `site_memory_refusal` decides that the counters in use lie within the memory.
+// Internal: `test_site_memory` decides that the counters in use lie within the memory.
 pub fn find_counter(memory: &[Word], used: usize, item: Word) -> usize
     requires { 4 * used ≤ length memory.now }
     ensures { result ≡ find item (counters_in used memory.now) }
 {
-    let mut i = 0;
-    let found = loop {
-        if used <= i {
-            break used;
-        }
+    for i in 0..used {
         if memory[4 * i] == item {
-            break i;
+            return i;
         }
-        i += 1;
-    };
-    found
+    }
+    used
 }
 
 // Whether a counter comes before another: by count, and of equals by item. Both are compared as one
@@ -47,8 +42,7 @@ pub fn least_counter(memory: &[Word], used: usize) -> usize
     ensures { result ≡ least_place (counters_in used memory.now) }
 {
     let mut best = 0;
-    let mut i = 1;
-    while i < used {
+    for i in 1..used {
         if is_before(
             memory[4 * i + 1],
             memory[4 * i],
@@ -57,7 +51,6 @@ pub fn least_counter(memory: &[Word], used: usize) -> usize
         ) {
             best = i;
         }
-        i += 1;
     }
     best
 }

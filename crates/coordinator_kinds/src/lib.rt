@@ -23,7 +23,7 @@ pub struct Answered {
     pub out: Message,
 }
 
-// The threshold that a base gives. Internal: `coordinator_memory_refusal`, with which every call
+// The threshold that a base gives. Internal: `test_coordinator_memory`, with which every call
 // begins, decides what it requires: accepted settings, and a base within the limit.
 pub fn threshold_of(settings: Settings, base: u64) -> u64
     requires { ThresholdAsks settings base }
@@ -31,9 +31,5 @@ pub fn threshold_of(settings: Settings, base: u64) -> u64
 {
     let share = (settings.epsilon as u64) * base;
     let parts = THRESHOLD_FACTOR * (settings.sites as u64);
-    let threshold = share / parts;
-    if threshold < 1 {
-        return 1;
-    }
-    threshold
+    (share / parts).max(1)
 }

@@ -1,6 +1,6 @@
 // A counter of one site in its lent memory (Space-Saving), read and stored; crate `site_search`
 // finds its place. The functions with a `requires` are internal; the test that decides it is
-// `site_memory::site_memory_refusal`, which every call on a site makes first, or the batch call's
+// `site_memory::test_site_memory`, which every call on a site makes first, or the batch call's
 // start test.
 
 #![tactic(auto)]
@@ -21,7 +21,7 @@ pub struct StoredCounter {
     pub reported: Word,
 }
 
-// The counter at a place. Internal: `site_memory_refusal` decides that all counters lie within the
+// The counter at a place. Internal: `test_site_memory` decides that all counters lie within the
 // memory.
 pub fn counter_at(memory: &[Word], place: usize) -> StoredCounter
     requires { 4 * place + 4 ≤ length memory.now }
@@ -48,7 +48,7 @@ pub fn put_counter(memory: &mut [Word], place: usize, counter: StoredCounter)
     memory[start + 3] = counter.reported;
 }
 
-// The unreported arrivals of a counter. Internal: `site_memory_refusal` decides that overcount and
+// The unreported arrivals of a counter. Internal: `test_site_memory` decides that overcount and
 // sent number are within the count.
 pub fn unreported_of(counter: StoredCounter) -> Word
     requires { PartsWithin (counter_of counter) }

@@ -20,7 +20,7 @@ pub struct Counted {
 }
 
 // An item counted: in its own counter, in the next unused one, or in place of the least. Internal:
-// `site_memory_refusal` decides that there is a counter, that all lie within the memory, that no
+// `test_site_memory` decides that there is a counter, that all lie within the memory, that no
 // count is above the site's limit, and that overcount and sent number are within the count.
 pub fn count_item(memory: &mut [Word], capacity: usize, used: usize, item: Word) -> Counted
     requires { CountItemAsks memory.old capacity used }

@@ -1,54 +1,25 @@
 -- The consistency test of a site, row by row: which test refuses, and what is left when the others
 -- pass.
 --
---   item_unknown, parts_above, count_above, counter_passes     one counter
---   Passing, passing_start, passing_on, passing_fails, passing_end   the counters, place by place
---   used_above, arrivals_above, pending_above, threshold_above, dropped_above, counters_pass,
---   counters_fail                                              a whole site
+--   Passing, passing_on, passing_fails   the counters, place by place
+--   parts_pass                     a whole site, by its numbers, its counters and its histogram
 use Prim.Native.Nat.{ℕ, ◌+◌, ◌<◌, ◌≤◌}
-use mathlib.Core.Path.{◌≡◌, ap, sym, ◌∙◌}
+use mathlib.Core.Path.{◌≡◌, refl, sym, ◌∙◌}
 use mathlib.Core.List.{List}
 use mathlib.Core.Bool.{Bool, true, false, ◌&&◌}
 use native.Mathlib.Omega.{arith}
-use lib.Dec.{eqb, ltb}
+use lib.Dec.{eqb, ltb, leb}
 use lib.ListN.{take, drop}
-use borrow.Author.Tests.{lt-ltb, le-ltb, le-leb, lt-leb}
+use borrow.Author.Tests.{le-leb, ltb-true}
 use Rattle.laws.proofs.Tests.{and_false, and_true}
 use Rattle.model.specs.declared.Settings.{Settings}
 use Rattle.model.specs.declared.SiteRecord.{SiteRecord}
 use Rattle.model.specs.Limits.{value_count, site_limit}
-use Rattle.model.specs.Counters.{Counter, unreported}
 use Rattle.model.specs.Site.{Site}
-use Rattle.model.specs.SiteMemory.{counter_words, site_in, counters_in, sum, counter_consistent, counters_consistent, site_consistent}
+use Rattle.model.specs.SiteMemory.{counter_words, counters_in, sum, counter_consistent, counters_consistent, site_consistent}
 use Rattle.site_counters.specs.Stored.{stored_at}
-use Rattle.site_counters.proofs.CountersFrom.{counters_from, counters_start, counters_end, counters_cons}
-
--- ---- One counter
-
-module _ (settings : Settings) (site : Site) (counter : Counter) where
-  pub item_unknown : settings.universe ≤ counter.item
-      → false ≡ counter_consistent settings site counter
-  item_unknown past = simp (le-ltb counter.item settings.universe past)
-
-  pub parts_above : counter.count < counter.overestimate + counter.reported
-      → false ≡ counter_consistent settings site counter
-  parts_above above =
-      simp (lt-leb (counter.overestimate + counter.reported) counter.count above, and_false)
-
-  pub count_above : site.arrivals < counter.count
-      → false ≡ counter_consistent settings site counter
-  count_above above = simp (lt-leb counter.count site.arrivals above, and_false)
-
-  pub counter_passes : counter.item < settings.universe
-      → counter.overestimate + counter.reported ≤ counter.count
-      → counter.count ≤ site.arrivals
-      → ltb (unreported counter) site.threshold ≡ counter_consistent settings site counter
-  counter_passes known parts within =
-      simp (
-        lt-ltb counter.item settings.universe known,
-        le-leb (counter.overestimate + counter.reported) counter.count parts,
-        le-leb counter.count site.arrivals within,
-      )
+use Rattle.site_memory.specs.Promises.{counters_pass, numbers_pass}
+use Rattle.site_counters.proofs.CountersFrom.{counters_from, counters_cons}
 
 -- ---- The counters in use, from place i on
 
@@ -63,9 +34,6 @@ pub record Passing
       ≡ counters_consistent settings site (counters_from memory used i)
 
 module _ (settings : Settings) (site : Site) (memory : List ℕ) (used : ℕ) where
-  pub passing_start : Passing settings site memory used 0
-  passing_start = record { within = omega arith; later = rw (counters_start memory used) }
-
   pub passing_on : (i : ℕ)
       → Passing settings site memory used i
       → i < used
@@ -84,76 +52,37 @@ module _ (settings : Settings) (site : Site) (memory : List ℕ) (used : ℕ) wh
   passing_fails i passing inside fails =
       sym (passing.later ∙ rw (counters_cons memory used i inside, fails))
 
-  pub passing_end : (i : ℕ)
-      → Passing settings site memory used i
-      → used ≤ i
-      → true ≡ counters_consistent settings site (counters_in used memory)
-  passing_end i passing past = sym (passing.later ∙ rw (counters_end memory used i past))
-
 -- ---- A whole site
 
-module _ (settings : Settings) (numbers : SiteRecord) (memory : List ℕ) where
-  pub used_above : settings.capacity < numbers.used
-      → false ≡ site_consistent settings numbers memory
-  used_above above = simp (lt-leb numbers.used settings.capacity above)
+-- The tests of a site in the order in which the code makes them. Where a number is below the
+-- threshold (`p`), the threshold is at least 1 (`o`).
+in_order : (u c a s p o t d : Bool)
+    → (p ≡ true → o ≡ true)
+    → ((u && a && p && t && d) && c && s) ≡ (u && c && a && s && p && (o && t) && d)
+in_order false c a s p o t d positive = refl
+in_order true false a s p o t d positive = rw (and_false (a && p && t && d))
+in_order true true false s p o t d positive = refl
+in_order true true true false p o t d positive = and_false (p && t && d && true)
+in_order true true true true false o t d positive = refl
+in_order true true true true true o t d positive = rw (positive refl) (simp and_true)
 
-  pub arrivals_above : site_limit < numbers.arrivals
-      → false ≡ site_consistent settings numbers memory
-  arrivals_above above = simp (lt-leb numbers.arrivals site_limit above, and_false)
+-- A threshold that something is below is at least 1.
+positive : (pending threshold : ℕ) → ltb pending threshold ≡ true → leb 1 threshold ≡ true
+positive pending threshold below =
+    le-leb 1 threshold (omega (arith, ltb-true pending threshold below))
 
-  pub pending_above : numbers.threshold ≤ numbers.pending
-      → false ≡ site_consistent settings numbers memory
-  pending_above above = simp (le-ltb numbers.pending numbers.threshold above, and_false)
-
-  pub threshold_above : site_limit < numbers.threshold
-      → false ≡ site_consistent settings numbers memory
-  threshold_above above = simp (lt-leb numbers.threshold site_limit above, and_false)
-
-  pub dropped_above : numbers.arrivals < numbers.dropped
-      → false ≡ site_consistent settings numbers memory
-  dropped_above above = simp (lt-leb numbers.dropped numbers.arrivals above, and_false)
-
-  -- The single numbers pass, so counters and histogram decide.
-  pub numbers_pass : numbers.used ≤ settings.capacity
-      → numbers.arrivals ≤ site_limit
-      → numbers.pending < numbers.threshold
-      → numbers.threshold ≤ site_limit
-      → numbers.dropped ≤ numbers.arrivals
-      → (counters_consistent settings (site_in settings numbers memory)
-      (counters_in numbers.used memory)
-      && eqb (sum (take value_count (drop (counter_words settings) memory))) numbers.arrivals)
-      ≡ site_consistent settings numbers memory
-  numbers_pass used arrivals pending threshold dropped =
-      simp (
-        le-leb numbers.used settings.capacity used,
-        le-leb numbers.arrivals site_limit arrivals,
-        lt-ltb numbers.pending numbers.threshold pending,
-        le-leb 1 numbers.threshold (omega arith),
-        le-leb numbers.threshold site_limit threshold,
-        le-leb numbers.dropped numbers.arrivals dropped,
-        and_true,
-      )
-
-  -- With the counters consistent too, the histogram decides.
-  pub counters_pass : numbers.used ≤ settings.capacity
-      → numbers.arrivals ≤ site_limit
-      → numbers.pending < numbers.threshold
-      → numbers.threshold ≤ site_limit
-      → numbers.dropped ≤ numbers.arrivals
-      → counters_consistent settings (site_in settings numbers memory)
-      (counters_in numbers.used memory)
-      ≡ true
-      → eqb (sum (take value_count (drop (counter_words settings) memory))) numbers.arrivals
-      ≡ site_consistent settings numbers memory
-  counters_pass used arrivals pending threshold dropped passes =
-      let sums =
-      eqb (sum (take value_count (drop (counter_words settings) memory))) numbers.arrivals in
-      sym (ap (λ (test : Bool). test && sums) passes)
-      ∙ numbers_pass used arrivals pending threshold dropped
-
-  pub counters_fail :
-      counters_consistent settings (site_in settings numbers memory)
-      (counters_in numbers.used memory)
-      ≡ false
-      → false ≡ site_consistent settings numbers memory
-  counters_fail fails = simp (fails, and_false)
+pub parts_pass : (settings : Settings) (numbers : SiteRecord) (memory : List ℕ)
+    → (numbers_pass settings numbers
+    && counters_pass settings numbers memory numbers.used
+    && eqb (sum (take value_count (drop (counter_words settings) memory))) numbers.arrivals)
+    ≡ site_consistent settings numbers memory
+parts_pass settings numbers memory =
+    in_order (leb numbers.used settings.capacity)
+    (counters_pass settings numbers memory numbers.used)
+    (leb numbers.arrivals site_limit)
+    (eqb (sum (take value_count (drop (counter_words settings) memory))) numbers.arrivals)
+    (ltb numbers.pending numbers.threshold)
+    (leb 1 numbers.threshold)
+    (leb numbers.threshold site_limit)
+    (leb numbers.dropped numbers.arrivals)
+    (positive numbers.pending numbers.threshold)

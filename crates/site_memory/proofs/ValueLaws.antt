@@ -2,13 +2,13 @@
 --
 --   sum_take_suc, get_d_le_sum
 --   up_to_sum, up_to_values_at  the arrivals up to a value are a sum over the front
---   Adding, adding_start, adding_on, adding_end   the sum of the first counts, place by place
+--   Adding, adding_on     the sum of the first counts, place by place
 use Prim.Native.Nat.{ℕ, zero, suc, ◌+◌, ◌*◌, ◌<◌, ◌≤◌}
-use mathlib.Core.Path.{◌≡◌, refl, ap, sym, ◌∙◌}
+use mathlib.Core.Path.{◌≡◌, refl, ap, ◌∙◌}
 use mathlib.Core.List.{List, [], ◌∷◌}
 use native.Mathlib.Numerals.{add-one}
 use native.Mathlib.Omega.{arith}
-use lib.ListN.{length, get_or, take, drop, length-drop}
+use lib.ListN.{length, get_or, take, drop}
 use lib.Seq.{get_or-take, get_or-drop, take-take}
 use Rattle.model.specs.Limits.{value_count}
 use Rattle.model.specs.Site.{up_to}
@@ -59,35 +59,17 @@ module _ (memory : List ℕ) (from : ℕ) (fits : from + value_count ≤ length 
 -- ---- The sum of the first counts, place by place
 
 -- The first i counts were added up; each is at most the greatest number of 4 bytes.
-pub record Adding (memory : List ℕ) (from places counted i : ℕ) : Type 0 where
-  pub within : i ≤ places
-  pub counted_is : counted ≡ sum (take i (drop from memory))
+pub record Adding (counts : List ℕ) (counted i : ℕ) : Type 0 where
+  pub counted_is : counted ≡ sum (take i counts)
   pub small : counted ≤ i * greatest_word
 
-module _ (memory : List ℕ) (from places : ℕ) where
-  pub adding_start : Adding memory from places 0 0
-  adding_start = record { within = omega arith; counted_is = refl; small = omega arith }
-
+module _ (counts : List ℕ) where
   pub adding_on : (counted i : ℕ)
-      → Adding memory from places counted i
-      → from + places ≤ length memory
-      → i < places
-      → get_or memory (from + i) 0 ≤ greatest_word
-      → Adding memory from places (counted + get_or memory (from + i) 0) (i + 1)
-  adding_on counted i adding fits inside word = record {
-    within = omega arith;
-    counted_is =
-        rw (add-one i)
-        (rw adding.counted_is
-        (sym (sum_take_suc (drop from memory) i (rw (length-drop from memory) (omega arith))
-        ∙ ap (λ (n : ℕ). sum (take i (drop from memory)) + n) (get_or-drop from memory i 0))));
+      → Adding counts counted i
+      → i < length counts
+      → get_or counts i 0 ≤ greatest_word
+      → Adding counts (counted + get_or counts i 0) (i + 1)
+  adding_on counted i adding inside word = record {
+    counted_is = rw (add-one i) (omega (arith, sum_take_suc counts i inside, adding.counted_is));
     small = omega (arith, adding.small);
   }
-
-  pub adding_end : (counted i : ℕ)
-      → Adding memory from places counted i
-      → places ≤ i
-      → counted ≡ sum (take places (drop from memory))
-  adding_end counted i adding past =
-      let all : i ≡ places = omega (arith, adding.within) in
-      adding.counted_is ∙ ap (λ (n : ℕ). sum (take n (drop from memory))) all

@@ -4,17 +4,14 @@
 #![tactic(auto)]
 
 ghost use Rattle.std.specs.Prelude.{◌≡◌, ◌+◌, ◌*◌, ◌≤◌, eqb, length, take, drop};
-ghost use Rattle.model.specs.Refusals.{no_refusal};
+ghost use Rattle.model.specs.Refusals.{no_refusal, refusal_in};
 ghost use Rattle.model.specs.Limits.{value_count};
 ghost use Rattle.model.specs.Settings.{settings_refusal};
 ghost use Rattle.model.specs.Site.{up_to};
 ghost use Rattle.model.specs.SiteMemory.{site_words, sum, site_consistent, site_memory_refusal};
-ghost use Rattle.site_memory.specs.Promises.{counter_passes, counters_pass, MemoryFits, CountsFit, ValuesFit};
+ghost use Rattle.site_memory.specs.Promises.{counter_passes, counters_pass, numbers_pass, MemoryFits, ValuesFit};
 
-use model::{
-    MEMORY_INCONSISTENT, MEMORY_TOO_SHORT, NO_REFUSAL, SITE_LIMIT, Settings, SiteRecord,
-    VALUE_COUNT, Word,
-};
+use model::{Refusal, SITE_LIMIT, Settings, SiteRecord, VALUE_COUNT, Word};
 
 // The numbers of one site's memory: four for each counter, and the histogram. Internal:
 // `settings::test_settings` decides what it requires.
@@ -32,19 +29,11 @@ fn counter_consistent(settings: Settings, site: SiteRecord, memory: &[Word], pla
     ensures { result ≡ counter_passes settings site memory.now place }
 {
     let counter = site_counters::counter_at(memory, place);
-    if settings.universe <= counter.item {
-        return false;
-    }
-    if counter.count < counter.overestimate {
-        return false;
-    }
-    if counter.count - counter.overestimate < counter.reported {
-        return false;
-    }
-    if site.arrivals < counter.count as u64 {
-        return false;
-    }
-    ((counter.count - counter.overestimate - counter.reported) as u64) < site.threshold
+    counter.item < settings.universe
+        && counter.overestimate <= counter.count
+        && counter.reported <= counter.count - counter.overestimate
+        && (counter.count as u64) <= site.arrivals
+        && ((counter.count - counter.overestimate - counter.reported) as u64) < site.threshold
 }
 
 // Whether every counter in use is consistent.
@@ -52,29 +41,24 @@ fn counters_consistent(settings: Settings, site: SiteRecord, memory: &[Word], us
     requires { 4 * used ≤ length memory.now }
     ensures { result ≡ counters_pass settings site memory.now used }
 {
-    let mut i = 0;
-    while i < used {
-        if counter_consistent(settings, site, memory, i) {
-            i += 1;
-        } else {
+    for i in 0..used {
+        if !counter_consistent(settings, site, memory, i) {
             return false;
         }
     }
     true
 }
 
-// The sum of the first counts of the histogram that starts at `from`. No test stands among the
-// additions, so that the compiler can make several at once: 1024 numbers of 4 bytes sum to less
-// than 8 bytes hold, whatever the memory holds.
-fn sum_of_counts(memory: &[Word], from: usize, places: usize) -> u64
-    requires { CountsFit memory.now from places }
-    ensures { result ≡ sum (take places (drop from memory.now)) }
+// The sum of counts of a histogram. No test stands among the additions, so that the compiler can
+// make several at once: 1024 numbers of 4 bytes sum to less than 8 bytes hold, whatever the memory
+// holds.
+fn sum_of_counts(counts: &[Word]) -> u64
+    requires { length counts.now ≤ value_count }
+    ensures { result ≡ sum counts.now }
 {
     let mut counted: u64 = 0;
-    let mut i = 0;
-    while i < places {
-        counted += memory[from + i] as u64;
-        i += 1;
+    for count in counts {
+        counted += *count as u64;
     }
     counted
 }
@@ -84,61 +68,55 @@ fn values_sum_to(memory: &[Word], from: usize, total: u64) -> bool
     requires { from + value_count ≤ length memory.now }
     ensures { result ≡ eqb (sum (take value_count (drop from memory.now))) total }
 {
-    sum_of_counts(memory, from, VALUE_COUNT) == total
+    sum_of_counts(&memory[from..from + VALUE_COUNT]) == total
+}
+
+// Whether the single numbers of a site's record are consistent. A threshold of 0 has nothing below
+// it, so no pending number is.
+fn numbers_consistent(settings: Settings, site: SiteRecord) -> bool
+    ensures { result ≡ numbers_pass settings site }
+{
+    site.used <= settings.capacity as u64
+        && site.arrivals <= SITE_LIMIT
+        && site.pending < site.threshold
+        && site.threshold <= SITE_LIMIT
+        && site.dropped <= site.arrivals
 }
 
 // Whether a site's record and memory are consistent (refusal 11). Internal: the rows before it in
-// `site_memory_refusal`, and in the batch call's start test, decide what it requires.
+// `test_site_memory`, and in the batch call's start test, decide what it requires.
 pub fn site_consistent(settings: Settings, site: SiteRecord, memory: &[Word]) -> bool
     requires { MemoryFits settings memory.now }
     ensures { result ≡ site_consistent settings site memory.now }
 {
-    let capacity = settings.capacity as u64;
-    if capacity < site.used {
-        return false;
-    }
-    if SITE_LIMIT < site.arrivals {
-        return false;
-    }
-    if site.threshold <= site.pending {
-        return false;
-    }
-    if SITE_LIMIT < site.threshold {
-        return false;
-    }
-    if site.arrivals < site.dropped {
-        return false;
-    }
-    let used = site.used as usize;
-    if counters_consistent(settings, site, memory, used) {
-        let from = 4 * (settings.capacity as usize);
-        return values_sum_to(memory, from, site.arrivals);
-    }
-    false
+    numbers_consistent(settings, site)
+        && counters_consistent(settings, site, memory, site.used as usize)
+        && values_sum_to(memory, 4 * (settings.capacity as usize), site.arrivals)
 }
 
 // What every call on a site tests first: refusals 1, 2, 3; then 4, 11.
-pub fn site_memory_refusal(settings: Settings, site: SiteRecord, memory: &[Word]) -> u32
-    ensures { result ≡ site_memory_refusal settings site memory.now }
+pub fn test_site_memory(
+    settings: Settings,
+    site: SiteRecord,
+    memory: &[Word],
+) -> Result<(), Refusal>
+    ensures { refusal_in result ≡ site_memory_refusal settings site memory.now }
 {
-    let refusal = settings::test_settings(settings);
-    if refusal != NO_REFUSAL {
-        return refusal;
-    }
+    settings::test_settings(settings)?;
     if memory.len() < site_words(settings) {
-        return MEMORY_TOO_SHORT;
+        return Err(Refusal::MemoryTooShort);
     }
-    if site_consistent(settings, site, memory) {
-        return NO_REFUSAL;
+    if !site_consistent(settings, site, memory) {
+        return Err(Refusal::MemoryInconsistent);
     }
-    MEMORY_INCONSISTENT
+    Ok(())
 }
 
-// The arrivals of a histogram at or below a value. Internal: `site_memory_refusal` decides that the
-// histogram lies within the memory, `site_refusals::message_refusal` that the value is one.
+// The arrivals of a histogram at or below a value. Internal: `test_site_memory` decides that the
+// histogram lies within the memory, `site_refusals::test_message` that the value is one.
 pub fn count_up_to(memory: &[Word], from: usize, value: usize) -> u64
     requires { ValuesFit memory.now from value }
     ensures { result ≡ up_to value (take value_count (drop from memory.now)) }
 {
-    sum_of_counts(memory, from, value + 1)
+    sum_of_counts(&memory[from..from + value + 1])
 }

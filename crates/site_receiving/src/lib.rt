@@ -19,7 +19,7 @@ pub struct Replied {
 
 // A message at a site: a poll is answered by what is pending, a probe by the arrivals at or below
 // its value, and an announcement sets the threshold. The memory is only read. Internal: what it
-// requires is decided by `site_memory::site_memory_refusal` and `site_refusals::message_refusal`,
+// requires is decided by `site_memory::test_site_memory` and `site_refusals::test_message`,
 // or by the tests of the batch call.
 pub fn receive_step(
     settings: Settings,

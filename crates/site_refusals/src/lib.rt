@@ -4,6 +4,7 @@
 #![tactic(auto)]
 
 ghost use Rattle.std.specs.Prelude.{◌≡◌, not, ◌&&◌, ltb};
+ghost use Rattle.model.specs.Refusals.{refusal_in};
 ghost use Rattle.model.specs.Limits.{top_value};
 ghost use Rattle.model.specs.Draws.{is_draw};
 ghost use Rattle.model.specs.Messages.{is_probe};
@@ -11,35 +12,34 @@ ghost use Rattle.model.specs.Site.{address_refusal, room_refusal, line_refusal, 
 ghost use Rattle.site_refusals.specs.Bare.{bare_site};
 
 use model::{
-    AMOUNT_NOT_DUE, ANNOUNCEMENT, Arrival, LEAST_DRAWN, MESSAGE_NOT_DUE, Message, NO_REFUSAL, POLL,
-    PROBE, SITE_FULL, SITE_LIMIT, Settings, SiteRecord, TOP_VALUE, UNKNOWN_ITEM, UNKNOWN_SITE,
-    VALUE_TOO_LARGE,
+    ANNOUNCEMENT, Arrival, LEAST_DRAWN, Message, POLL, PROBE, Refusal, SITE_LIMIT, Settings,
+    SiteRecord, TOP_VALUE,
 };
 
-// Why an arrival's site, item or value is refused: 5, 6, 7.
-pub fn address_refusal(settings: Settings, arrival: Arrival) -> u32
-    ensures { result ≡ address_refusal settings arrival }
+// Whether an arrival's site, item and value are known: 5, 6, 7.
+pub fn test_address(settings: Settings, arrival: Arrival) -> Result<(), Refusal>
+    ensures { refusal_in result ≡ address_refusal settings arrival }
 {
     if settings.sites <= arrival.site {
-        return UNKNOWN_SITE;
+        return Err(Refusal::UnknownSite);
     }
     if settings.universe <= arrival.item {
-        return UNKNOWN_ITEM;
+        return Err(Refusal::UnknownItem);
     }
     if TOP_VALUE < arrival.value {
-        return VALUE_TOO_LARGE;
+        return Err(Refusal::ValueTooLarge);
     }
-    NO_REFUSAL
+    Ok(())
 }
 
-// Whether a site takes no further arrival: 8.
-fn room_refusal(site: SiteRecord) -> u32
-    ensures { result ≡ room_refusal (bare_site site) }
+// Whether a site takes a further arrival: 8.
+fn test_room(site: SiteRecord) -> Result<(), Refusal>
+    ensures { refusal_in result ≡ room_refusal (bare_site site) }
 {
     if SITE_LIMIT <= site.arrivals {
-        return SITE_FULL;
+        return Err(Refusal::SiteFull);
     }
-    NO_REFUSAL
+    Ok(())
 }
 
 // Whether an arrival is a draw; if not, it is a touch.
@@ -49,91 +49,70 @@ pub fn is_draw(arrival: Arrival) -> bool
     LEAST_DRAWN <= arrival.value
 }
 
-// Why an arrival is refused at a site that is consistent: 5, 6, 7; then 8, unless it is a touch.
-pub fn line_refusal(settings: Settings, site: SiteRecord, arrival: Arrival) -> u32
-    ensures { result ≡ line_refusal settings (bare_site site) arrival }
+// Whether an arrival is taken at a site that is consistent: 5, 6, 7; then 8, unless it is a touch.
+pub fn test_arrival(settings: Settings, site: SiteRecord, arrival: Arrival) -> Result<(), Refusal>
+    ensures { refusal_in result ≡ line_refusal settings (bare_site site) arrival }
 {
-    let refusal = address_refusal(settings, arrival);
-    if refusal != NO_REFUSAL {
-        return refusal;
-    }
+    test_address(settings, arrival)?;
     if is_draw(arrival) {
-        return room_refusal(site);
+        test_room(site)?;
     }
-    NO_REFUSAL
+    Ok(())
 }
 
 // Whether a message is not due at a site: of another kind, or with another site's number.
 fn message_not_due(which: u32, message: Message) -> bool
     ensures { result ≡ not (due_at_site which message) }
 {
-    if message.site != which {
-        return true;
-    }
-    if message.kind == POLL {
-        return false;
-    }
-    if message.kind == PROBE {
-        return false;
-    }
-    message.kind != ANNOUNCEMENT
+    message.site != which || !matches!(message.kind, POLL | PROBE | ANNOUNCEMENT)
 }
 
 // Whether a probe asks for a value that is none.
 fn value_unknown(message: Message) -> bool
     ensures { result ≡ (is_probe message && ltb top_value message.a) }
 {
-    let top = TOP_VALUE as u64;
-    if message.kind == PROBE {
-        return top < message.a;
-    }
-    false
+    message.kind == PROBE && (TOP_VALUE as u64) < message.a
 }
 
 // Whether a message's amounts are not due at a site.
 fn amount_wrong(site: SiteRecord, message: Message) -> bool
     ensures { result ≡ wrong_at_site (bare_site site) message }
 {
-    if message.kind == POLL {
-        if message.a != 0 {
-            return true;
-        }
-        return message.b != 0;
+    match message.kind {
+        POLL => message.a != 0 || message.b != 0,
+        PROBE => message.b != 0,
+        ANNOUNCEMENT => message.a < site.threshold || SITE_LIMIT < message.a,
+        _ => false,
     }
-    if message.kind == PROBE {
-        return message.b != 0;
-    }
-    if message.kind == ANNOUNCEMENT {
-        if message.a < site.threshold {
-            return true;
-        }
-        return SITE_LIMIT < message.a;
-    }
-    false
 }
 
-// Why the kind, the value or the amounts of a message are refused: 9, 7, 10.
-fn due_refusal(site: SiteRecord, which: u32, message: Message) -> u32
-    ensures { result ≡ site_due_refusal (bare_site site) which message }
+// Whether the kind, the value and the amounts of a message are due: 9, 7, 10.
+fn test_due(site: SiteRecord, which: u32, message: Message) -> Result<(), Refusal>
+    ensures { refusal_in result ≡ site_due_refusal (bare_site site) which message }
 {
     if message_not_due(which, message) {
-        return MESSAGE_NOT_DUE;
+        return Err(Refusal::MessageNotDue);
     }
     if value_unknown(message) {
-        return VALUE_TOO_LARGE;
+        return Err(Refusal::ValueTooLarge);
     }
     if amount_wrong(site, message) {
-        return AMOUNT_NOT_DUE;
+        return Err(Refusal::AmountNotDue);
     }
-    NO_REFUSAL
+    Ok(())
 }
 
-// Why a message is refused at a site that is consistent: 5; then 9, 7, 10.
-pub fn message_refusal(settings: Settings, site: SiteRecord, which: u32, message: Message) -> u32
-    ensures { result ≡ site_message_refusal settings (bare_site site) which message }
+// Whether a message is taken at a site that is consistent: 5; then 9, 7, 10.
+pub fn test_message(
+    settings: Settings,
+    site: SiteRecord,
+    which: u32,
+    message: Message,
+) -> Result<(), Refusal>
+    ensures { refusal_in result ≡ site_message_refusal settings (bare_site site) which message }
 {
     if settings.sites <= message.site {
-        return UNKNOWN_SITE;
+        return Err(Refusal::UnknownSite);
     }
-    due_refusal(site, which, message)
+    test_due(site, which, message)
 }

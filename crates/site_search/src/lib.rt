@@ -1,6 +1,6 @@
 // Where a counter of one site stands in its lent memory (Space-Saving): the search for an item and
 // the scan for the least count. The functions with a `requires` are internal; the test that decides
-// it is `site_memory::site_memory_refusal`, which every call on a site makes first, or the batch
+// it is `site_memory::test_site_memory`, which every call on a site makes first, or the batch
 // call's start test.
 
 #![tactic(auto)]
@@ -13,7 +13,7 @@ ghost use Rattle.site_search.specs.Order.{ordered};
 use model::Word;
 
 // The lowest place of the item's counter, or the number of counters in use if it has none.
-// Internal: `site_memory_refusal` decides that the counters in use lie within the memory.
+// Internal: `test_site_memory` decides that the counters in use lie within the memory.
 pub fn find_counter(memory: &[Word], used: usize, item: Word) -> usize
     requires { 4 * used ≤ length memory.now }
     ensures { result ≡ find item (counters_in used memory.now) }

@@ -150,7 +150,7 @@ fn store_arrival(
 }
 
 // A draw at a site: stored, and then the messages that go out. Internal: what it requires is
-// decided by `site_memory::site_memory_refusal`, `site_refusals::line_refusal` and
+// decided by `site_memory::test_site_memory`, `site_refusals::test_arrival` and
 // `site_refusals::is_draw`, or by the tests of the batch call.
 pub fn observe_step(
     settings: Settings,

@@ -1,12 +1,8 @@
 -- `site_memory::counters_consistent` meets its contract. The loop's invariant: the counters before
--- place i are consistent. The measure is the number of counters left.
-use Prim.Native.Nat.{◌-◌}
+-- place i are consistent.
 use Rattle.model.specs.SiteMemory.{site_in}
 use Rattle.site_memory.proofs.ConsistencyLaws.{Passing}
 use Rattle.site_memory.proofs.counters_consistent.Given as goal
 
 abbrev pub invariant-loop-i : goal.invariant-loop-i
 invariant-loop-i l = Passing l.settings (site_in l.settings l.site l.memory) l.memory l.used l.i
-
-abbrev pub decreases-loop-i : goal.decreases-loop-i
-decreases-loop-i l = l.used - l.i

@@ -11,12 +11,8 @@ fn in_phase(coordinator: CoordinatorRecord, phase: Phase) -> CoordinatorRecord
     ensures { result ≡ in_phase coordinator phase }
 {
     CoordinatorRecord {
-        total: coordinator.total,
-        base: coordinator.base,
-        threshold: coordinator.threshold,
-        signals: coordinator.signals,
-        quantile: coordinator.quantile,
-        phase: phase,
+        phase,
+        ..coordinator
     }
 }
 
@@ -27,7 +23,7 @@ pub fn speak(coordinator: CoordinatorRecord, phase: Phase, out: Message) -> Answ
     Answered {
         coordinator: in_phase(coordinator, phase),
         count: 1,
-        out: out,
+        out,
     }
 }
 

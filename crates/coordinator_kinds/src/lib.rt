@@ -31,9 +31,5 @@ pub fn threshold_of(settings: Settings, base: u64) -> u64
 {
     let share = (settings.epsilon as u64) * base;
     let parts = THRESHOLD_FACTOR * (settings.sites as u64);
-    let threshold = share / parts;
-    if threshold < 1 {
-        return 1;
-    }
-    threshold
+    (share / parts).max(1)
 }

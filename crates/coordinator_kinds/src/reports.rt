@@ -24,9 +24,8 @@ pub fn take_item_report(
         memory.old) message) memory.old memory.new result }
 {
     let item = message.a as usize;
-    memory[item] = memory[item] + message.b;
-    let phase = coordinator.phase;
-    keep_silent(coordinator, phase)
+    memory[item] += message.b;
+    keep_silent(coordinator, coordinator.phase)
 }
 
 // While the threshold is 1, an arrival's value is counted.
@@ -37,7 +36,7 @@ fn count_value(settings: Settings, threshold: u64, value: u64, memory: &mut [u64
 {
     if threshold == 1 {
         let place = (settings.universe as usize) + (value as usize);
-        memory[place] = memory[place] + 1;
+        memory[place] += 1;
     }
 }
 
@@ -55,11 +54,12 @@ pub fn take_count_report(
         memory.new result }
 {
     count_value(settings, coordinator.threshold, message.b, memory);
-    let mut next = coordinator;
-    let signals = coordinator.signals + 1;
-    next.total = coordinator.total + message.a;
-    next.signals = signals;
-    if signals == settings.sites {
+    let next = CoordinatorRecord {
+        total: coordinator.total + message.a,
+        signals: coordinator.signals + 1,
+        ..coordinator
+    };
+    if next.signals == settings.sites {
         return speak(next, Phase::Collecting(0), poll_of(0));
     }
     keep_silent(next, Phase::Idle)

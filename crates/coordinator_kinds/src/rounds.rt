@@ -20,9 +20,11 @@ fn close(settings: Settings, coordinator: CoordinatorRecord) -> Answered
         (closed settings (coordinator_in settings coordinator memory) coordinator.total) }
 {
     let threshold = threshold_of(settings, coordinator.total);
-    let mut next = coordinator;
-    next.base = coordinator.total;
-    next.threshold = threshold;
+    let next = CoordinatorRecord {
+        base: coordinator.total,
+        threshold,
+        ..coordinator
+    };
     if 2 <= threshold {
         return speak(
             next,
@@ -44,8 +46,10 @@ pub fn take_poll_answer(
     ensures { (memory : List ℕ) → result ≡ answer_of
         (takes_poll_answer settings (coordinator_in settings coordinator memory) site message) }
 {
-    let mut next = coordinator;
-    next.total = coordinator.total + message.a;
+    let next = CoordinatorRecord {
+        total: coordinator.total + message.a,
+        ..coordinator
+    };
     let following = site + 1;
     if following < settings.sites {
         return speak(next, Phase::Collecting(following), poll_of(following));
@@ -68,8 +72,10 @@ fn narrow(settings: Settings, coordinator: CoordinatorRecord, low: u32, high: u3
         (narrowed (coordinator_in settings coordinator memory) low high) }
 {
     if low == high {
-        let mut next = coordinator;
-        next.quantile = low;
+        let next = CoordinatorRecord {
+            quantile: low,
+            ..coordinator
+        };
         return keep_silent(next, Phase::Announcing(0));
     }
     speak(
@@ -101,6 +107,7 @@ fn halve(
 
 // A kind 6 from the site that is probed. Internal: `receive` tests the site, the interval and the
 // count.
+// As it is: the model's definitions (`receives_in`) have a phase's four numbers one by one.
 pub fn take_probe_answer(
     settings: Settings,
     coordinator: CoordinatorRecord,

@@ -1,10 +1,9 @@
 -- What a row of the coordinator's is worth: `row-claims`.
 use Prim.Native.Nat.{ℕ, ◌≤◌}
-use mathlib.Core.Path.{◌≡◌, refl, sym, ap, ◌∙◌}
-use mathlib.Core.Bool.{Bool, true, false, ◌&&◌}
+use mathlib.Core.Path.{◌≡◌, refl}
+use mathlib.Core.Bool.{true, false}
 use mathlib.Core.List.{List, []}
 use native.Mathlib.Omega.{arith}
-use lib.Dec.{eqb, leb}
 use borrow.Author.Tests.{le-leb, ne_eqb}
 use Rattle.laws.proofs.Tests.{and_false}
 use Rattle.model.specs.declared.Settings.{Settings}

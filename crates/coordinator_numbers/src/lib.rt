@@ -4,7 +4,7 @@
 
 #![tactic(auto)]
 
-ghost use Rattle.std.specs.Prelude.{◌≡◌, ◌≤◌, max};
+ghost use Rattle.std.specs.Prelude.{◌≡◌, ◌≤◌};
 ghost use Rattle.record_numbers.specs.Numbers.{greatest_narrow, greatest_held, coordinator_well, no_coordinator, coordinator_from, coordinator_read, coordinator_numbers};
 
 use coordinator_phase::{phase_from, phase_numbers, phase_well};
@@ -13,34 +13,20 @@ use model::{CoordinatorRecord, Phase};
 // How many numbers the record takes.
 pub const COORDINATOR_NUMBERS: usize = 10;
 
-// The larger of two numbers.
-fn larger(x: u64, y: u64) -> u64
-    ensures { result ≡ max x y }
-{
-    if x < y {
-        return y;
-    }
-    x
-}
-
 // The greatest of the numbers that the record holds in four bytes.
 fn greatest_held(row: &[u64; COORDINATOR_NUMBERS]) -> u64
     ensures { result ≡ greatest_held row.now }
 {
-    let single = larger(row[3], row[4]);
-    let interval = larger(row[7], row[8]);
-    let phase = larger(row[6], interval);
-    larger(single, phase)
+    let single = row[3].max(row[4]);
+    let interval = row[7].max(row[8]);
+    single.max(row[6].max(interval))
 }
 
 // Whether a row is that of a record.
 fn coordinator_well(row: &[u64; COORDINATOR_NUMBERS]) -> bool
     ensures { result ≡ coordinator_well row.now }
 {
-    if 4294967295 < greatest_held(row) {
-        return false;
-    }
-    phase_well(row[5], row[6], row[7], row[8], row[9])
+    greatest_held(row) <= 4294967295 && phase_well(row[5], row[6], row[7], row[8], row[9])
 }
 
 // The record of a row that is one.
@@ -48,17 +34,14 @@ fn record_from(row: &[u64; COORDINATOR_NUMBERS]) -> CoordinatorRecord
     requires { greatest_held row.now ≤ greatest_narrow }
     ensures { result ≡ coordinator_from row.now }
 {
-    let site = row[6] as u32;
-    let low = row[7] as u32;
-    let high = row[8] as u32;
-    let phase = phase_from(row[5], site, low, high, row[9]);
+    let phase = phase_from(row[5], row[6] as u32, row[7] as u32, row[8] as u32, row[9]);
     CoordinatorRecord {
         total: row[0],
         base: row[1],
         threshold: row[2],
         signals: row[3] as u32,
         quantile: row[4] as u32,
-        phase: phase,
+        phase,
     }
 }
 
@@ -66,14 +49,13 @@ fn record_from(row: &[u64; COORDINATOR_NUMBERS]) -> CoordinatorRecord
 fn no_coordinator() -> CoordinatorRecord
     ensures { result ≡ no_coordinator }
 {
-    let phase = Phase::Idle;
     CoordinatorRecord {
         total: 0,
         base: 0,
         threshold: 0,
         signals: 0,
         quantile: 0,
-        phase: phase,
+        phase: Phase::Idle,
     }
 }
 
@@ -82,17 +64,17 @@ pub fn coordinator_from(row: &[u64; COORDINATOR_NUMBERS]) -> CoordinatorRecord
     ensures { result ≡ coordinator_read row.now }
 {
     if coordinator_well(row) {
-        return record_from(row);
+        record_from(row)
+    } else {
+        no_coordinator()
     }
-    no_coordinator()
 }
 
 // The row of a record.
 pub fn coordinator_row(coordinator: CoordinatorRecord) -> [u64; COORDINATOR_NUMBERS]
     ensures { result ≡ coordinator_numbers coordinator }
 {
-    let now_in = coordinator.phase;
-    let phase = phase_numbers(now_in);
+    let phase = phase_numbers(coordinator.phase);
     [
         coordinator.total,
         coordinator.base,

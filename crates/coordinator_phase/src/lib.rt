@@ -14,82 +14,62 @@ use record_numbers::PhaseNumbers;
 fn all_zero(x: u64, y: u64, z: u64) -> bool
     ensures { result ≡ is_zero (x + y + z) }
 {
-    if x != 0 {
-        return false;
-    }
-    if y != 0 {
-        return false;
-    }
-    z == 0
+    x == 0 && y == 0 && z == 0
 }
 
 // Whether five numbers are a phase's: its number is at most 3, and those that it has not are 0.
 pub fn phase_well(which: u64, site: u64, low: u64, high: u64, sum: u64) -> bool
     ensures { result ≡ phase_well which site low high sum }
 {
-    if which == 0 {
-        if site != 0 {
-            return false;
-        }
-        return all_zero(low, high, sum);
+    match which {
+        0 => site == 0 && all_zero(low, high, sum),
+        1 | 3 => all_zero(low, high, sum),
+        2 => true,
+        _ => false,
     }
-    if which == 2 {
-        return true;
-    }
-    if 3 < which {
-        return false;
-    }
-    all_zero(low, high, sum)
 }
 
 // The phase of five numbers.
 pub fn phase_from(which: u64, site: u32, low: u32, high: u32, sum: u64) -> Phase
     ensures { result ≡ phase_from which site low high sum }
 {
-    if which == 0 {
-        return Phase::Idle;
+    match which {
+        0 => Phase::Idle,
+        1 => Phase::Collecting(site),
+        2 => Phase::Probing(site, low, high, sum),
+        _ => Phase::Announcing(site),
     }
-    if which == 1 {
-        return Phase::Collecting(site);
-    }
-    if which == 2 {
-        return Phase::Probing(site, low, high, sum);
-    }
-    Phase::Announcing(site)
 }
 
 // The numbers of a phase; those that it has not are 0.
 pub fn phase_numbers(phase: Phase) -> PhaseNumbers
     ensures { result ≡ phase_numbers phase }
 {
+    let idle = PhaseNumbers {
+        which: 0,
+        site: 0,
+        low: 0,
+        high: 0,
+        sum: 0,
+    };
     match phase {
-        Phase::Idle => PhaseNumbers {
-            which: 0,
-            site: 0,
-            low: 0,
-            high: 0,
-            sum: 0,
-        },
+        Phase::Idle => idle,
         Phase::Collecting(site) => PhaseNumbers {
             which: 1,
-            site: site,
-            low: 0,
-            high: 0,
-            sum: 0,
+            site,
+            ..idle
         },
         Phase::Probing(site, low, high, sum) => PhaseNumbers {
             which: 2,
-            site: site,
-            low: low,
-            high: high,
-            sum: sum,
+            site,
+            low,
+            high,
+            sum,
         },
         Phase::Announcing(site) => PhaseNumbers {
             which: 3,
-            site: site,
-            low: 0,
-            high: 0,
-            sum: 0,
+            site,
+            ..idle
         },
     }
 }

@@ -8,11 +8,11 @@ ghost use Rattle.model.specs.declared.Settings.{Settings};
 ghost use Rattle.model.specs.Messages.{is_item_report};
 ghost use Rattle.model.specs.Coordinator.{due_in, asked_value, names_large_value, wrong_at_coordinator, coordinator_due_refusal, coordinator_refusal};
 ghost use Rattle.model.specs.CoordinatorMemory.{coordinator_in};
+ghost use Rattle.model.specs.Refusals.{refusal_in};
 
 use model::{
-    AMOUNT_NOT_DUE, COUNT_REPORT, CoordinatorRecord, ITEM_REPORT, MESSAGE_NOT_DUE, Message,
-    NO_REFUSAL, POLL_ANSWER, PROBE_ANSWER, Phase, SITE_LIMIT, Settings, TOP_VALUE, UNKNOWN_ITEM,
-    UNKNOWN_SITE, VALUE_TOO_LARGE,
+    COUNT_REPORT, CoordinatorRecord, ITEM_REPORT, Message, POLL_ANSWER, PROBE_ANSWER, Phase,
+    Refusal, SITE_LIMIT, Settings, TOP_VALUE,
 };
 
 // Whether the phase takes no message of this kind, or not from this site.
@@ -20,24 +20,9 @@ fn not_due(phase: Phase, message: Message) -> bool
     ensures { result ≡ not (due_in phase message) }
 {
     match phase {
-        Phase::Idle => {
-            if message.kind == ITEM_REPORT {
-                return false;
-            }
-            message.kind != COUNT_REPORT
-        }
-        Phase::Collecting(site) => {
-            if message.kind == POLL_ANSWER {
-                return message.site != site;
-            }
-            true
-        }
-        Phase::Probing(site, _, _, _) => {
-            if message.kind == PROBE_ANSWER {
-                return message.site != site;
-            }
-            true
-        }
+        Phase::Idle => !matches!(message.kind, ITEM_REPORT | COUNT_REPORT),
+        Phase::Collecting(site) => message.kind != POLL_ANSWER || message.site != site,
+        Phase::Probing(site, _, _, _) => message.kind != PROBE_ANSWER || message.site != site,
         Phase::Announcing(_) => true,
     }
 }
@@ -47,10 +32,8 @@ fn asked_value(phase: Phase) -> u64
     ensures { result ≡ asked_value phase }
 {
     match phase {
-        Phase::Idle => 0,
-        Phase::Collecting(_) => 0,
         Phase::Probing(_, low, high, _) => ((low as u64) + (high as u64)) / 2,
-        Phase::Announcing(_) => 0,
+        _ => 0,
     }
 }
 
@@ -58,10 +41,7 @@ fn asked_value(phase: Phase) -> u64
 fn names_unknown_item(settings: Settings, message: Message) -> bool
     ensures { result ≡ (is_item_report message && leb settings.universe message.a) }
 {
-    if message.kind == ITEM_REPORT {
-        return (settings.universe as u64) <= message.a;
-    }
-    false
+    message.kind == ITEM_REPORT && (settings.universe as u64) <= message.a
 }
 
 // Whether a value above 1023 stands where a message names a value.
@@ -69,15 +49,11 @@ fn names_large_value(coordinator: CoordinatorRecord, message: Message) -> bool
     ensures { (settings : Settings) (memory : List ℕ) → result ≡ names_large_value
         (coordinator_in settings coordinator memory) message }
 {
-    if message.kind == PROBE_ANSWER {
-        return (TOP_VALUE as u64) < message.a;
+    match message.kind {
+        PROBE_ANSWER => (TOP_VALUE as u64) < message.a,
+        COUNT_REPORT => coordinator.threshold == 1 && (TOP_VALUE as u64) < message.b,
+        _ => false,
     }
-    if message.kind == COUNT_REPORT {
-        if coordinator.threshold == 1 {
-            return (TOP_VALUE as u64) < message.b;
-        }
-    }
-    false
 }
 
 // Whether an amount is not the one that is due, or a number is not 0 that must be.
@@ -85,63 +61,51 @@ fn wrong_amount(coordinator: CoordinatorRecord, message: Message) -> bool
     ensures { (settings : Settings) (memory : List ℕ) → result ≡ wrong_at_coordinator
         (coordinator_in settings coordinator memory) message }
 {
-    if message.kind == ITEM_REPORT {
-        return message.b != coordinator.threshold;
+    let due = coordinator.threshold;
+    match message.kind {
+        ITEM_REPORT => message.b != due,
+        COUNT_REPORT => message.a != due || (due != 1 && message.b != 0),
+        POLL_ANSWER => due <= message.a || message.b != 0,
+        PROBE_ANSWER => message.a != asked_value(coordinator.phase) || SITE_LIMIT < message.b,
+        _ => false,
     }
-    if message.kind == COUNT_REPORT {
-        if message.a != coordinator.threshold {
-            return true;
-        }
-        if coordinator.threshold == 1 {
-            return false;
-        }
-        return message.b != 0;
-    }
-    if message.kind == POLL_ANSWER {
-        if coordinator.threshold <= message.a {
-            return true;
-        }
-        return message.b != 0;
-    }
-    if message.kind == PROBE_ANSWER {
-        let phase = coordinator.phase;
-        let asked = asked_value(phase);
-        if message.a != asked {
-            return true;
-        }
-        return SITE_LIMIT < message.b;
-    }
-    false
 }
 
 // Why the kind, the item, the value or the amounts of a message are refused: 9, 6, 7, 10.
-fn due_refusal(settings: Settings, coordinator: CoordinatorRecord, message: Message) -> u32
-    ensures { (memory : List ℕ) → result ≡ coordinator_due_refusal settings
+fn test_due(
+    settings: Settings,
+    coordinator: CoordinatorRecord,
+    message: Message,
+) -> Result<(), Refusal>
+    ensures { (memory : List ℕ) → refusal_in result ≡ coordinator_due_refusal settings
         (coordinator_in settings coordinator memory) message }
 {
-    let phase = coordinator.phase;
-    if not_due(phase, message) {
-        return MESSAGE_NOT_DUE;
+    if not_due(coordinator.phase, message) {
+        return Err(Refusal::MessageNotDue);
     }
     if names_unknown_item(settings, message) {
-        return UNKNOWN_ITEM;
+        return Err(Refusal::UnknownItem);
     }
     if names_large_value(coordinator, message) {
-        return VALUE_TOO_LARGE;
+        return Err(Refusal::ValueTooLarge);
     }
     if wrong_amount(coordinator, message) {
-        return AMOUNT_NOT_DUE;
+        return Err(Refusal::AmountNotDue);
     }
-    NO_REFUSAL
+    Ok(())
 }
 
-// The refusal of a message, or 0: 5; then 9, 6, 7, 10.
-pub fn message_refusal(settings: Settings, coordinator: CoordinatorRecord, message: Message) -> u32
-    ensures { (memory : List ℕ) → result ≡ coordinator_refusal settings
+// The test of a message: refusal 5; then 9, 6, 7, 10.
+pub fn test_message(
+    settings: Settings,
+    coordinator: CoordinatorRecord,
+    message: Message,
+) -> Result<(), Refusal>
+    ensures { (memory : List ℕ) → refusal_in result ≡ coordinator_refusal settings
         (coordinator_in settings coordinator memory) message }
 {
     if settings.sites <= message.site {
-        return UNKNOWN_SITE;
+        return Err(Refusal::UnknownSite);
     }
-    due_refusal(settings, coordinator, message)
+    test_due(settings, coordinator, message)
 }

@@ -25,20 +25,19 @@ pub fn announce_step(settings: Settings, coordinator: CoordinatorRecord) -> Answ
     ensures { (memory : List ℕ) → result ≡ answer_of
         (announced settings (coordinator_in settings coordinator memory)) }
 {
-    let phase = coordinator.phase;
-    match phase {
-        Phase::Idle => keep_silent(coordinator, phase),
-        Phase::Collecting(_) => keep_silent(coordinator, phase),
-        Phase::Probing(_, _, _, _) => keep_silent(coordinator, phase),
+    match coordinator.phase {
         Phase::Announcing(site) => {
             let out = announcement_of(site, coordinator.threshold, coordinator.base);
             if site + 1 < settings.sites {
                 return speak(coordinator, Phase::Announcing(site + 1), out);
             }
-            let mut next = coordinator;
-            next.signals = 0;
+            let next = CoordinatorRecord {
+                signals: 0,
+                ..coordinator
+            };
             speak(next, Phase::Idle, out)
         }
+        _ => keep_silent(coordinator, coordinator.phase),
     }
 }
 
@@ -56,8 +55,7 @@ pub fn receive_step(
         (coordinator_in settings coordinator memory.old) message) memory.old
         memory.new result }
 {
-    let phase = coordinator.phase;
-    match phase {
+    match coordinator.phase {
         Phase::Idle => {
             if message.kind == ITEM_REPORT {
                 return take_item_report(settings, coordinator, message, memory);
@@ -68,6 +66,6 @@ pub fn receive_step(
         Phase::Probing(site, low, high, sum) => {
             take_probe_answer(settings, coordinator, site, low, high, sum, message)
         }
-        Phase::Announcing(_) => keep_silent(coordinator, phase),
+        Phase::Announcing(_) => keep_silent(coordinator, coordinator.phase),
     }
 }

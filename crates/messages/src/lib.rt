@@ -14,12 +14,7 @@ use model::{
 pub fn message_of(kind: u32, site: u32, a: u64, b: u64) -> Message
     ensures { result ≡ message kind site a b }
 {
-    Message {
-        kind: kind,
-        site: site,
-        a: a,
-        b: b,
-    }
+    Message { kind, site, a, b }
 }
 
 // No message: zeros.
@@ -82,14 +77,8 @@ pub fn announcement_of(site: u32, threshold: u64, base: u64) -> Message
 pub fn to_coordinator(message: Message) -> bool
     ensures { result ≡ to_coordinator message }
 {
-    if message.kind == ITEM_REPORT {
-        return true;
-    }
-    if message.kind == COUNT_REPORT {
-        return true;
-    }
-    if message.kind == POLL_ANSWER {
-        return true;
-    }
-    message.kind == PROBE_ANSWER
+    matches!(
+        message.kind,
+        ITEM_REPORT | COUNT_REPORT | POLL_ANSWER | PROBE_ANSWER
+    )
 }

@@ -4,10 +4,10 @@ use borrow.Author.Tests.{eq-eqb, ne_eqb}
 use Rattle.coordinator_kinds.proofs.MemoryLaws.{memory_value}
 use Rattle.coordinator_kinds.proofs.reports.take_count_report.Goals as goal
 
-pub returns-then-signals-settings : goal.returns-then-signals-settings
-returns-then-signals-settings c =
+pub returns-then-next-settings : goal.returns-then-next-settings
+returns-then-next-settings c =
     record {
-      answer = rw (eq-eqb _ _ c.if-signals-settings.true)
+      answer = rw (eq-eqb _ _ c.if-next-settings.true)
           (rw c.poll_of.ensures at c.speak.ensures);
       memory = c.count_value.ensures
           ∙ memory_value c.args.settings c.args.coordinator
@@ -19,7 +19,7 @@ returns-then-signals-settings c =
 pub returns : goal.returns
 returns c =
     record {
-      answer = rw (ne_eqb _ _ c.if-signals-settings.false) c.keep_silent.ensures;
+      answer = rw (ne_eqb _ _ c.if-next-settings.false) c.keep_silent.ensures;
       memory = c.count_value.ensures
           ∙ memory_value c.args.settings c.args.coordinator
           c.args.memory.now

@@ -2,7 +2,7 @@
 use mathlib.Core.Path.{refl}
 use borrow.Author.Tests.{le-leb, lt-leb}
 use Rattle.model.proofs.Thresholds.RefusalLaws.{begin, pass, refuse, end}
-use Rattle.coordinator_refusals.proofs.message_refusal.Goals as goal
+use Rattle.coordinator_refusals.proofs.test_message.Goals as goal
 
 pub returns-then-settings-message : goal.returns-then-settings-message
 returns-then-settings-message c memory =
@@ -11,4 +11,4 @@ returns-then-settings-message c memory =
 pub returns : goal.returns
 returns c memory =
     end (pass _ _ _ (begin _) refl (lt-leb _ _ c.if-settings-message.false))
-    (c.due_refusal.ensures memory)
+    (c.test_due.ensures memory)

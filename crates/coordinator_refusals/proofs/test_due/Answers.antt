@@ -6,8 +6,8 @@ use Rattle.model.specs.declared.Settings.{Settings}
 use Rattle.model.specs.Coordinator.{coordinator_due_refusal}
 use Rattle.model.specs.CoordinatorMemory.{coordinator_in}
 use Rattle.model.proofs.Thresholds.RefusalLaws.{Still, begin, pass, refuse, end, told}
-use Rattle.coordinator_refusals.proofs.due_refusal.Goals as goal
-use Rattle.coordinator_refusals.proofs.due_refusal.Goals.{Else-names_large_value, Else-names_unknown_item, Else-not_due}
+use Rattle.coordinator_refusals.proofs.test_due.Goals as goal
+use Rattle.coordinator_refusals.proofs.test_due.Goals.{Else-names_large_value, Else-names_unknown_item, Else-not_due}
 
 abbrev answer : Else-not_due → List ℕ → ℕ
 answer c memory =

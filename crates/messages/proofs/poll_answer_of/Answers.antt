@@ -1,5 +1,0 @@
--- `messages::poll_answer_of` meets its contract: its four numbers are those of the table's row.
-use Rattle.messages.proofs.poll_answer_of.Goals as goal
-
-pub returns : goal.returns
-returns c = c.message_of.ensures

@@ -1,5 +1,0 @@
--- `messages::probe_answer_of` meets its contract: its four numbers are those of the table's row.
-use Rattle.messages.proofs.probe_answer_of.Goals as goal
-
-pub returns : goal.returns
-returns c = c.message_of.ensures

@@ -5,22 +5,25 @@
 #![tactic(auto)]
 
 ghost use Rattle.std.specs.Prelude.{◌≡◌};
+ghost use Rattle.model.specs.Refusals.{refusal_in};
 ghost use Rattle.site.specs.Calls.{observe_refusal, unchanged_by, receive_refusal, ObserveSays, SiteReceiveSays};
 
 use messages::no_message;
-use model::{Arrival, Message, NO_REFUSAL, Settings, SiteRecord, UNKNOWN_SITE, Word};
+use model::{Arrival, Message, NO_REFUSAL, Refusal, Settings, SiteRecord, Word, refusal_number};
 use site_receiving::Replied;
 use site_steps::Observed;
 
-// Why an arrival is refused: 1, 2, 3, 4, 11; then 5, 6, 7; then 8, unless it is a touch.
-fn observe_refusal(settings: Settings, site: SiteRecord, arrival: Arrival, memory: &[Word]) -> u32
-    ensures { result ≡ observe_refusal settings site arrival memory.now }
+// Whether an arrival is accepted: 1, 2, 3, 4, 11; then 5, 6, 7; then 8, unless it is a touch.
+fn test_observe(
+    settings: Settings,
+    site: SiteRecord,
+    arrival: Arrival,
+    memory: &[Word],
+) -> Result<(), Refusal>
+    ensures { refusal_in result ≡ observe_refusal settings site arrival memory.now }
 {
-    let refusal = site_memory::site_memory_refusal(settings, site, memory);
-    if refusal != NO_REFUSAL {
-        return refusal;
-    }
-    site_refusals::line_refusal(settings, site, arrival)
+    site_memory::test_site_memory(settings, site, memory)?;
+    site_refusals::test_arrival(settings, site, arrival)
 }
 
 // The answer of an arrival that changes nothing: refused with this number, or a touch.
@@ -29,8 +32,8 @@ fn unchanged(refusal: u32, site: SiteRecord) -> Observed
 {
     let none = no_message();
     Observed {
-        refusal: refusal,
-        site: site,
+        refusal,
+        site,
         count: 0,
         first: none,
         second: none,
@@ -46,7 +49,7 @@ pub fn observe(
 ) -> Observed
     ensures { ObserveSays settings site arrival memory.old memory.new result }
 {
-    let refusal = observe_refusal(settings, site, arrival, memory);
+    let refusal = refusal_number(test_observe(settings, site, arrival, memory));
     if refusal != NO_REFUSAL {
         return unchanged(refusal, site);
     }
@@ -56,24 +59,21 @@ pub fn observe(
     unchanged(refusal, site)
 }
 
-// Why a message is refused: 1, 2, 3, 4, 11; 5 for the site's own number; then 5, 9, 7, 10.
-fn receive_refusal(
+// Whether a message is accepted: 1, 2, 3, 4, 11; 5 for the site's own number; then 5, 9, 7, 10.
+fn test_receive(
     settings: Settings,
     site: SiteRecord,
     which: u32,
     message: Message,
     memory: &[Word],
-) -> u32
-    ensures { result ≡ receive_refusal settings site which message memory.now }
+) -> Result<(), Refusal>
+    ensures { refusal_in result ≡ receive_refusal settings site which message memory.now }
 {
-    let refusal = site_memory::site_memory_refusal(settings, site, memory);
-    if refusal != NO_REFUSAL {
-        return refusal;
-    }
+    site_memory::test_site_memory(settings, site, memory)?;
     if settings.sites <= which {
-        return UNKNOWN_SITE;
+        return Err(Refusal::UnknownSite);
     }
-    site_refusals::message_refusal(settings, site, which, message)
+    site_refusals::test_message(settings, site, which, message)
 }
 
 // A message at site `which`, with the reply, if there is one. The memory is only read.
@@ -86,12 +86,12 @@ pub fn receive(
 ) -> Replied
     ensures { SiteReceiveSays settings site which message memory.now result }
 {
-    let refusal = receive_refusal(settings, site, which, message, memory);
+    let refusal = refusal_number(test_receive(settings, site, which, message, memory));
     if refusal != NO_REFUSAL {
         let none = no_message();
         return Replied {
-            refusal: refusal,
-            site: site,
+            refusal,
+            site,
             count: 0,
             reply: none,
         };

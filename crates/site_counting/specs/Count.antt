@@ -2,7 +2,7 @@
 --
 --   CountItemAsks memory capacity used                 what the step requires
 --   CountItemSays before after capacity used item answer   what it promises
-use Rattle.std.specs.Prelude.{◌≡◌, List, ℕ, ◌+◌, ◌*◌, ◌≤◌, ◌<◌, length}
+use Rattle.std.specs.Prelude.{◌≡◌, List, ℕ, ◌*◌, ◌≤◌, ◌<◌, length}
 use Rattle.model.specs.declared.Leaving.{Leaving}
 use Rattle.model.specs.Counters.{Counter, counter_at, Placement, placement_for, place_of, counters_after, leaving_by}
 use Rattle.model.specs.SiteMemory.{counters_in, counter_numbers, overwrite}

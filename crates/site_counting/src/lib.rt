@@ -30,22 +30,20 @@ pub fn count_item(memory: &mut [Word], capacity: usize, used: usize, item: Word)
     if found < used {
         let old = counter_at(memory, found);
         let more = StoredCounter {
-            item: old.item,
             count: old.count + 1,
-            overestimate: old.overestimate,
-            reported: old.reported,
+            ..old
         };
         put_counter(memory, found, more);
         return Counted {
             place: found,
-            used: used,
+            used,
             counter: more,
             leaving: Leaving::Nobody,
         };
     }
     if used < capacity {
         let first = StoredCounter {
-            item: item,
+            item,
             count: 1,
             overestimate: 0,
             reported: 0,
@@ -62,7 +60,7 @@ pub fn count_item(memory: &mut [Word], capacity: usize, used: usize, item: Word)
     let replaced = counter_at(memory, least);
     let gone = unreported_of(replaced);
     let replacing = StoredCounter {
-        item: item,
+        item,
         count: replaced.count + 1,
         overestimate: replaced.count,
         reported: 0,
@@ -70,7 +68,7 @@ pub fn count_item(memory: &mut [Word], capacity: usize, used: usize, item: Word)
     put_counter(memory, least, replacing);
     Counted {
         place: least,
-        used: used,
+        used,
         counter: replacing,
         leaving: Leaving::Left(replaced.item, gone),
     }

@@ -31,41 +31,29 @@ pub fn receive_step(
     ensures { ReceiveStepSays settings site message memory.now result }
 {
     if message.kind == POLL {
-        let after = SiteRecord {
-            arrivals: site.arrivals,
-            pending: 0,
-            threshold: site.threshold,
-            used: site.used,
-            dropped: site.dropped,
-        };
         return Replied {
             refusal: NO_REFUSAL,
-            site: after,
+            site: SiteRecord { pending: 0, ..site },
             count: 1,
             reply: poll_answer_of(message.site, site.pending),
         };
     }
     if message.kind == PROBE {
         let from = 4 * (settings.capacity as usize);
-        let value = message.a as usize;
-        let count = site_memory::count_up_to(memory, from, value);
+        let count = site_memory::count_up_to(memory, from, message.a as usize);
         return Replied {
             refusal: NO_REFUSAL,
-            site: site,
+            site,
             count: 1,
             reply: probe_answer_of(message.site, message.a, count),
         };
     }
-    let after = SiteRecord {
-        arrivals: site.arrivals,
-        pending: site.pending,
-        threshold: message.a,
-        used: site.used,
-        dropped: site.dropped,
-    };
     Replied {
         refusal: NO_REFUSAL,
-        site: after,
+        site: SiteRecord {
+            threshold: message.a,
+            ..site
+        },
         count: 0,
         reply: no_message(),
     }

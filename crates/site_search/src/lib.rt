@@ -18,17 +18,12 @@ pub fn find_counter(memory: &[Word], used: usize, item: Word) -> usize
     requires { 4 * used ≤ length memory.now }
     ensures { result ≡ find item (counters_in used memory.now) }
 {
-    let mut i = 0;
-    let found = loop {
-        if used <= i {
-            break used;
-        }
+    for i in 0..used {
         if memory[4 * i] == item {
-            break i;
+            return i;
         }
-        i += 1;
-    };
-    found
+    }
+    used
 }
 
 // Whether a counter comes before another: by count, and of equals by item. Both are compared as one
@@ -47,8 +42,7 @@ pub fn least_counter(memory: &[Word], used: usize) -> usize
     ensures { result ≡ least_place (counters_in used memory.now) }
 {
     let mut best = 0;
-    let mut i = 1;
-    while i < used {
+    for i in 1..used {
         if is_before(
             memory[4 * i + 1],
             memory[4 * i],
@@ -57,7 +51,6 @@ pub fn least_counter(memory: &[Word], used: usize) -> usize
         ) {
             best = i;
         }
-        i += 1;
     }
     best
 }

@@ -3,15 +3,14 @@
 
 #![tactic(auto)]
 
-ghost use Rattle.std.specs.Prelude.{◌≡◌, ◌≤◌, length, replicate};
-ghost use Rattle.model.specs.SiteMemory.{overwrite, site_record};
+ghost use Rattle.std.specs.Prelude.{◌≡◌};
+ghost use Rattle.model.specs.Refusals.{refusal_in};
+ghost use Rattle.model.specs.SiteMemory.{site_record};
 ghost use Rattle.model.specs.NetworkMemory.{fresh_sites};
 ghost use Rattle.model.specs.Site.{fresh_site};
 ghost use Rattle.site_start.specs.Starts.{start_site_refusal, StartSitesSays, StartSiteSays};
 
-use model::{
-    MEMORY_TOO_SHORT, NO_REFUSAL, SITE_RECORDS, Settings, SiteRecord, Sites, UNKNOWN_SITE, Word,
-};
+use model::{NO_REFUSAL, Refusal, SITE_RECORDS, Settings, SiteRecord, Sites, Word, refusal_number};
 
 // All sites started: why that was refused, if it was, and fresh records in every case.
 #[derive(Clone, Copy)]
@@ -51,60 +50,45 @@ fn fresh_sites() -> Sites
     }
 }
 
-// The first numbers of a memory set to 0.
-fn clear(memory: &mut [Word], words: usize)
-    requires { words ≤ length memory.old }
-    ensures { memory.new ≡ overwrite (replicate words 0) memory.old }
-{
-    let mut i = 0;
-    while i < words {
-        memory[i] = 0;
-        i += 1;
-    }
-}
-
 // All sites started fresh, their memory one after another.
 pub fn start_sites(settings: Settings, memory: &mut [Word]) -> StartedSites
     ensures { StartSitesSays settings memory.old memory.new result }
 {
     let fresh = fresh_sites();
-    let refusal = settings::test_settings(settings);
+    let refusal = refusal_number(settings::test_settings(settings));
     if refusal != NO_REFUSAL {
         return StartedSites {
-            refusal: refusal,
+            refusal,
             sites: fresh,
         };
     }
     let words = (settings.sites as usize) * site_memory::site_words(settings);
     if memory.len() < words {
         return StartedSites {
-            refusal: MEMORY_TOO_SHORT,
+            refusal: Refusal::MemoryTooShort.number(),
             sites: fresh,
         };
     }
-    clear(memory, words);
+    memory[..words].fill(0);
     StartedSites {
         refusal: NO_REFUSAL,
         sites: fresh,
     }
 }
 
-// Why starting one site is refused, with memory of so many numbers: 1, 2, 3, 4; then 5 for its own
+// Whether one site can be started, with memory of so many numbers: 1, 2, 3, 4; then 5 for its own
 // number.
-fn start_site_refusal(settings: Settings, which: u32, words: usize) -> u32
-    ensures { result ≡ start_site_refusal settings which words }
+fn test_start_site(settings: Settings, which: u32, words: usize) -> Result<(), Refusal>
+    ensures { refusal_in result ≡ start_site_refusal settings which words }
 {
-    let refusal = settings::test_settings(settings);
-    if refusal != NO_REFUSAL {
-        return refusal;
-    }
+    settings::test_settings(settings)?;
     if words < site_memory::site_words(settings) {
-        return MEMORY_TOO_SHORT;
+        return Err(Refusal::MemoryTooShort);
     }
-    if which < settings.sites {
-        return NO_REFUSAL;
+    if settings.sites <= which {
+        return Err(Refusal::UnknownSite);
     }
-    UNKNOWN_SITE
+    Ok(())
 }
 
 // Site `which` alone started fresh, for a caller that holds one. The memory is the site's own, and
@@ -113,16 +97,16 @@ pub fn start_site(settings: Settings, which: u32, memory: &mut [Word]) -> Starte
     ensures { StartSiteSays settings which memory.old memory.new result }
 {
     let fresh = fresh_site();
-    let refusal = start_site_refusal(settings, which, memory.len());
+    let refusal = refusal_number(test_start_site(settings, which, memory.len()));
     if refusal != NO_REFUSAL {
         return StartedSite {
-            refusal: refusal,
+            refusal,
             site: fresh,
         };
     }
-    clear(memory, site_memory::site_words(settings));
+    memory[..site_memory::site_words(settings)].fill(0);
     StartedSite {
-        refusal: refusal,
+        refusal,
         site: fresh,
     }
 }

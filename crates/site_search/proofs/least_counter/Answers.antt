@@ -1,7 +1,6 @@
 -- `site_search::least_counter` meets its contract. The loop's invariant: the scan goes on from
--- place i with the best place so far. The measure is the number of counters left.
+-- place i with the best place so far.
 use mathlib.Core.Path.{sym, ◌∙◌}
-use mathlib.Core.Logic.{⊎_elim}
 use borrow.Author.Rules.{rules}
 use Rattle.site_search.proofs.Search.{least_start, least_end, least_new, least_old}
 use Rattle.site_search.proofs.least_counter.Goals as goal

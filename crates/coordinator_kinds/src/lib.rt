@@ -23,7 +23,7 @@ pub struct Answered {
     pub out: Message,
 }
 
-// The threshold that a base gives. Internal: `coordinator_memory_refusal`, with which every call
+// The threshold that a base gives. Internal: `test_coordinator_memory`, with which every call
 // begins, decides what it requires: accepted settings, and a base within the limit.
 pub fn threshold_of(settings: Settings, base: u64) -> u64
     requires { ThresholdAsks settings base }

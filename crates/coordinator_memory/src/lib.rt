@@ -3,15 +3,16 @@
 
 #![tactic(auto)]
 
-ghost use Rattle.std.specs.Prelude.{◌≡◌, ◌&&◌, ◌<◌, eqb, ltb, length};
+ghost use Rattle.std.specs.Prelude.{◌≡◌, ◌&&◌, ◌||◌, not, ◌<◌, ◌≤◌, eqb, ltb, length};
+ghost use Rattle.model.specs.Limits.{value_count, coordinator_limit};
 ghost use Rattle.model.specs.SiteMemory.{sum};
+ghost use Rattle.model.specs.Refusals.{refusal_in};
 ghost use Rattle.model.specs.CoordinatorMemory.{all_within, phase_consistent, coordinator_in, coordinator_consistent, coordinator_memory_refusal};
 ghost use Rattle.coordinator_memory.specs.Consistency.{record_consistent, numbers_consistent, half_range, higher_halves, SumAsks, MemoryAsks};
 
 use coordinator_kinds::threshold_of;
 use model::{
-    COORDINATOR_LIMIT, CoordinatorRecord, MEMORY_INCONSISTENT, MEMORY_TOO_SHORT, NO_REFUSAL, Phase,
-    Settings, TOP_VALUE, VALUE_COUNT,
+    COORDINATOR_LIMIT, CoordinatorRecord, Phase, Refusal, Settings, TOP_VALUE, VALUE_COUNT,
 };
 use settings::test_settings;
 
@@ -21,11 +22,9 @@ fn sum_of_halves(numbers: &[u64]) -> u64
     requires { length numbers.now < half_range }
     ensures { result ≡ sum (higher_halves numbers.now) }
 {
-    let mut total: u64 = 0;
-    let mut i = 0;
-    while i < numbers.len() {
-        total += numbers[i] / 4294967296;
-        i += 1;
+    let mut total = 0;
+    for number in numbers {
+        total += number / 4294967296;
     }
     total
 }
@@ -34,27 +33,17 @@ fn sum_of_halves(numbers: &[u64]) -> u64
 fn each_within(numbers: &[u64], limit: u64) -> bool
     ensures { result ≡ all_within limit numbers.now }
 {
-    let mut i = 0;
-    while i < numbers.len() {
-        if limit < numbers[i] {
-            return false;
-        }
-        i += 1;
-    }
-    true
+    numbers.iter().all(|number| *number <= limit)
 }
 
 // Whether all numbers are within a limit. Where their higher halves together are below the
 // limit's, as in memory that arose, they need not be looked at one by one.
+#[tactic(auto, using(crate::proofs::NumberLaws::halves_within))]
 fn all_within(numbers: &[u64], limit: u64) -> bool
     ensures { result ≡ all_within limit numbers.now }
 {
-    if numbers.len() < 4294967296 {
-        if sum_of_halves(numbers) < limit / 4294967296 {
-            return true;
-        }
-    }
-    each_within(numbers, limit)
+    (numbers.len() < 4294967296 && sum_of_halves(numbers) < limit / 4294967296)
+        || each_within(numbers, limit)
 }
 
 // The sum of value counts that are within the limit.
@@ -62,11 +51,9 @@ fn sum_of(numbers: &[u64]) -> u64
     requires { SumAsks numbers.now }
     ensures { result ≡ sum numbers.now }
 {
-    let mut total: u64 = 0;
-    let mut i = 0;
-    while i < numbers.len() {
-        total += numbers[i];
-        i += 1;
+    let mut total = 0;
+    for number in numbers {
+        total += number;
     }
     total
 }
@@ -75,10 +62,7 @@ fn sum_of(numbers: &[u64]) -> u64
 fn closing_consistent(settings: Settings, signals: u32, site: u32) -> bool
     ensures { result ≡ (eqb signals settings.sites && ltb site settings.sites) }
 {
-    if signals == settings.sites {
-        return site < settings.sites;
-    }
-    false
+    signals == settings.sites && site < settings.sites
 }
 
 // Whether the phase is consistent with the signals.
@@ -87,18 +71,15 @@ fn phase_consistent(settings: Settings, signals: u32, phase: Phase) -> bool
 {
     match phase {
         Phase::Idle => signals < settings.sites,
-        Phase::Collecting(site) => closing_consistent(settings, signals, site),
         Phase::Probing(site, low, high, sum) => {
-            if closing_consistent(settings, signals, site) {
-                if low < high {
-                    if high <= TOP_VALUE {
-                        return sum <= COORDINATOR_LIMIT;
-                    }
-                }
-            }
-            false
+            closing_consistent(settings, signals, site)
+                && low < high
+                && high <= TOP_VALUE
+                && sum <= COORDINATOR_LIMIT
         }
-        Phase::Announcing(site) => closing_consistent(settings, signals, site),
+        Phase::Collecting(site) | Phase::Announcing(site) => {
+            closing_consistent(settings, signals, site)
+        }
     }
 }
 
@@ -106,15 +87,20 @@ fn phase_consistent(settings: Settings, signals: u32, phase: Phase) -> bool
 pub fn record_consistent(settings: Settings, coordinator: CoordinatorRecord) -> bool
     ensures { result ≡ record_consistent settings coordinator }
 {
-    let phase = coordinator.phase;
-    if phase_consistent(settings, coordinator.signals, phase) {
-        if coordinator.base <= coordinator.total {
-            if coordinator.quantile <= TOP_VALUE {
-                return coordinator.total <= COORDINATOR_LIMIT;
-            }
-        }
-    }
-    false
+    phase_consistent(settings, coordinator.signals, coordinator.phase)
+        && coordinator.base <= coordinator.total
+        && coordinator.quantile <= TOP_VALUE
+        && coordinator.total <= COORDINATOR_LIMIT
+}
+
+// What the value counts show: their sum is the total while the threshold is 1.
+fn counts_consistent(coordinator: CoordinatorRecord, counts: &[u64]) -> bool
+    requires { length counts.now ≤ value_count }
+    ensures { result ≡ (all_within coordinator_limit counts.now
+        && (not (eqb coordinator.threshold 1) || eqb (sum counts.now) coordinator.total)) }
+{
+    all_within(counts, COORDINATOR_LIMIT)
+        && (coordinator.threshold != 1 || sum_of(counts) == coordinator.total)
 }
 
 // What the numbers in memory show.
@@ -125,18 +111,11 @@ fn numbers_consistent(settings: Settings, coordinator: CoordinatorRecord, memory
 {
     let items = settings.universe as usize;
     let words = items + VALUE_COUNT;
-    if all_within(&memory[..items], COORDINATOR_LIMIT) {
-        if all_within(&memory[items..words], COORDINATOR_LIMIT) {
-            if coordinator.threshold == 1 {
-                return sum_of(&memory[items..words]) == coordinator.total;
-            }
-            return true;
-        }
-    }
-    false
+    all_within(&memory[..items], COORDINATOR_LIMIT)
+        && counts_consistent(coordinator, &memory[items..words])
 }
 
-// Whether record and memory are consistent. Internal: `coordinator_memory_refusal` tests settings
+// Whether record and memory are consistent. Internal: `test_coordinator_memory` tests settings
 // and length first, and so does the batch call, `network_refusal`.
 pub fn coordinator_consistent(
     settings: Settings,
@@ -147,31 +126,26 @@ pub fn coordinator_consistent(
     ensures { result ≡ coordinator_consistent settings
         (coordinator_in settings coordinator memory.now) }
 {
-    if record_consistent(settings, coordinator) {
-        if coordinator.threshold == threshold_of(settings, coordinator.base) {
-            return numbers_consistent(settings, coordinator, memory);
-        }
-    }
-    false
+    record_consistent(settings, coordinator)
+        && coordinator.threshold == threshold_of(settings, coordinator.base)
+        && numbers_consistent(settings, coordinator, memory)
 }
 
 // What every call on the coordinator tests first: 1, 2, 3; then 4, 11.
-pub fn coordinator_memory_refusal(
+pub fn test_coordinator_memory(
     settings: Settings,
     coordinator: CoordinatorRecord,
     memory: &[u64],
-) -> u32
-    ensures { result ≡ coordinator_memory_refusal settings coordinator memory.now }
+) -> Result<(), Refusal>
+    ensures { refusal_in result ≡ coordinator_memory_refusal settings coordinator
+        memory.now }
 {
-    let refusal = test_settings(settings);
-    if refusal != NO_REFUSAL {
-        return refusal;
-    }
+    test_settings(settings)?;
     if memory.len() < (settings.universe as usize) + VALUE_COUNT {
-        return MEMORY_TOO_SHORT;
+        return Err(Refusal::MemoryTooShort);
     }
-    if coordinator_consistent(settings, coordinator, memory) {
-        return NO_REFUSAL;
+    if !coordinator_consistent(settings, coordinator, memory) {
+        return Err(Refusal::MemoryInconsistent);
     }
-    MEMORY_INCONSISTENT
+    Ok(())
 }

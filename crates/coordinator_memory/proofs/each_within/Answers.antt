@@ -1,27 +1,20 @@
--- The walk stops at the first number above the limit; until then the numbers left decide.
-use mathlib.Core.Path.{sym}
-use Rattle.coordinator_memory.proofs.NumberLaws.{checked_start, checked_on, checked_off, checked_end}
+-- What `all` answers is `all_within`, which recurses as it does.
+use mathlib.Core.Path.{refl, ◌∙◌}
+use mathlib.Core.Bool.{◌&&◌}
+use lib.Dec.{leb}
+use Rattle.std.proofs.Common.{rules, tests}
+use Rattle.std.specs.List.{list_all}
+use Rattle.std.proofs.lemmas.Iterator.{YieldsList-from_slice}
+use Rattle.std.proofs.lemmas.Iterator.Search.{all_from_yields_List}
+use Rattle.std.proofs.lemmas.List.Recursion.{same_from_clauses}
+use Rattle.model.specs.CoordinatorMemory.{all_within}
 use Rattle.coordinator_memory.proofs.each_within.Goals as goal
-
-pub loop-i-init : goal.loop-i-init
-loop-i-init c = checked_start c.args.limit c.args.numbers.now
-
-pub returns-then-limit-numbers : goal.returns-then-limit-numbers
-returns-then-limit-numbers c =
-    sym
-    (checked_off c.args.limit c.args.numbers.now c.loop-i.i
-    c.loop-i.invariant
-    c.loop-i-test.true c.if-limit-numbers.true)
-
-pub loop-i-preserved : goal.loop-i-preserved
-loop-i-preserved c =
-    checked_on c.args.limit c.args.numbers.now c.loop-i.i
-    c.loop-i.invariant
-    c.loop-i-test.true c.if-limit-numbers.false
 
 pub returns : goal.returns
 returns c =
-    sym
-    (checked_end c.args.limit c.args.numbers.now c.loop-i.i
-    c.loop-i.invariant
-    c.loop-i-test.false)
+    let numbers = c.args.numbers.now in
+    let limit = c.args.limit in
+    all_from_yields_List (λ x. leb x limit) _ _ _ c.all.ensures.ran
+    (YieldsList-from_slice numbers cc) (λ x b q k. search (rules, tests))
+    ∙ same_from_clauses (list_all (λ x. leb x limit)) (all_within limit)
+    (λ x rest. leb x limit && rest) refl (λ x xs. refl) (λ x xs. refl) numbers

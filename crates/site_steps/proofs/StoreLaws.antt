@@ -6,11 +6,12 @@
 --   stored_arrival     the promise of `store_arrival`
 --   observed_step      the promise of `observe_step`
 use Rattle.std.specs.Prelude.{if◌then◌else◌}
+use Rattle.std.specs.Bool.{then_some}
 use Prim.Native.Nat.{ℕ, ◌+◌, ◌*◌, ◌<◌, ◌≤◌}
 use Rattle.site_counters.specs.Stored.{PartsWithin}
-use mathlib.Core.Path.{◌≡◌, ap, sym, ◌∙◌, subst, subst₂}
-use mathlib.Core.List.{List}
-use mathlib.Core.Bool.{Bool}
+use mathlib.Core.Path.{◌≡◌, refl, ap, sym, ◌∙◌, subst, subst₂}
+use mathlib.Core.List.{List, [], ◌∷◌, ◌++◌}
+use mathlib.Core.Bool.{Bool, true, false}
 use native.Mathlib.Nat.{mul-le-mul_right}
 use native.Mathlib.Omega.{arith}
 use lib.Dec.{leb, eqb}
@@ -22,7 +23,7 @@ use Rattle.model.specs.declared.Message.{Message}
 use Rattle.model.specs.Messages.{item_report, count_report}
 use Rattle.model.specs.Limits.{most_capacity, value_count, site_limit}
 use Rattle.model.specs.Counters.{Counter, counter_at, gone_with}
-use Rattle.model.specs.Site.{Site, observed, one_more_at, place_for, counters_with, leaving_for}
+use Rattle.model.specs.Site.{Site, observed, one_more_at, place_for, counters_with, leaving_for, reports_item}
 use Rattle.model.specs.SiteMemory.{counter_words, site_in, site_record, counter_numbers, overwrite}
 use Rattle.model.specs.SoundNetwork.{SoundSite}
 use Rattle.model.proofs.Thresholds.SettingsLaws.{Settled, settled}
@@ -33,7 +34,7 @@ use Rattle.site_counters.specs.Stored.{greatest_word, counter_of}
 use Rattle.site_counting.specs.declared.Counted.{Counted}
 use Rattle.site_counting.specs.Count.{CountItemAsks, CountItemSays}
 use Rattle.site_memory.proofs.ValueLaws.{get_d_le_sum}
-use Rattle.site_steps.specs.Steps.{ObserveAsks, ReportAsks, ReportSays, StoreSays, messages_due, GatherSays, ObserveStepSays}
+use Rattle.site_steps.specs.Steps.{ObserveAsks, ReportAsks, ReportSays, StoreSays, sent, messages_due, GatherSays, ObserveStepSays}
 use Rattle.site_steps.specs.declared.StoredArrival.{StoredArrival}
 use Rattle.site_steps.specs.declared.Observed.{Observed}
 use Rattle.site_steps.proofs.ObserveMemory.{counters_reported, length_counters_reported, memory_reported, value_kept, memory_observed}
@@ -172,6 +173,12 @@ module _
 
 -- ---- The record and the messages that go out
 
+-- A message goes out if it is due.
+sent_due : (due : Bool) (message : Message)
+    → sent (then_some due message) ≡ (if due then message ∷ [] else [])
+sent_due true message = refl
+sent_due false message = refl
+
 module _
     (settings : Settings)
     (numbers : SiteRecord)
@@ -203,13 +210,19 @@ module _
   messages_observed : (itemMessage countMessage : Message)
       → itemMessage ≡ item_report arrival.site arrival.item numbers.threshold
       → countMessage ≡ count_report arrival.site numbers.threshold value
-      → messages_due stored.due itemMessage
-      (leb numbers.threshold (numbers.pending + 1)) countMessage
+      → messages_due (then_some stored.due itemMessage)
+      (then_some (leb numbers.threshold (numbers.pending + 1)) countMessage)
       ≡ (observed settings (site_in settings numbers before) arrival).messages
   messages_observed itemMessage countMessage item-is count_is =
       let due-then = leb numbers.threshold (numbers.pending + 1) in
       let count-then = count_is ∙ ap (count_report arrival.site numbers.threshold) value_is in
-      λ i. messages_due (says.due_is i) (item-is i) due-then (count-then i)
+      (λ i. messages_due (then_some (says.due_is i) (item-is i))
+      (then_some due-then (count-then i)))
+      ∙ (λ i. sent_due (reports_item settings (site_in settings numbers before) arrival)
+      (item_report arrival.site arrival.item numbers.threshold) i
+      ++ sent_due due-then
+      (count_report arrival.site numbers.threshold
+      (if eqb numbers.threshold 1 then arrival.value else 0)) i)
 
   pub observed_step : (itemMessage countMessage : Message) (answer : Observed)
       → itemMessage ≡ item_report arrival.site arrival.item numbers.threshold
@@ -222,8 +235,8 @@ module _
         used = stored.used;
         dropped = numbers.dropped + stored.gone;
       })
-      (messages_due stored.due itemMessage
-      (leb numbers.threshold (numbers.pending + 1)) countMessage)
+      (messages_due (then_some stored.due itemMessage)
+      (then_some (leb numbers.threshold (numbers.pending + 1)) countMessage))
       answer
       → ObserveStepSays settings numbers arrival before after answer
   observed_step itemMessage countMessage answer item-is count_is gathered = record {

@@ -3,7 +3,7 @@
 --   ReportSays, StoredReportSays    a counter reported if it is due
 --   DueSays, GatherSays             the messages that are due, in order
 --   ObserveAsks, StoreSays, ObserveStepSays   an arrival
-use Rattle.std.specs.Prelude.{◌≡◌, Bool, List, [], ◌∷◌, ◌++◌, ℕ, ◌+◌, ◌*◌, ◌≤◌, leb, length, get_or, set, if◌then◌else◌}
+use Rattle.std.specs.Prelude.{◌≡◌, Bool, Option, Some, None, List, [], ◌∷◌, ◌++◌, ℕ, ◌+◌, ◌*◌, ◌≤◌, leb, length, get_or, set, if◌then◌else◌}
 use Rattle.model.specs.declared.Settings.{Settings}
 use Rattle.model.specs.declared.Arrival.{Arrival}
 use Rattle.model.specs.declared.Message.{Message}
@@ -44,26 +44,29 @@ abbrev pub StoredReportSays : List ℕ → List ℕ → ℕ → StoredCounter �
 StoredReportSays before after place counter threshold due =
     ReportSays before after place (counter_of counter) threshold due
 
+-- A message that goes out if it is due.
+abbrev pub sent : Option Message → List Message
+sent None = []
+sent (Some message) = message ∷ []
+
 -- Kind 1 if it is due, then kind 2 if it is due.
-abbrev pub messages_due : Bool → Message → Bool → Message → List Message
-messages_due item_due item_report count_due count_report =
-    (if item_due then item_report ∷ [] else []) ++ (if count_due then count_report ∷ [] else [])
+abbrev pub messages_due : Option Message → Option Message → List Message
+messages_due item_report count_report = sent item_report ++ sent count_report
 
 -- The site's record, and these messages in order.
 pub record GatherSays
     (numbers : SiteRecord)
     (messages : List Message)
     (answer : Observed) : Type 0 where
-  pub refusal : answer.refusal ≡ no_refusal
   pub site : answer.site ≡ numbers
   pub count : answer.count ≡ length messages
   pub first : answer.first ≡ get_or messages 0 no_message
   pub second : answer.second ≡ get_or messages 1 no_message
 
 -- The same of the reports that are due.
-abbrev pub DueSays : SiteRecord → Bool → Message → Bool → Message → Observed → Type 0
-DueSays numbers item_due item_report count_due count_report answer =
-    GatherSays numbers (messages_due item_due item_report count_due count_report) answer
+abbrev pub DueSays : SiteRecord → Option Message → Option Message → Observed → Type 0
+DueSays numbers item_report count_report answer =
+    GatherSays numbers (messages_due item_report count_report) answer
 
 -- ---- An arrival
 

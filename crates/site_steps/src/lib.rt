@@ -9,14 +9,13 @@ ghost use Rattle.site_counters.specs.Stored.{greatest_word, counter_of};
 ghost use Rattle.site_steps.specs.Steps.{ReportAsks, StoredReportSays, DueSays, ObserveAsks, StoreSays, ObserveStepSays};
 
 use messages::{count_report_of, item_report_of, no_message};
-use model::{Arrival, Message, NO_REFUSAL, Settings, SiteRecord, Word};
+use model::{Arrival, Message, Settings, SiteRecord, Word};
 use site_counters::{StoredCounter, gone_with, unreported_of};
 
 // What an arrival leads to: the site's record then, and the messages that go out, of which there
 // are `count`; an absent one is all zeros.
 #[derive(Clone, Copy)]
 pub struct Observed {
-    pub refusal: u32,
     pub site: SiteRecord,
     pub count: u32,
     pub first: Message,
@@ -30,9 +29,7 @@ fn report_counter(memory: &mut [Word], place: usize, counter: StoredCounter, thr
 {
     let unreported = unreported_of(counter);
     if threshold <= unreported as u64 {
-        let amount = threshold as Word;
-        let last = 4 * place + 3;
-        memory[last] = counter.reported + amount;
+        memory[4 * place + 3] = counter.reported + threshold as Word;
         return true;
     }
     false
@@ -43,73 +40,46 @@ fn count_value(memory: &mut [Word], place: usize)
     requires { (place < length memory.old) × (get_or memory.old place 0 < greatest_word) }
     ensures { memory.new ≡ one_more_at memory.old place }
 {
-    memory[place] = memory[place] + 1;
+    memory[place] += 1;
 }
 
 // What is pending after an arrival, which reports the count if it reaches the threshold.
 fn pending_after(threshold: u64, pending: u64) -> u64
     ensures { result ≡ (if leb threshold pending then 0 else pending) }
 {
-    if threshold <= pending {
-        return 0;
-    }
-    pending
+    if threshold <= pending { 0 } else { pending }
 }
 
 // The value that a count report carries: only while the threshold is 1.
 fn value_reported(threshold: u64, value: u32) -> u64
     ensures { result ≡ (if eqb threshold 1 then value else 0) }
 {
-    if threshold == 1 {
-        return value as u64;
-    }
-    0
+    if threshold == 1 { value as u64 } else { 0 }
 }
 
 // The messages that are due, in order, with the site's record.
-fn gather(
-    site: SiteRecord,
-    item_due: bool,
-    item_report: Message,
-    count_due: bool,
-    count_report: Message,
-) -> Observed
-    ensures { DueSays site item_due item_report count_due count_report result }
+fn gather(site: SiteRecord, item_report: Option<Message>, count_report: Option<Message>) -> Observed
+    ensures { DueSays site item_report count_report result }
 {
-    let none = no_message();
-    if item_due {
-        if count_due {
-            return Observed {
-                refusal: NO_REFUSAL,
-                site: site,
-                count: 2,
-                first: item_report,
-                second: count_report,
-            };
-        }
-        return Observed {
-            refusal: NO_REFUSAL,
-            site: site,
-            count: 1,
+    match (item_report, count_report) {
+        (Some(item_report), Some(count_report)) => Observed {
+            site,
+            count: 2,
             first: item_report,
-            second: none,
-        };
-    }
-    if count_due {
-        return Observed {
-            refusal: NO_REFUSAL,
-            site: site,
+            second: count_report,
+        },
+        (Some(report), None) | (None, Some(report)) => Observed {
+            site,
             count: 1,
-            first: count_report,
-            second: none,
-        };
-    }
-    Observed {
-        refusal: NO_REFUSAL,
-        site: site,
-        count: 0,
-        first: none,
-        second: none,
+            first: report,
+            second: no_message(),
+        },
+        (None, None) => Observed {
+            site,
+            count: 0,
+            first: no_message(),
+            second: no_message(),
+        },
     }
 }
 
@@ -136,16 +106,12 @@ fn store_arrival(
     let capacity = settings.capacity as usize;
     let used = site.used as usize;
     let counted = site_counting::count_item(memory, capacity, used, arrival.item);
-    let place = counted.place;
-    let item_due = report_counter(memory, place, counted.counter, site.threshold);
-    let value_place = 4 * capacity + (arrival.value as usize);
-    count_value(memory, value_place);
-    let leaving = counted.leaving;
-    let gone = gone_with(leaving);
+    let due = report_counter(memory, counted.place, counted.counter, site.threshold);
+    count_value(memory, 4 * capacity + (arrival.value as usize));
     StoredArrival {
         used: counted.used,
-        due: item_due,
-        gone: gone,
+        due,
+        gone: gone_with(counted.leaving),
     }
 }
 
@@ -163,16 +129,19 @@ pub fn observe_step(
 {
     let stored = store_arrival(settings, site, arrival, memory);
     let pending = site.pending + 1;
-    let count_due = site.threshold <= pending;
-    let value = value_reported(site.threshold, arrival.value);
     let after = SiteRecord {
         arrivals: site.arrivals + 1,
         pending: pending_after(site.threshold, pending),
-        threshold: site.threshold,
         used: stored.used as u64,
         dropped: site.dropped + (stored.gone as u64),
+        ..site
     };
     let item_report = item_report_of(arrival.site, arrival.item, site.threshold);
+    let value = value_reported(site.threshold, arrival.value);
     let count_report = count_report_of(arrival.site, site.threshold, value);
-    gather(after, stored.due, item_report, count_due, count_report)
+    gather(
+        after,
+        stored.due.then_some(item_report),
+        (site.threshold <= pending).then_some(count_report),
+    )
 }

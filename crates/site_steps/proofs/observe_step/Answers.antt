@@ -27,4 +27,4 @@ returns c =
     c.item_report_of-item_report.result c.count_report_of-count_report.result
     c.gather.result
     c.item_report_of-item_report.ensures c.count_report_of-count_report.ensures
-    c.gather.ensures
+    (rw (← c.then_some.ensures, ← c.then_some-2.ensures) c.gather.ensures)

@@ -10,8 +10,8 @@ count_item-counted-requires c =
     let a = c.args in
     count_asks a.settings a.site a.arrival a.memory.now c.requires
 
-pub report_counter-item_due-requires : goal.report_counter-item_due-requires
-report_counter-item_due-requires c =
+pub report_counter-due-requires : goal.report_counter-due-requires
+report_counter-due-requires c =
     let a = c.args in
     let counted = c.count_item-counted in
     report_asks a.settings a.site a.arrival a.memory.now c.requires
@@ -22,7 +22,7 @@ pub count_value-requires : goal.count_value-requires
 count_value-requires c =
     let a = c.args in
     let counted = c.count_item-counted in
-    let report = c.report_counter-item_due in
+    let report = c.report_counter-due in
     let same-stored : length counted.new.memory ≡ length a.memory.now = search rules in
     let same-reported : length report.new.memory ≡ length counted.new.memory = search rules in (
       value_place a.settings a.site a.arrival a.memory.now c.requires
@@ -39,10 +39,10 @@ pub returns : goal.returns
 returns c =
     let a = c.args in
     let counted = c.count_item-counted in
-    let report = c.report_counter-item_due in
+    let report = c.report_counter-due in
     let value = c.count_value in
     stored_arrival a.settings a.site a.arrival a.memory.now c.requires
     counted.new.memory
     counted.result counted.ensures (search rules) report.new.memory report.result
     report.ensures (search rules) value.new.memory value.ensures
-    c.gone_with-gone.result c.gone_with-gone.ensures
+    c.gone_with.result c.gone_with.ensures

@@ -1,13 +1,14 @@
 -- The entry points: their chains of refusals, and what they hand back by these.
 --
+--   front_filled                                       a front of zeros, as an overwritten one
 --   fresh_memory                                       the fresh coordinator is zeros alone
 --   start_long, step_asks, announce_asks               what an accepted call may hand to a step
 --   hands_refused, hands_accepted                      the record `ReceivedSays`
 use mathlib.Core.Path.{◌≡◌, ap, sym, ◌∙◌}
-use mathlib.Core.List.{List}
+use mathlib.Core.List.{List, ◌++◌}
 use Prim.Native.Nat.{ℕ, ◌≤◌}
-use native.Mathlib.Omega.{arith}
-use lib.ListN.{replicate, replicate-append-replicate}
+use lib.ListN.{length, take, drop, replicate, length-replicate, replicate-append-replicate}
+use lib.Seq.{length-take-le}
 use Rattle.model.specs.declared.Settings.{Settings}
 use Rattle.model.specs.declared.Message.{Message}
 use Rattle.model.specs.declared.CoordinatorRecord.{CoordinatorRecord}
@@ -28,6 +29,14 @@ use Rattle.coordinator.specs.Calls.{ReceivedSays, start_refusal, receive_refusal
 use Rattle.coordinator_memory.proofs.ReadyLaws.{ready_of_consistent}
 
 -- ---- The fresh coordinator in memory
+
+-- A front that was filled with zeros.
+pub front_filled : (front memory : List ℕ) (n : ℕ)
+    → n ≤ length memory
+    → front ≡ replicate (length (take n memory)) 0
+    → front ++ drop n memory ≡ overwrite (replicate n 0) memory
+front_filled front memory n fits zeros =
+    rw (zeros, length-take-le n memory fits, length-replicate {A = ℕ} n 0)
 
 -- The fresh coordinator is zeros alone.
 pub fresh_memory : (before : List ℕ) (settings : Settings)

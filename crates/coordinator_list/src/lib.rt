@@ -7,9 +7,9 @@ ghost use Rattle.std.specs.Prelude.{◌≡◌, length, leb};
 ghost use Rattle.coordinator_reading.specs.Promises.{ReadAsks, SidesAsk};
 ghost use Rattle.coordinator_list.specs.Promises.{ListSays, WriteListedAsks, WriteListedSays, hitters_in, rule_holds};
 
-use coordinator_memory::coordinator_memory_refusal;
+use coordinator_memory::test_coordinator_memory;
 use coordinator_reading::side_needed;
-use model::{CoordinatorRecord, LIST_FACTOR, LIST_TOO_SHORT, NO_REFUSAL, Settings};
+use model::{CoordinatorRecord, LIST_FACTOR, LIST_TOO_SHORT, NO_REFUSAL, Settings, refusal_number};
 
 // What the list call hands back: how many items it wrote.
 #[derive(Clone, Copy)]
@@ -23,10 +23,7 @@ fn is_listed(settings: Settings, total: u64, number: u64) -> bool
     requires { SidesAsk settings total number }
     ensures { result ≡ rule_holds settings total number }
 {
-    if total < 1 {
-        return false;
-    }
-    side_needed(settings, total, number) <= LIST_FACTOR * number
+    1 <= total && side_needed(settings, total, number) <= LIST_FACTOR * number
 }
 
 // Whether the listed items have places. All of them have where there is a place for every item;
@@ -46,15 +43,13 @@ fn list_fits(
         return true;
     }
     let mut count = 0;
-    let mut item = 0;
-    while item < items {
-        if is_listed(settings, coordinator.total, memory[item]) {
+    for number in &memory[..items] {
+        if is_listed(settings, coordinator.total, *number) {
             count += 1;
             if places < count {
                 return false;
             }
         }
-        item += 1;
     }
     true
 }
@@ -73,13 +68,11 @@ fn write_listed(
 {
     let items = settings.universe as usize;
     let mut count = 0;
-    let mut next = 0;
-    while next < items {
-        if is_listed(settings, coordinator.total, memory[next]) {
-            list[count] = next as u32;
+    for (item, number) in memory[..items].iter().enumerate() {
+        if is_listed(settings, coordinator.total, *number) {
+            list[count] = item as u32;
             count += 1;
         }
-        next += 1;
     }
     count as u32
 }
@@ -95,18 +88,15 @@ pub fn list_heavy_hitters(
     ensures { ListSays settings coordinator memory.now list.old
         list.new result }
 {
-    let refusal = coordinator_memory_refusal(settings, coordinator, memory);
+    let refusal = refusal_number(test_coordinator_memory(settings, coordinator, memory));
     if refusal != NO_REFUSAL {
-        return Listed {
-            refusal: refusal,
-            count: 0,
-        };
+        return Listed { refusal, count: 0 };
     }
     if list_fits(settings, coordinator, memory, list.len()) {
         let count = write_listed(settings, coordinator, memory, list);
         return Listed {
             refusal: NO_REFUSAL,
-            count: count,
+            count,
         };
     }
     Listed {

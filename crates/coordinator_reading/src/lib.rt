@@ -6,13 +6,14 @@
 
 ghost use Rattle.std.specs.Prelude.{◌≡◌, ◌*◌, ◌<◌};
 ghost use Rattle.model.specs.CoordinatorMemory.{coordinator_in};
+ghost use Rattle.model.specs.Refusals.{refusal_in};
 ghost use Rattle.model.specs.Reading.{difference, least_value, quantile_of};
 ghost use Rattle.coordinator_reading.specs.Promises.{MarginSays, QuantileSays, ReadAsks, SidesAsk, ValuesAsk, margin_refusal, side_needed};
 
-use coordinator_memory::coordinator_memory_refusal;
+use coordinator_memory::test_coordinator_memory;
 use model::{
-    CoordinatorRecord, LIST_FACTOR, NO_REFUSAL, Quantile, RANK_FACTOR, Settings, UNKNOWN_ITEM,
-    VALUE_COUNT,
+    CoordinatorRecord, LIST_FACTOR, NO_REFUSAL, Quantile, RANK_FACTOR, Refusal, Settings,
+    VALUE_COUNT, refusal_number,
 };
 
 // What the margin call hands back: 0 where it is refused.
@@ -30,7 +31,7 @@ pub struct QuantileRead {
 }
 
 // (2p - e) × total, the side of the list rule that an item's number has to reach. Internal: the
-// margin call, and crate `coordinator_list`'s list call, make the test `coordinator_memory_refusal`
+// margin call, and crate `coordinator_list`'s list call, make the test `test_coordinator_memory`
 // first.
 pub fn side_needed(settings: Settings, total: u64, number: u64) -> u64
     requires { SidesAsk settings total number }
@@ -56,23 +57,20 @@ fn margin_of(settings: Settings, total: u64, number: u64) -> i64
     subtract(LIST_FACTOR * number, side_needed(settings, total, number))
 }
 
-// Why the margin is refused, or 0.
-fn margin_refusal(
+// The test of a wish for a margin.
+fn test_margin(
     settings: Settings,
     coordinator: CoordinatorRecord,
     item: u32,
     memory: &[u64],
-) -> u32
-    ensures { result ≡ margin_refusal settings coordinator item memory.now }
+) -> Result<(), Refusal>
+    ensures { refusal_in result ≡ margin_refusal settings coordinator item memory.now }
 {
-    let refusal = coordinator_memory_refusal(settings, coordinator, memory);
-    if refusal != NO_REFUSAL {
-        return refusal;
-    }
+    test_coordinator_memory(settings, coordinator, memory)?;
     if settings.universe <= item {
-        return UNKNOWN_ITEM;
+        return Err(Refusal::UnknownItem);
     }
-    NO_REFUSAL
+    Ok(())
 }
 
 // How far an item's number is above what the list asks, or below it.
@@ -84,19 +82,13 @@ pub fn read_margin(
 ) -> Margin
     ensures { MarginSays settings coordinator item memory.now result }
 {
-    let refusal = margin_refusal(settings, coordinator, item, memory);
+    let refusal = refusal_number(test_margin(settings, coordinator, item, memory));
     if refusal != NO_REFUSAL {
-        return Margin {
-            refusal: refusal,
-            margin: 0,
-        };
+        return Margin { refusal, margin: 0 };
     }
     let number = memory[item as usize];
     let margin = margin_of(settings, coordinator.total, number);
-    Margin {
-        refusal: refusal,
-        margin: margin,
-    }
+    Margin { refusal, margin }
 }
 
 // The least value with enough counts at or below it.
@@ -105,14 +97,12 @@ fn least_value(rank: u32, total: u64, counts: &[u64]) -> Quantile
     ensures { result ≡ least_value rank total counts.now }
 {
     let needed = (rank as u64) * total;
-    let mut below: u64 = 0;
-    let mut value = 0;
-    while value < counts.len() {
-        below += counts[value];
+    let mut below = 0;
+    for (value, count) in counts.iter().enumerate() {
+        below += count;
         if needed <= RANK_FACTOR * below {
             return Quantile::Value(value as u32);
         }
-        value += 1;
     }
     Quantile::Nothing
 }
@@ -143,17 +133,13 @@ pub fn read_quantile(
 ) -> QuantileRead
     ensures { QuantileSays settings coordinator memory.now result }
 {
-    let refusal = coordinator_memory_refusal(settings, coordinator, memory);
+    let refusal = refusal_number(test_coordinator_memory(settings, coordinator, memory));
     if refusal != NO_REFUSAL {
-        let nothing = Quantile::Nothing;
         return QuantileRead {
-            refusal: refusal,
-            quantile: nothing,
+            refusal,
+            quantile: Quantile::Nothing,
         };
     }
     let quantile = quantile_value(settings, coordinator, memory);
-    QuantileRead {
-        refusal: refusal,
-        quantile: quantile,
-    }
+    QuantileRead { refusal, quantile }
 }

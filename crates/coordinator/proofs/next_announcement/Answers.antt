@@ -8,7 +8,7 @@ pub returns-then-refusal-ne-NO_REFUSAL : goal.returns-then-refusal-ne-NO_REFUSAL
 returns-then-refusal-ne-NO_REFUSAL c =
     let start = c.args in
     let refusal = announce_refusal start.settings start.coordinator start.memory.now in
-    let result-is = c.announce_refusal-refusal.ensures in
+    let result-is = (c.refusal_number-refusal.ensures ∙ c.test_announce.ensures) in
     record {
       refusal = result-is;
       answer = hands_refused refusal _ _ _ (λ none. c.if-refusal-ne-NO_REFUSAL.true
@@ -20,13 +20,13 @@ pub announce_step-answered-requires : goal.announce_step-answered-requires
 announce_step-answered-requires c =
     let start = c.args in
     announce_asks start.settings start.coordinator start.memory.now
-    (sym c.announce_refusal-refusal.ensures ∙ c.if-refusal-ne-NO_REFUSAL.false)
+    (sym (c.refusal_number-refusal.ensures ∙ c.test_announce.ensures) ∙ c.if-refusal-ne-NO_REFUSAL.false)
 
 pub returns : goal.returns
 returns c =
     let start = c.args in
     let refusal = announce_refusal start.settings start.coordinator start.memory.now in
-    let result-is = c.announce_refusal-refusal.ensures in
+    let result-is = (c.refusal_number-refusal.ensures ∙ c.test_announce.ensures) in
     record {
       refusal = result-is;
       answer = hands_accepted refusal _ _ _ c.announce_step-answered.result

@@ -10,7 +10,7 @@ returns-then-refusal-ne-NO_REFUSAL c =
     let start = c.args in
     let refusal = receive_refusal start.settings start.coordinator start.message
     start.memory.now in
-    let result-is = c.receive_refusal-refusal.ensures in
+    let result-is = (c.refusal_number-refusal.ensures ∙ c.test_receive.ensures) in
     record {
       refusal = result-is;
       answer = hands_refused refusal _ _ _ (λ none. c.if-refusal-ne-NO_REFUSAL.true
@@ -23,14 +23,14 @@ pub receive_step-answered-requires : goal.receive_step-answered-requires
 receive_step-answered-requires c =
     let start = c.args in
     step_asks start.settings start.coordinator start.message start.memory.now
-    (sym c.receive_refusal-refusal.ensures ∙ c.if-refusal-ne-NO_REFUSAL.false)
+    (sym (c.refusal_number-refusal.ensures ∙ c.test_receive.ensures) ∙ c.if-refusal-ne-NO_REFUSAL.false)
 
 pub returns : goal.returns
 returns c =
     let start = c.args in
     let refusal = receive_refusal start.settings start.coordinator start.message
     start.memory.now in
-    let result-is = c.receive_refusal-refusal.ensures in
+    let result-is = (c.refusal_number-refusal.ensures ∙ c.test_receive.ensures) in
     let none = sym result-is ∙ c.if-refusal-ne-NO_REFUSAL.false in
     record {
       refusal = result-is;

@@ -18,7 +18,7 @@ refusal_at c =
 abbrev past_memory : (c : Else-refusal-ne-NO_REFUSAL) → Still (refusal_at c)
 past_memory c =
     pass_part _ _ (begin _) refl
-    (told c.coordinator_memory_refusal-refusal.ensures c.if-refusal-ne-NO_REFUSAL.false)
+    (told (c.refusal_number-refusal.ensures ∙ c.test_coordinator_memory.ensures) c.if-refusal-ne-NO_REFUSAL.false)
 
 -- The places of the list, and the items listed.
 abbrev places_at : After-list_fits → ℕ
@@ -34,8 +34,8 @@ returns-then-refusal-ne-NO_REFUSAL c =
     let a = c.args in
     let refusal = list_refusal a.settings a.coordinator a.memory.now
     (length a.list.now) in
-    let refused : c.coordinator_memory_refusal-refusal.result ≡ refusal =
-    refuse_part _ _ (begin _) refl c.coordinator_memory_refusal-refusal.ensures
+    let refused : c.refusal_number-refusal.result ≡ refusal =
+    refuse_part _ _ (begin _) refl (c.refusal_number-refusal.ensures ∙ c.test_coordinator_memory.ensures)
     c.if-refusal-ne-NO_REFUSAL.true in
     record {
       refusal = refused;
@@ -47,14 +47,14 @@ pub list_fits-requires : goal.list_fits-requires
 list_fits-requires c =
     let start = c.args in
     read_asks start.settings start.coordinator start.memory.now
-    (sym c.coordinator_memory_refusal-refusal.ensures ∙ c.if-refusal-ne-NO_REFUSAL.false)
+    (sym (c.refusal_number-refusal.ensures ∙ c.test_coordinator_memory.ensures) ∙ c.if-refusal-ne-NO_REFUSAL.false)
 
 pub write_listed-count-requires : goal.write_listed-count-requires
 write_listed-count-requires c =
     let start = c.args in
     record {
       reading = read_asks start.settings start.coordinator start.memory.now
-          (sym c.coordinator_memory_refusal-refusal.ensures ∙ c.if-refusal-ne-NO_REFUSAL.false);
+          (sym (c.refusal_number-refusal.ensures ∙ c.test_coordinator_memory.ensures) ∙ c.if-refusal-ne-NO_REFUSAL.false);
       places = leb-true _ _ (sym c.list_fits.ensures ∙ c.if-list_fits.true);
     }
 

@@ -18,7 +18,7 @@ returns-then-refusal-ne-NO_REFUSAL c =
     let start = c.args in
     let refusal = margin_refusal start.settings start.coordinator start.item
     start.memory.now in
-    let result-is = c.margin_refusal-refusal.ensures in
+    let result-is = (c.refusal_number-refusal.ensures ∙ c.test_margin.ensures) in
     record {
       refusal = result-is;
       margin_is = refuses refusal _ _ (λ none. c.if-refusal-ne-NO_REFUSAL.true (result-is ∙ none));
@@ -28,7 +28,7 @@ pub offset_bounds-memory-item : goal.offset_bounds-memory-item
 offset_bounds-memory-item c =
     let facts = margin_tested c.args.settings c.args.coordinator c.args.item
     c.args.memory.now
-    (sym c.margin_refusal-refusal.ensures ∙ c.if-refusal-ne-NO_REFUSAL.false) in
+    (sym (c.refusal_number-refusal.ensures ∙ c.test_margin.ensures) ∙ c.if-refusal-ne-NO_REFUSAL.false) in
     omega (arith, facts.item_known, facts.asks.memory_long, c.well_formed)
 
 pub bounds-memory-item : goal.bounds-memory-item
@@ -36,7 +36,7 @@ bounds-memory-item c =
     let start = c.args in
     let facts = margin_tested start.settings start.coordinator start.item
     start.memory.now
-    (sym c.margin_refusal-refusal.ensures ∙ c.if-refusal-ne-NO_REFUSAL.false) in
+    (sym (c.refusal_number-refusal.ensures ∙ c.test_margin.ensures) ∙ c.if-refusal-ne-NO_REFUSAL.false) in
     omega (arith, facts.item_known, facts.asks.memory_long)
 
 pub margin_of-margin-requires : goal.margin_of-margin-requires
@@ -44,7 +44,7 @@ margin_of-margin-requires c =
     let start = c.args in
     let facts = margin_tested start.settings start.coordinator start.item
     start.memory.now
-    (sym c.margin_refusal-refusal.ensures ∙ c.if-refusal-ne-NO_REFUSAL.false) in
+    (sym (c.refusal_number-refusal.ensures ∙ c.test_margin.ensures) ∙ c.if-refusal-ne-NO_REFUSAL.false) in
     sides_ask start.settings start.coordinator start.memory.now facts.asks
     start.item
     facts.item_known
@@ -55,11 +55,11 @@ returns c =
     let settings = c.args.settings in
     let memory = c.args.memory.now in
     let refusal = margin_refusal settings start.coordinator start.item memory in
-    let none = sym c.margin_refusal-refusal.ensures ∙ c.if-refusal-ne-NO_REFUSAL.false in
+    let none = sym (c.refusal_number-refusal.ensures ∙ c.test_margin.ensures) ∙ c.if-refusal-ne-NO_REFUSAL.false in
     let facts = margin_tested settings start.coordinator start.item memory none in
     let fits : SFits w64 c.margin_of-margin.result = search rules in
     record {
-      refusal = c.margin_refusal-refusal.ensures;
+      refusal = (c.refusal_number-refusal.ensures ∙ c.test_margin.ensures);
       margin_is = to_z-of_z fits
           ∙ c.margin_of-margin.ensures
           ∙ ap (λ (number : ℕ). difference (2000 * number)

@@ -10,7 +10,7 @@ returns-then-refusal-ne-NO_REFUSAL c =
     let start = c.args in
     let refusal = coordinator_memory_refusal start.settings start.coordinator
     start.memory.now in
-    let result-is = c.coordinator_memory_refusal-refusal.ensures in
+    let result-is = (c.refusal_number-refusal.ensures ∙ c.test_coordinator_memory.ensures) in
     record {
       refusal = result-is;
       quantile = refuses refusal _ _ (λ none. c.if-refusal-ne-NO_REFUSAL.true (result-is ∙ none));
@@ -20,14 +20,14 @@ pub quantile_value-quantile-requires : goal.quantile_value-quantile-requires
 quantile_value-quantile-requires c =
     let start = c.args in
     read_asks start.settings start.coordinator start.memory.now
-    (sym c.coordinator_memory_refusal-refusal.ensures ∙ c.if-refusal-ne-NO_REFUSAL.false)
+    (sym (c.refusal_number-refusal.ensures ∙ c.test_coordinator_memory.ensures) ∙ c.if-refusal-ne-NO_REFUSAL.false)
 
 pub returns : goal.returns
 returns c =
     let start = c.args in
     let refusal = coordinator_memory_refusal start.settings start.coordinator
     start.memory.now in
-    let result-is = c.coordinator_memory_refusal-refusal.ensures in
+    let result-is = (c.refusal_number-refusal.ensures ∙ c.test_coordinator_memory.ensures) in
     record {
       refusal = result-is;
       quantile = c.quantile_value-quantile.ensures ∙ accepts refusal _ _

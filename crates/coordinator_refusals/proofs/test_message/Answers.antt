@@ -1,5 +1,6 @@
 -- 5 first, then 9, 6, 7, 10.
 use mathlib.Core.Path.{refl}
+use native.Mathlib.Omega.{arith}
 use borrow.Author.Tests.{lt-leb}
 use Rattle.model.proofs.Thresholds.RefusalLaws.{begin, pass, end}
 use Rattle.coordinator_refusals.proofs.test_message.Goals as goal

@@ -22,10 +22,9 @@ use Rattle.model.specs.CoordinatorMemory.{coordinator_memory, coordinator_words,
 use Rattle.model.proofs.Thresholds.RefusalLaws.{both_accepted, accepts, refuses}
 use Rattle.model.proofs.Thresholds.TestedMemory.{length_tested, coordinator_tested}
 use Rattle.coordinator_kinds.specs.declared.Answered.{Answered}
-use Rattle.coordinator.specs.declared.Received.{Received}
 use Rattle.coordinator_kinds.specs.Steps.{answer_of}
 use Rattle.coordinator_steps.specs.Ready.{StepAsks, AnnounceAsks}
-use Rattle.coordinator.specs.Calls.{ReceivedSays, start_refusal, receive_refusal, announce_refusal}
+use Rattle.coordinator.specs.Calls.{Reception, ReceivedSays, start_refusal, receive_refusal, announce_refusal}
 use Rattle.coordinator_memory.proofs.ReadyLaws.{ready_of_consistent}
 
 -- ---- The fresh coordinator in memory
@@ -84,7 +83,7 @@ announce_asks settings numbers memory none =
 -- ---- What is handed back
 
 module _ (refusal : ℕ) (given : CoordinatorStep) (numbers : CoordinatorRecord) where
-  pub hands_refused : (r : Received)
+  pub hands_refused : (r : Reception)
       → (refusal ≡ no_refusal → ⊥)
       → r.coordinator ≡ numbers
       → r.count ≡ 0
@@ -96,7 +95,7 @@ module _ (refusal : ℕ) (given : CoordinatorStep) (numbers : CoordinatorRecord)
     out = out ∙ refuses refusal _ _ some;
   }
 
-  pub hands_accepted : (r : Received) (answered : Answered)
+  pub hands_accepted : (r : Reception) (answered : Answered)
       → refusal ≡ no_refusal
       → answered ≡ answer_of given
       → r.coordinator ≡ answered.coordinator

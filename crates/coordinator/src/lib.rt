@@ -9,32 +9,14 @@ ghost use Rattle.model.specs.Refusals.{refusal_in};
 ghost use Rattle.model.specs.Coordinator.{fresh_coordinator, is_announcing};
 ghost use Rattle.model.specs.CoordinatorMemory.{coordinator_record};
 ghost use Rattle.model.specs.declared.Settings.{Settings};
-ghost use Rattle.coordinator.specs.Calls.{start_refusal, receive_refusal, announce_refusal, StartCoordinatorSays, CoordinatorReceiveSays, AnnounceSays};
+ghost use Rattle.coordinator.specs.Calls.{start_refusal, receive_refusal, announce_refusal, coordinator_start, reception, StartCoordinatorSays, CoordinatorReceiveSays, AnnounceSays};
 
+use coordinator_kinds::Answered;
 use coordinator_memory::test_coordinator_memory;
 use coordinator_refusals::test_message;
 use coordinator_steps::{announce_step, receive_step};
-use messages::no_message;
-use model::{
-    CoordinatorRecord, Message, NO_REFUSAL, Phase, Refusal, Settings, VALUE_COUNT, refusal_number,
-};
+use model::{CoordinatorRecord, Message, Phase, Refusal, Settings, VALUE_COUNT};
 use settings::test_settings;
-
-// What a start hands back. The record is fresh also where the start is refused.
-#[derive(Clone, Copy)]
-pub struct StartedCoordinator {
-    pub refusal: u32,
-    pub coordinator: CoordinatorRecord,
-}
-
-// What a message, or the wish for the next kind 7, hands back.
-#[derive(Clone, Copy)]
-pub struct Received {
-    pub refusal: u32,
-    pub coordinator: CoordinatorRecord,
-    pub count: u32,
-    pub out: Message,
-}
 
 // The record of a coordinator started fresh.
 fn fresh_record() -> CoordinatorRecord
@@ -61,23 +43,17 @@ fn test_start(settings: Settings, words: usize) -> Result<(), Refusal>
     Ok(())
 }
 
-// StartCoordinatorSays a coordinator fresh: its numbers in memory become 0.
-pub fn start_coordinator(settings: Settings, memory: &mut [u64]) -> StartedCoordinator
-    ensures { StartCoordinatorSays settings memory.old memory.new result }
+// A coordinator started fresh: its numbers in memory become 0.
+pub fn start_coordinator(
+    settings: Settings,
+    memory: &mut [u64],
+) -> Result<CoordinatorRecord, Refusal>
+    ensures { StartCoordinatorSays settings memory.old memory.new
+        (coordinator_start settings result) }
 {
-    let coordinator = fresh_record();
-    let refusal = refusal_number(test_start(settings, memory.len()));
-    if refusal != NO_REFUSAL {
-        return StartedCoordinator {
-            refusal,
-            coordinator,
-        };
-    }
+    test_start(settings, memory.len())?;
     memory[..(settings.universe as usize) + VALUE_COUNT].fill(0);
-    StartedCoordinator {
-        refusal,
-        coordinator,
-    }
+    Ok(fresh_record())
 }
 
 // The test of a message.
@@ -99,26 +75,12 @@ pub fn receive(
     coordinator: CoordinatorRecord,
     message: Message,
     memory: &mut [u64],
-) -> Received
-    ensures { CoordinatorReceiveSays settings coordinator message memory.old
-        memory.new result }
+) -> Result<Answered, Refusal>
+    ensures { CoordinatorReceiveSays settings coordinator message memory.old memory.new
+        (reception coordinator result) }
 {
-    let refusal = refusal_number(test_receive(settings, coordinator, message, memory));
-    if refusal != NO_REFUSAL {
-        return Received {
-            refusal,
-            coordinator,
-            count: 0,
-            out: no_message(),
-        };
-    }
-    let answered = receive_step(settings, coordinator, message, memory);
-    Received {
-        refusal,
-        coordinator: answered.coordinator,
-        count: answered.count,
-        out: answered.out,
-    }
+    test_receive(settings, coordinator, message, memory)?;
+    Ok(receive_step(settings, coordinator, message, memory))
 }
 
 // Whether the phase is another than announcing.
@@ -148,23 +110,9 @@ pub fn next_announcement(
     settings: Settings,
     coordinator: CoordinatorRecord,
     memory: &[u64],
-) -> Received
-    ensures { AnnounceSays settings coordinator memory.now result }
+) -> Result<Answered, Refusal>
+    ensures { AnnounceSays settings coordinator memory.now (reception coordinator result) }
 {
-    let refusal = refusal_number(test_announce(settings, coordinator, memory));
-    if refusal != NO_REFUSAL {
-        return Received {
-            refusal,
-            coordinator,
-            count: 0,
-            out: no_message(),
-        };
-    }
-    let answered = announce_step(settings, coordinator);
-    Received {
-        refusal,
-        coordinator: answered.coordinator,
-        count: answered.count,
-        out: answered.out,
-    }
+    test_announce(settings, coordinator, memory)?;
+    Ok(announce_step(settings, coordinator))
 }

@@ -5,18 +5,11 @@
 
 ghost use Rattle.std.specs.Prelude.{◌≡◌, length, leb};
 ghost use Rattle.coordinator_reading.specs.Promises.{ReadAsks, SidesAsk};
-ghost use Rattle.coordinator_list.specs.Promises.{ListSays, WriteListedAsks, WriteListedSays, hitters_in, rule_holds};
+ghost use Rattle.coordinator_list.specs.Promises.{list_answer, ListSays, WriteListedAsks, WriteListedSays, hitters_in, rule_holds};
 
 use coordinator_memory::test_coordinator_memory;
 use coordinator_reading::side_needed;
-use model::{CoordinatorRecord, LIST_FACTOR, LIST_TOO_SHORT, NO_REFUSAL, Settings, refusal_number};
-
-// What the list call hands back: how many items it wrote.
-#[derive(Clone, Copy)]
-pub struct Listed {
-    pub refusal: u32,
-    pub count: u32,
-}
+use model::{CoordinatorRecord, LIST_FACTOR, Refusal, Settings};
 
 // Whether an item with this number is listed.
 fn is_listed(settings: Settings, total: u64, number: u64) -> bool
@@ -54,7 +47,7 @@ fn list_fits(
     true
 }
 
-// WriteListedSays the listed items to the front of a list that has the places, and says how many
+// Writes the listed items to the front of a list that has the places, and says how many
 // they are.
 fn write_listed(
     settings: Settings,
@@ -84,23 +77,12 @@ pub fn list_heavy_hitters(
     coordinator: CoordinatorRecord,
     memory: &[u64],
     list: &mut [u32],
-) -> Listed
-    ensures { ListSays settings coordinator memory.now list.old
-        list.new result }
+) -> Result<u32, Refusal>
+    ensures { ListSays settings coordinator memory.now list.old list.new (list_answer result) }
 {
-    let refusal = refusal_number(test_coordinator_memory(settings, coordinator, memory));
-    if refusal != NO_REFUSAL {
-        return Listed { refusal, count: 0 };
+    test_coordinator_memory(settings, coordinator, memory)?;
+    if !list_fits(settings, coordinator, memory, list.len()) {
+        return Err(Refusal::ListTooShort);
     }
-    if list_fits(settings, coordinator, memory, list.len()) {
-        let count = write_listed(settings, coordinator, memory, list);
-        return Listed {
-            refusal: NO_REFUSAL,
-            count,
-        };
-    }
-    Listed {
-        refusal: LIST_TOO_SHORT,
-        count: 0,
-    }
+    Ok(write_listed(settings, coordinator, memory, list))
 }

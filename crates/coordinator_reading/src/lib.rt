@@ -8,27 +8,10 @@ ghost use Rattle.std.specs.Prelude.{◌≡◌, ◌*◌, ◌<◌};
 ghost use Rattle.model.specs.CoordinatorMemory.{coordinator_in};
 ghost use Rattle.model.specs.Refusals.{refusal_in};
 ghost use Rattle.model.specs.Reading.{difference, least_value, quantile_of};
-ghost use Rattle.coordinator_reading.specs.Promises.{MarginSays, QuantileSays, ReadAsks, SidesAsk, ValuesAsk, margin_refusal, side_needed};
+ghost use Rattle.coordinator_reading.specs.Promises.{margin_answer, quantile_answer, MarginSays, QuantileSays, ReadAsks, SidesAsk, ValuesAsk, margin_refusal, side_needed};
 
 use coordinator_memory::test_coordinator_memory;
-use model::{
-    CoordinatorRecord, LIST_FACTOR, NO_REFUSAL, Quantile, RANK_FACTOR, Refusal, Settings,
-    VALUE_COUNT, refusal_number,
-};
-
-// What the margin call hands back: 0 where it is refused.
-#[derive(Clone, Copy)]
-pub struct Margin {
-    pub refusal: u32,
-    pub margin: i64,
-}
-
-// What the quantile call hands back: `Nothing` where it is refused.
-#[derive(Clone, Copy)]
-pub struct QuantileRead {
-    pub refusal: u32,
-    pub quantile: Quantile,
-}
+use model::{CoordinatorRecord, LIST_FACTOR, RANK_FACTOR, Refusal, Settings, VALUE_COUNT};
 
 // (2p - e) × total, the side of the list rule that an item's number has to reach. Internal: the
 // margin call, and crate `coordinator_list`'s list call, make the test `test_coordinator_memory`
@@ -79,20 +62,15 @@ pub fn read_margin(
     coordinator: CoordinatorRecord,
     item: u32,
     memory: &[u64],
-) -> Margin
-    ensures { MarginSays settings coordinator item memory.now result }
+) -> Result<i64, Refusal>
+    ensures { MarginSays settings coordinator item memory.now (margin_answer result) }
 {
-    let refusal = refusal_number(test_margin(settings, coordinator, item, memory));
-    if refusal != NO_REFUSAL {
-        return Margin { refusal, margin: 0 };
-    }
-    let number = memory[item as usize];
-    let margin = margin_of(settings, coordinator.total, number);
-    Margin { refusal, margin }
+    test_margin(settings, coordinator, item, memory)?;
+    Ok(margin_of(settings, coordinator.total, memory[item as usize]))
 }
 
 // The least value with enough counts at or below it.
-fn least_value(rank: u32, total: u64, counts: &[u64]) -> Quantile
+fn least_value(rank: u32, total: u64, counts: &[u64]) -> Option<u32>
     requires { ValuesAsk rank total counts.now }
     ensures { result ≡ least_value rank total counts.now }
 {
@@ -101,45 +79,38 @@ fn least_value(rank: u32, total: u64, counts: &[u64]) -> Quantile
     for (value, count) in counts.iter().enumerate() {
         below += count;
         if needed <= RANK_FACTOR * below {
-            return Quantile::Value(value as u32);
+            return Some(value as u32);
         }
     }
-    Quantile::Nothing
+    None
 }
 
 // The quantile of a coordinator that passed its tests: from the value counts while the threshold is
 // 1, later from the record.
-fn quantile_value(settings: Settings, coordinator: CoordinatorRecord, memory: &[u64]) -> Quantile
+fn quantile_value(settings: Settings, coordinator: CoordinatorRecord, memory: &[u64]) -> Option<u32>
     requires { ReadAsks settings coordinator memory.now }
     ensures { result ≡ quantile_of settings (coordinator_in settings coordinator
         memory.now) }
 {
     if coordinator.threshold == 1 {
         if coordinator.total == 0 {
-            return Quantile::Nothing;
+            return None;
         }
         let items = settings.universe as usize;
         let words = items + VALUE_COUNT;
         return least_value(settings.rank, coordinator.total, &memory[items..words]);
     }
-    Quantile::Value(coordinator.quantile)
+    Some(coordinator.quantile)
 }
 
-// The tracked quantile.
+// The tracked quantile: document 01's class, or none.
 pub fn read_quantile(
     settings: Settings,
     coordinator: CoordinatorRecord,
     memory: &[u64],
-) -> QuantileRead
-    ensures { QuantileSays settings coordinator memory.now result }
+) -> Result<Option<u32>, Refusal>
+    ensures { QuantileSays settings coordinator memory.now (quantile_answer result) }
 {
-    let refusal = refusal_number(test_coordinator_memory(settings, coordinator, memory));
-    if refusal != NO_REFUSAL {
-        return QuantileRead {
-            refusal,
-            quantile: Quantile::Nothing,
-        };
-    }
-    let quantile = quantile_value(settings, coordinator, memory);
-    QuantileRead { refusal, quantile }
+    test_coordinator_memory(settings, coordinator, memory)?;
+    Ok(quantile_value(settings, coordinator, memory))
 }

@@ -5,7 +5,7 @@
 #![tactic(auto)]
 
 ghost use Rattle.std.specs.Prelude.{◌≡◌, not};
-ghost use Rattle.model.specs.Refusals.{refusal_in};
+ghost use Rattle.model.specs.Refusals.{refusal_told};
 ghost use Rattle.model.specs.Coordinator.{fresh_coordinator, is_announcing};
 ghost use Rattle.model.specs.CoordinatorMemory.{coordinator_record};
 ghost use Rattle.model.specs.declared.Settings.{Settings};
@@ -34,7 +34,7 @@ fn fresh_record() -> CoordinatorRecord
 
 // The test of a start, with memory of so many numbers.
 fn test_start(settings: Settings, words: usize) -> Result<(), Refusal>
-    ensures { refusal_in result ≡ start_refusal settings words }
+    ensures { refusal_told result ≡ start_refusal settings words }
 {
     test_settings(settings)?;
     if words < (settings.universe as usize) + VALUE_COUNT {
@@ -63,7 +63,7 @@ fn test_receive(
     message: Message,
     memory: &[u64],
 ) -> Result<(), Refusal>
-    ensures { refusal_in result ≡ receive_refusal settings coordinator message memory.now }
+    ensures { refusal_told result ≡ receive_refusal settings coordinator message memory.now }
 {
     test_coordinator_memory(settings, coordinator, memory)?;
     test_message(settings, coordinator, message)
@@ -96,7 +96,7 @@ fn test_announce(
     coordinator: CoordinatorRecord,
     memory: &[u64],
 ) -> Result<(), Refusal>
-    ensures { refusal_in result ≡ announce_refusal settings coordinator memory.now }
+    ensures { refusal_told result ≡ announce_refusal settings coordinator memory.now }
 {
     test_coordinator_memory(settings, coordinator, memory)?;
     if not_announcing(coordinator.phase) {

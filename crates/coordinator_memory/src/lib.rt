@@ -6,7 +6,7 @@
 ghost use Rattle.std.specs.Prelude.{◌≡◌, ◌&&◌, ◌||◌, not, ◌<◌, ◌≤◌, eqb, ltb, length};
 ghost use Rattle.model.specs.Limits.{value_count, coordinator_limit};
 ghost use Rattle.model.specs.SiteMemory.{sum};
-ghost use Rattle.model.specs.Refusals.{refusal_in};
+ghost use Rattle.model.specs.Refusals.{refusal_told};
 ghost use Rattle.model.specs.CoordinatorMemory.{all_within, phase_consistent, coordinator_in, coordinator_consistent, coordinator_memory_refusal};
 ghost use Rattle.coordinator_memory.specs.Consistency.{record_consistent, numbers_consistent, half_range, higher_halves, SumAsks, MemoryAsks};
 
@@ -137,7 +137,7 @@ pub fn test_coordinator_memory(
     coordinator: CoordinatorRecord,
     memory: &[u64],
 ) -> Result<(), Refusal>
-    ensures { refusal_in result ≡ coordinator_memory_refusal settings coordinator
+    ensures { refusal_told result ≡ coordinator_memory_refusal settings coordinator
         memory.now }
 {
     test_settings(settings)?;

@@ -6,7 +6,7 @@
 
 ghost use Rattle.std.specs.Prelude.{◌≡◌, ◌*◌, ◌<◌};
 ghost use Rattle.model.specs.CoordinatorMemory.{coordinator_in};
-ghost use Rattle.model.specs.Refusals.{refusal_in};
+ghost use Rattle.model.specs.Refusals.{refusal_told};
 ghost use Rattle.model.specs.Reading.{difference, least_value, quantile_of};
 ghost use Rattle.coordinator_reading.specs.Promises.{margin_answer, quantile_answer, MarginSays, QuantileSays, ReadAsks, SidesAsk, ValuesAsk, margin_refusal, side_needed};
 
@@ -47,7 +47,7 @@ fn test_margin(
     item: u32,
     memory: &[u64],
 ) -> Result<(), Refusal>
-    ensures { refusal_in result ≡ margin_refusal settings coordinator item memory.now }
+    ensures { refusal_told result ≡ margin_refusal settings coordinator item memory.now }
 {
     test_coordinator_memory(settings, coordinator, memory)?;
     if settings.universe <= item {

@@ -8,7 +8,7 @@ ghost use Rattle.model.specs.declared.Settings.{Settings};
 ghost use Rattle.model.specs.Messages.{is_item_report};
 ghost use Rattle.model.specs.Coordinator.{due_in, asked_value, names_large_value, wrong_at_coordinator, coordinator_due_refusal, coordinator_refusal};
 ghost use Rattle.model.specs.CoordinatorMemory.{coordinator_in};
-ghost use Rattle.model.specs.Refusals.{refusal_in};
+ghost use Rattle.model.specs.Refusals.{refusal_told};
 
 use model::{
     COUNT_REPORT, CoordinatorRecord, ITEM_REPORT, Message, POLL_ANSWER, PROBE_ANSWER, Phase,
@@ -77,7 +77,7 @@ fn test_due(
     coordinator: CoordinatorRecord,
     message: Message,
 ) -> Result<(), Refusal>
-    ensures { (memory : List ℕ) → refusal_in result ≡ coordinator_due_refusal settings
+    ensures { (memory : List ℕ) → refusal_told result ≡ coordinator_due_refusal settings
         (coordinator_in settings coordinator memory) message }
 {
     if not_due(coordinator.phase, message) {
@@ -101,7 +101,7 @@ pub fn test_message(
     coordinator: CoordinatorRecord,
     message: Message,
 ) -> Result<(), Refusal>
-    ensures { (memory : List ℕ) → refusal_in result ≡ coordinator_refusal settings
+    ensures { (memory : List ℕ) → refusal_told result ≡ coordinator_refusal settings
         (coordinator_in settings coordinator memory) message }
 {
     if settings.sites <= message.site {

@@ -5,7 +5,7 @@
 #![tactic(auto)]
 
 ghost use Rattle.std.specs.Prelude.{◌≡◌};
-ghost use Rattle.model.specs.Refusals.{no_refusal, refusal_in};
+ghost use Rattle.model.specs.Refusals.{no_refusal, refusal_told};
 ghost use Rattle.model.specs.Transcript.{beyond_program};
 ghost use Rattle.drawtrack_start.specs.Start.{shorter_than_limits, start_refusal_of, start_line};
 
@@ -67,7 +67,7 @@ pub fn test_start(
     site_numbers: usize,
     coordinator_numbers: usize,
 ) -> Result<(), Refusal>
-    ensures { refusal_in result ≡ start_refusal_of no_refusal settings bytes site_numbers
+    ensures { refusal_told result ≡ start_refusal_of no_refusal settings bytes site_numbers
         coordinator_numbers }
 {
     test_settings(settings)?;

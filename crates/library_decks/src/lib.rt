@@ -6,7 +6,7 @@
 #![tactic(auto)]
 
 ghost use Rattle.std.specs.Prelude.{◌≡◌};
-ghost use Rattle.model.specs.Refusals.{refusal_in};
+ghost use Rattle.model.specs.Refusals.{refusal_told};
 ghost use Rattle.library_rows.specs.Rows.{lent};
 ghost use Rattle.library_decks.specs.AllDecks.{decks_refusal, NamedAsks, StartDecksExported, DecksDrawn, DecksDrawExported, DecksReplied, DecksMessageExported};
 
@@ -37,7 +37,7 @@ pub fn tracker_start_decks(
 
 // 1, 2, 3; 4, with memory of so many numbers for all decks; 5.
 fn test_decks(settings: Settings, which: u32, words: usize) -> Result<(), Refusal>
-    ensures { refusal_in result ≡ decks_refusal settings which words }
+    ensures { refusal_told result ≡ decks_refusal settings which words }
 {
     settings::test_settings(settings)?;
     if words < (settings.sites as usize) * site_memory::site_words(settings) {
@@ -62,7 +62,7 @@ fn draw_at(
     requires { NamedAsks settings draw.site memory.old }
     ensures { DecksDrawn settings draw (lent decks.old decks.new) (lent memory.old memory.new)
         (lent out.old out.new)
-        (lent count.old count.new) (refusal_in result) }
+        (lent count.old count.new) (refusal_told result) }
 {
     let which = draw.site as usize;
     let start = which * site_memory::site_words(settings);
@@ -106,7 +106,7 @@ fn message_at(
     requires { NamedAsks settings message.site memory.now }
     ensures { DecksReplied settings message memory.now (lent decks.old decks.new)
         (lent reply.old reply.new)
-        (lent count.old count.new) (refusal_in result) }
+        (lent count.old count.new) (refusal_told result) }
 {
     let which = message.site as usize;
     let start = which * site_memory::site_words(settings);

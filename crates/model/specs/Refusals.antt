@@ -5,8 +5,9 @@
 --
 -- A chain `when .. or_else when .. or_else accepted` is an ordered list of tests with their
 -- numbers.
-use Rattle.std.specs.Prelude.{Bool, true, false, ℕ, zero, suc, Result, Ok, Err}
+use Rattle.std.specs.Prelude.{Bool, true, false, ℕ, zero, suc, Result, Ok, Err, MatchResult, ◌≡◌, ◌<◌, ◌⊎◌}
 use Rattle.model.specs.declared.Refusal.{Refusal}
+use Rattle.model.specs.declared.UnknownRefusal.{UnknownRefusal}
 use Rattle.model.specs.declared.Refusal.TheVariants.{SettingOutOfRange, PhiBelowEpsilon, TooFewCounters, MemoryTooShort, UnknownSite, UnknownItem, ValueTooLarge, SiteFull, MessageNotDue, AmountNotDue, MemoryInconsistent, ListTooShort, MalformedLine, LogTooShort, FileUnreadable, ChecksumWrong}
 
 infixr 15 ◌or_else◌
@@ -106,6 +107,11 @@ number_of FileUnreadable = file_unreadable
 number_of ChecksumWrong = checksum_wrong
 
 -- What a call comes to, as a number: that of its refusal, or 0 where it accepts.
-abbrev pub refusal_in : {A : Type 0} → Result A Refusal → ℕ
-refusal_in (Ok _) = no_refusal
-refusal_in (Err refusal) = number_of refusal
+abbrev pub refusal_told : {A : Type 0} → Result A Refusal → ℕ
+refusal_told (Ok _) = no_refusal
+refusal_told (Err refusal) = number_of refusal
+
+-- The answer is the refusal with this number, or says that no refusal has it.
+abbrev pub NumberNames : ℕ → Result Refusal UnknownRefusal → Type 0
+NumberNames number answer = MatchResult answer (λ refusal. number_of refusal ≡ number)
+    (λ unknown. (unknown.0 ≡ number) × ((number ≡ no_refusal) ⊎ (checksum_wrong < number)))

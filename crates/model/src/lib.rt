@@ -7,42 +7,10 @@
 #![tactic(auto)]
 
 ghost use Rattle.std.specs.Prelude.{◌≡◌};
-ghost use Rattle.model.specs.Refusals.{number_of, refusal_in};
+ghost use Rattle.model.specs.Refusals.{number_of, NumberNames};
 
-// Why a call is refused: document 01's table "Refused".
+// The number that tells a caller outside that nothing was refused.
 pub const NO_REFUSAL: u32 = 0;
-
-pub const SETTING_OUT_OF_RANGE: u32 = 1;
-
-pub const PHI_BELOW_EPSILON: u32 = 2;
-
-pub const TOO_FEW_COUNTERS: u32 = 3;
-
-pub const MEMORY_TOO_SHORT: u32 = 4;
-
-pub const UNKNOWN_SITE: u32 = 5;
-
-pub const UNKNOWN_ITEM: u32 = 6;
-
-pub const VALUE_TOO_LARGE: u32 = 7;
-
-pub const SITE_FULL: u32 = 8;
-
-pub const MESSAGE_NOT_DUE: u32 = 9;
-
-pub const AMOUNT_NOT_DUE: u32 = 10;
-
-pub const MEMORY_INCONSISTENT: u32 = 11;
-
-pub const LIST_TOO_SHORT: u32 = 12;
-
-pub const MALFORMED_LINE: u32 = 13;
-
-pub const LOG_TOO_SHORT: u32 = 14;
-
-pub const FILE_UNREADABLE: u32 = 15;
-
-pub const CHECKSUM_WRONG: u32 = 16;
 
 // Why a call is refused: document 01's table "Refused", each row with its number.
 #[derive(Clone, Copy, Debug, PartialEq, Eq)]
@@ -74,13 +42,35 @@ impl Refusal {
     }
 }
 
-// What a test came to, as the number that a caller outside is told: 0 where it accepts.
-pub fn refusal_number(tested: Result<(), Refusal>) -> u32
-    ensures { result ≡ refusal_in tested }
-{
-    match tested {
-        Ok(()) => 0,
-        Err(refusal) => refusal.number(),
+// A number that no refusal has.
+#[derive(Clone, Copy, Debug, PartialEq, Eq)]
+pub struct UnknownRefusal(pub u32);
+
+impl TryFrom<u32> for Refusal {
+    type Error = UnknownRefusal;
+
+    ghost try_from_gives = { NumberNames };
+
+    fn try_from(number: u32) -> Result<Self, UnknownRefusal> {
+        match number {
+            1 => Ok(Refusal::SettingOutOfRange),
+            2 => Ok(Refusal::PhiBelowEpsilon),
+            3 => Ok(Refusal::TooFewCounters),
+            4 => Ok(Refusal::MemoryTooShort),
+            5 => Ok(Refusal::UnknownSite),
+            6 => Ok(Refusal::UnknownItem),
+            7 => Ok(Refusal::ValueTooLarge),
+            8 => Ok(Refusal::SiteFull),
+            9 => Ok(Refusal::MessageNotDue),
+            10 => Ok(Refusal::AmountNotDue),
+            11 => Ok(Refusal::MemoryInconsistent),
+            12 => Ok(Refusal::ListTooShort),
+            13 => Ok(Refusal::MalformedLine),
+            14 => Ok(Refusal::LogTooShort),
+            15 => Ok(Refusal::FileUnreadable),
+            16 => Ok(Refusal::ChecksumWrong),
+            _ => Err(UnknownRefusal(number)),
+        }
     }
 }
 

@@ -5,43 +5,59 @@
 
 ghost use Rattle.std.specs.Prelude.{◌≡◌, ◌+◌, ◌≤◌, length};
 ghost use Rattle.laws.specs.Writing.{Put};
+ghost use Rattle.model.specs.Refusals.{number_of};
 ghost use Rattle.output_words.specs.Words.{words_of};
 
-use model::{
-    AMOUNT_NOT_DUE, LIST_TOO_SHORT, LOG_TOO_SHORT, MALFORMED_LINE, MEMORY_INCONSISTENT,
-    MEMORY_TOO_SHORT, MESSAGE_NOT_DUE, NO_REFUSAL, PHI_BELOW_EPSILON, SETTING_OUT_OF_RANGE,
-    SITE_FULL, TOO_FEW_COUNTERS, UNKNOWN_ITEM, UNKNOWN_SITE, VALUE_TOO_LARGE,
-};
+use model::{NO_REFUSAL, Refusal};
 use output_lines::put_text;
 
+// What a number past the table is called.
+const UNKNOWN: &[u8] = b"unknown refusal";
+
 // The words of a refusal.
-fn words(refusal: u32) -> &'static [u8]
-    ensures { result.now ≡ words_of refusal }
+fn words(refusal: Refusal) -> &'static [u8]
+    ensures { result.now ≡ words_of (number_of refusal) }
 {
     match refusal {
-        NO_REFUSAL => b"accepted",
-        SETTING_OUT_OF_RANGE => b"setting outside its range",
-        PHI_BELOW_EPSILON => b"list share below leeway",
-        TOO_FEW_COUNTERS => b"too few slots for the leeway",
-        MEMORY_TOO_SHORT => b"beyond what this program serves",
-        UNKNOWN_SITE => b"unknown deck",
-        UNKNOWN_ITEM => b"unknown code",
-        VALUE_TOO_LARGE => b"class above 1023",
-        SITE_FULL => b"deck full",
-        MESSAGE_NOT_DUE => b"message not due",
-        AMOUNT_NOT_DUE => b"amount not due",
-        MEMORY_INCONSISTENT => b"memory inconsistent",
-        LIST_TOO_SHORT => b"list too short",
-        MALFORMED_LINE => b"malformed line",
-        LOG_TOO_SHORT => b"log too short",
-        _ => b"unknown refusal",
+        Refusal::SettingOutOfRange => b"setting outside its range",
+        Refusal::PhiBelowEpsilon => b"list share below leeway",
+        Refusal::TooFewCounters => b"too few slots for the leeway",
+        Refusal::MemoryTooShort => b"beyond what this program serves",
+        Refusal::UnknownSite => b"unknown deck",
+        Refusal::UnknownItem => b"unknown code",
+        Refusal::ValueTooLarge => b"class above 1023",
+        Refusal::SiteFull => b"deck full",
+        Refusal::MessageNotDue => b"message not due",
+        Refusal::AmountNotDue => b"amount not due",
+        Refusal::MemoryInconsistent => b"memory inconsistent",
+        Refusal::ListTooShort => b"list too short",
+        Refusal::MalformedLine => b"malformed line",
+        Refusal::LogTooShort => b"log too short",
+        Refusal::FileUnreadable => UNKNOWN,
+        Refusal::ChecksumWrong => UNKNOWN,
     }
 }
 
-// Writes the words of a refusal, where they fit.
+// The words of a number, which may be no refusal's.
+fn words_of_number(number: u32) -> &'static [u8]
+    ensures { result.now ≡ words_of number }
+{
+    match Refusal::try_from(number) {
+        Ok(refusal) => words(refusal),
+        Err(_) => {
+            if number == NO_REFUSAL {
+                b"accepted"
+            } else {
+                UNKNOWN
+            }
+        }
+    }
+}
+
+// Writes the words of a refusal's number, where they fit.
 pub fn put_words(refusal: u32, out: &mut [u8], at: usize) -> usize
     requires { at + length (words_of refusal) ≤ length out.old }
     ensures { Put (words_of refusal) at out.old out.new result }
 {
-    put_text(words(refusal), out, at)
+    put_text(words_of_number(refusal), out, at)
 }

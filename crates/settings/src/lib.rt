@@ -6,7 +6,7 @@
 ghost use Rattle.std.specs.Prelude.{◌≡◌, not};
 ghost use Rattle.model.specs.Choice.{between};
 ghost use Rattle.model.specs.Limits.{most_messages};
-ghost use Rattle.model.specs.Refusals.{no_refusal, refusal_in};
+ghost use Rattle.model.specs.Refusals.{no_refusal, refusal_told};
 ghost use Rattle.model.specs.Settings.{in_range, settings_refusal, digits, allowance};
 ghost use Rattle.settings.specs.Promises.{AllowanceSays};
 
@@ -50,7 +50,7 @@ fn any_outside(settings: Settings) -> bool
 
 // The settings test: refusal 1, 2 or 3, tested in this order.
 pub fn test_settings(settings: Settings) -> Result<(), Refusal>
-    ensures { refusal_in result ≡ settings_refusal settings }
+    ensures { refusal_told result ≡ settings_refusal settings }
 {
     if any_outside(settings) {
         return Err(Refusal::SettingOutOfRange);

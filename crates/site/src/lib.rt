@@ -5,7 +5,7 @@
 #![tactic(auto)]
 
 ghost use Rattle.std.specs.Prelude.{◌≡◌, Ok};
-ghost use Rattle.model.specs.Refusals.{no_refusal, refusal_in};
+ghost use Rattle.model.specs.Refusals.{no_refusal, refusal_told};
 ghost use Rattle.site.specs.Calls.{observation, observe_refusal, unchanged_by, ObserveSays, site_reply, receive_refusal, SiteReceiveSays};
 
 use messages::no_message;
@@ -20,7 +20,7 @@ fn test_observe(
     arrival: Arrival,
     memory: &[Word],
 ) -> Result<(), Refusal>
-    ensures { refusal_in result ≡ observe_refusal settings site arrival memory.now }
+    ensures { refusal_told result ≡ observe_refusal settings site arrival memory.now }
 {
     site_memory::test_site_memory(settings, site, memory)?;
     site_refusals::test_arrival(settings, site, arrival)
@@ -63,7 +63,7 @@ fn test_receive(
     message: Message,
     memory: &[Word],
 ) -> Result<(), Refusal>
-    ensures { refusal_in result ≡ receive_refusal settings site which message memory.now }
+    ensures { refusal_told result ≡ receive_refusal settings site which message memory.now }
 {
     site_memory::test_site_memory(settings, site, memory)?;
     if settings.sites <= which {

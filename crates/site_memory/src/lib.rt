@@ -4,7 +4,7 @@
 #![tactic(auto)]
 
 ghost use Rattle.std.specs.Prelude.{◌≡◌, ◌+◌, ◌*◌, ◌≤◌, eqb, length, take, drop};
-ghost use Rattle.model.specs.Refusals.{no_refusal, refusal_in};
+ghost use Rattle.model.specs.Refusals.{no_refusal, refusal_told};
 ghost use Rattle.model.specs.Limits.{value_count};
 ghost use Rattle.model.specs.Settings.{settings_refusal};
 ghost use Rattle.model.specs.Site.{up_to};
@@ -100,7 +100,7 @@ pub fn test_site_memory(
     site: SiteRecord,
     memory: &[Word],
 ) -> Result<(), Refusal>
-    ensures { refusal_in result ≡ site_memory_refusal settings site memory.now }
+    ensures { refusal_told result ≡ site_memory_refusal settings site memory.now }
 {
     settings::test_settings(settings)?;
     if memory.len() < site_words(settings) {

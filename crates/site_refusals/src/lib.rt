@@ -4,7 +4,7 @@
 #![tactic(auto)]
 
 ghost use Rattle.std.specs.Prelude.{◌≡◌, not, ◌&&◌, ltb};
-ghost use Rattle.model.specs.Refusals.{refusal_in};
+ghost use Rattle.model.specs.Refusals.{refusal_told};
 ghost use Rattle.model.specs.Limits.{top_value};
 ghost use Rattle.model.specs.Draws.{is_draw};
 ghost use Rattle.model.specs.Messages.{is_probe};
@@ -18,7 +18,7 @@ use model::{
 
 // Whether an arrival's site, item and value are known: 5, 6, 7.
 pub fn test_address(settings: Settings, arrival: Arrival) -> Result<(), Refusal>
-    ensures { refusal_in result ≡ address_refusal settings arrival }
+    ensures { refusal_told result ≡ address_refusal settings arrival }
 {
     if settings.sites <= arrival.site {
         return Err(Refusal::UnknownSite);
@@ -34,7 +34,7 @@ pub fn test_address(settings: Settings, arrival: Arrival) -> Result<(), Refusal>
 
 // Whether a site takes a further arrival: 8.
 fn test_room(site: SiteRecord) -> Result<(), Refusal>
-    ensures { refusal_in result ≡ room_refusal (bare_site site) }
+    ensures { refusal_told result ≡ room_refusal (bare_site site) }
 {
     if SITE_LIMIT <= site.arrivals {
         return Err(Refusal::SiteFull);
@@ -51,7 +51,7 @@ pub fn is_draw(arrival: Arrival) -> bool
 
 // Whether an arrival is taken at a site that is consistent: 5, 6, 7; then 8, unless it is a touch.
 pub fn test_arrival(settings: Settings, site: SiteRecord, arrival: Arrival) -> Result<(), Refusal>
-    ensures { refusal_in result ≡ line_refusal settings (bare_site site) arrival }
+    ensures { refusal_told result ≡ line_refusal settings (bare_site site) arrival }
 {
     test_address(settings, arrival)?;
     if is_draw(arrival) {
@@ -88,7 +88,7 @@ fn amount_wrong(site: SiteRecord, message: Message) -> bool
 
 // Whether the kind, the value and the amounts of a message are due: 9, 7, 10.
 fn test_due(site: SiteRecord, which: u32, message: Message) -> Result<(), Refusal>
-    ensures { refusal_in result ≡ site_due_refusal (bare_site site) which message }
+    ensures { refusal_told result ≡ site_due_refusal (bare_site site) which message }
 {
     if message_not_due(which, message) {
         return Err(Refusal::MessageNotDue);
@@ -109,7 +109,7 @@ pub fn test_message(
     which: u32,
     message: Message,
 ) -> Result<(), Refusal>
-    ensures { refusal_in result ≡ site_message_refusal settings (bare_site site) which message }
+    ensures { refusal_told result ≡ site_message_refusal settings (bare_site site) which message }
 {
     if settings.sites <= message.site {
         return Err(Refusal::UnknownSite);

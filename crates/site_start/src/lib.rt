@@ -4,7 +4,7 @@
 #![tactic(auto)]
 
 ghost use Rattle.std.specs.Prelude.{◌≡◌};
-ghost use Rattle.model.specs.Refusals.{refusal_in};
+ghost use Rattle.model.specs.Refusals.{refusal_told};
 ghost use Rattle.model.specs.SiteMemory.{site_record};
 ghost use Rattle.model.specs.NetworkMemory.{fresh_sites};
 ghost use Rattle.model.specs.Site.{fresh_site};
@@ -52,7 +52,7 @@ pub fn start_sites(settings: Settings, memory: &mut [Word]) -> Result<Sites, Ref
 // Whether one site can be started, with memory of so many numbers: 1, 2, 3, 4; then 5 for its own
 // number.
 fn test_start_site(settings: Settings, which: u32, words: usize) -> Result<(), Refusal>
-    ensures { refusal_in result ≡ start_site_refusal settings which words }
+    ensures { refusal_told result ≡ start_site_refusal settings which words }
 {
     settings::test_settings(settings)?;
     if words < site_memory::site_words(settings) {

@@ -4,7 +4,7 @@
 #![tactic(auto)]
 
 ghost use Rattle.std.specs.Prelude.{◌≡◌};
-ghost use Rattle.model.specs.Refusals.{refusal_in};
+ghost use Rattle.model.specs.Refusals.{refusal_told};
 ghost use Rattle.model.specs.Held.{held_by};
 ghost use Rattle.snapshot_file.specs.File.{save_refusal};
 ghost use Rattle.snapshot_file.specs.Calls.{SaveSays, save_answer};
@@ -24,7 +24,7 @@ fn test_save(
     coordinator_memory: &[u64],
     room: usize,
 ) -> Result<(), Refusal>
-    ensures { refusal_in result
+    ensures { refusal_told result
         ≡ save_refusal settings
         (held_by sites coordinator site_memory.now coordinator_memory.now) room }
 {

@@ -4,7 +4,7 @@
 #![tactic(auto)]
 
 ghost use Rattle.std.specs.Prelude.{◌≡◌};
-ghost use Rattle.model.specs.Refusals.{refusal_in};
+ghost use Rattle.model.specs.Refusals.{refusal_told};
 ghost use Rattle.model.specs.NetworkMemory.{network_consistent, network_refusal};
 ghost use Rattle.bench_memory.specs.Promises.{NetworkFits};
 ghost use Rattle.tracker_memory.specs.Promises.{RecordsFit, AllCountsFit, SameSays, CountedSays, RestSays};
@@ -72,7 +72,7 @@ pub fn test_network(
     site_memory: &[Word],
     coordinator_memory: &[u64],
 ) -> Result<(), Refusal>
-    ensures { refusal_in result
+    ensures { refusal_told result
         ≡ network_refusal settings sites coordinator
         site_memory.now coordinator_memory.now }
 {

@@ -6,7 +6,7 @@
 #![tactic(auto)]
 
 ghost use Rattle.std.specs.Prelude.{◌≡◌, ◌-◌, ◌/◌};
-ghost use Rattle.model.specs.Refusals.{refusal_in};
+ghost use Rattle.model.specs.Refusals.{refusal_told};
 ghost use Rattle.model.specs.Messages.{message_width};
 ghost use Rattle.model.specs.Runs.{log_refusal};
 ghost use Rattle.tracker_queue.specs.Sending.{nothing_waits};
@@ -82,7 +82,7 @@ pub fn place_of(arrival: Arrival) -> usize
 // Whether the log, of which `written` messages are in use, has room for a draw: 14.
 fn test_log(settings: Settings, numbers: usize, written: u64) -> Result<(), Refusal>
     requires { PlacesAsk settings written numbers }
-    ensures { refusal_in result ≡ log_refusal settings (numbers / message_width - written) }
+    ensures { refusal_told result ≡ log_refusal settings (numbers / message_width - written) }
 {
     let free = ((numbers / MESSAGE_WIDTH) as u64) - written;
     if free < settings::most_messages(settings) {
@@ -101,7 +101,7 @@ fn test_one(
     written: u64,
 ) -> Result<(), Refusal>
     requires { PlacesAsk settings written numbers }
-    ensures { refusal_in result ≡ places_refusal settings own arrival numbers written }
+    ensures { refusal_told result ≡ places_refusal settings own arrival numbers written }
 {
     site_refusals::test_arrival(settings, own, arrival)?;
     if site_refusals::is_draw(arrival) {

@@ -4,7 +4,7 @@ use Rattle.worklist.specs.declared.NumberRead.{NumberRead}
 use Rattle.worklist.specs.declared.ThreeRead.{ThreeRead}
 use Rattle.worklist.specs.declared.LineRead.{LineRead}
 use Rattle.model.specs.declared.Refusal.{Refusal}
-use Rattle.model.specs.Refusals.{when, malformed_line, refusal_in}
+use Rattle.model.specs.Refusals.{when, malformed_line, refusal_told}
 use Rattle.model.specs.Limits.{number_limit}
 use Rattle.model.specs.Decimal.{Number, no_number, number, more_digits, read_number}
 use Rattle.model.specs.Lines.{Fields, malformed, fields, before_mark, read_field, read_fields_to, read_line}
@@ -58,6 +58,6 @@ ReadThreeSays last bytes at answer = ThreeSays bytes (read_fields_to last 3 (dro
 
 -- The line test: 13 for a malformed first line; else its arrival and the bytes it takes.
 pub record TestLineSays (bytes : List ℕ) (answer : Result LineRead Refusal) : Type 0 where
-  pub refusal : refusal_in answer ≡ when (not (read_line bytes).well_formed) malformed_line
+  pub refusal : refusal_told answer ≡ when (not (read_line bytes).well_formed) malformed_line
   pub arrival : IfOk answer (λ line. line.arrival ≡ (read_line bytes).arrival)
   pub used : IfOk answer (λ line. line.used ≡ (read_line bytes).used)

@@ -29,7 +29,7 @@ use borrow.Author.Tests.{eq-eqb, ne_eqb}
 use Rattle.model.specs.declared.Refusal.{Refusal}
 use Rattle.model.specs.declared.Refusal.TheVariants.{SettingOutOfRange, PhiBelowEpsilon, TooFewCounters, MemoryTooShort, UnknownSite, UnknownItem, ValueTooLarge, SiteFull, MessageNotDue, AmountNotDue, MemoryInconsistent, ListTooShort, MalformedLine, LogTooShort, FileUnreadable, ChecksumWrong}
 use Rattle.model.specs.Choice.{is_zero}
-use Rattle.model.specs.Refusals.{when, ◌or_else◌, no_refusal, number_of, refusal_in}
+use Rattle.model.specs.Refusals.{when, ◌or_else◌, no_refusal, number_of, refusal_told}
 
 -- ---- The answer of a chain, row by row
 
@@ -92,12 +92,12 @@ told is Known-is = sym is ∙ Known-is
 zero≢suc : {n : ℕ} → zero ≡ suc n → ⊥
 zero≢suc impossible = omega arith
 
-module _ {A : Type 0} {answer : Result A Refusal} {known : ℕ} (is : refusal_in answer ≡ known) where
+module _ {A : Type 0} {answer : Result A Refusal} {known : ℕ} (is : refusal_told answer ≡ known) where
   pub accepted_by : {value : A} → answer ≡ Ok value → known ≡ no_refusal
-  accepted_by was = sym is ∙ ap refusal_in was
+  accepted_by was = sym is ∙ ap refusal_told was
 
   pub refused_by : {refusal : Refusal} → answer ≡ Err refusal → known ≡ number_of refusal
-  refused_by was = sym is ∙ ap refusal_in was
+  refused_by was = sym is ∙ ap refusal_told was
 
 -- No refusal has the number 0.
 pub some_number : (refusal : Refusal) → number_of refusal ≡ no_refusal → ⊥
@@ -122,7 +122,7 @@ some_number ChecksumWrong none = absurd (zero≢suc (sym none))
 pub refuse_err : {A : Type 0} {called : Result A Refusal} {refusal : Refusal} {answer : ℕ}
     (first later : ℕ) (so_far : Still answer)
     → so_far.rest ≡ (first or_else later)
-    → refusal_in called ≡ first
+    → refusal_told called ≡ first
     → called ≡ Err refusal
     → number_of refusal ≡ answer
 refuse_err {refusal = refusal} first later so_far is told_first was =

@@ -1,54 +1,58 @@
 -- Each arm has the words that the table has for its number.
-use mathlib.Core.Path.{sym, ap}
-use native.Mathlib.Omega.{arith}
+use Rattle.std.proofs.Common.{List, ℕ, sym, ap}
+use Rattle.model.specs.declared.Refusal.{Refusal}
+use Rattle.model.specs.Refusals.{number_of}
 use Rattle.output_words.specs.Words.{words_of}
-use Rattle.output_words.proofs.WordLaws.{words_past}
 use Rattle.output_words.proofs.words.Goals as goal
 
-pub returns-in-0 : goal.returns-in-0
-returns-in-0 c = sym (ap words_of c.in-0.is)
+-- The words of a refusal.
+abbrev own : Refusal → List ℕ
+own refusal = words_of (number_of refusal)
 
-pub returns-in-1 : goal.returns-in-1
-returns-in-1 c = sym (ap words_of c.in-1.is)
+pub returns-in-SettingOutOfRange : goal.returns-in-SettingOutOfRange
+returns-in-SettingOutOfRange c = sym (ap own c.in-SettingOutOfRange.is)
 
-pub returns-in-2 : goal.returns-in-2
-returns-in-2 c = sym (ap words_of c.in-2.is)
+pub returns-in-PhiBelowEpsilon : goal.returns-in-PhiBelowEpsilon
+returns-in-PhiBelowEpsilon c = sym (ap own c.in-PhiBelowEpsilon.is)
 
-pub returns-in-3 : goal.returns-in-3
-returns-in-3 c = sym (ap words_of c.in-3.is)
+pub returns-in-TooFewCounters : goal.returns-in-TooFewCounters
+returns-in-TooFewCounters c = sym (ap own c.in-TooFewCounters.is)
 
-pub returns-in-4 : goal.returns-in-4
-returns-in-4 c = sym (ap words_of c.in-4.is)
+pub returns-in-MemoryTooShort : goal.returns-in-MemoryTooShort
+returns-in-MemoryTooShort c = sym (ap own c.in-MemoryTooShort.is)
 
-pub returns-in-5 : goal.returns-in-5
-returns-in-5 c = sym (ap words_of c.in-5.is)
+pub returns-in-UnknownSite : goal.returns-in-UnknownSite
+returns-in-UnknownSite c = sym (ap own c.in-UnknownSite.is)
 
-pub returns-in-6 : goal.returns-in-6
-returns-in-6 c = sym (ap words_of c.in-6.is)
+pub returns-in-UnknownItem : goal.returns-in-UnknownItem
+returns-in-UnknownItem c = sym (ap own c.in-UnknownItem.is)
 
-pub returns-in-7 : goal.returns-in-7
-returns-in-7 c = sym (ap words_of c.in-7.is)
+pub returns-in-ValueTooLarge : goal.returns-in-ValueTooLarge
+returns-in-ValueTooLarge c = sym (ap own c.in-ValueTooLarge.is)
 
-pub returns-in-8 : goal.returns-in-8
-returns-in-8 c = sym (ap words_of c.in-8.is)
+pub returns-in-SiteFull : goal.returns-in-SiteFull
+returns-in-SiteFull c = sym (ap own c.in-SiteFull.is)
 
-pub returns-in-9 : goal.returns-in-9
-returns-in-9 c = sym (ap words_of c.in-9.is)
+pub returns-in-MessageNotDue : goal.returns-in-MessageNotDue
+returns-in-MessageNotDue c = sym (ap own c.in-MessageNotDue.is)
 
-pub returns-in-10 : goal.returns-in-10
-returns-in-10 c = sym (ap words_of c.in-10.is)
+pub returns-in-AmountNotDue : goal.returns-in-AmountNotDue
+returns-in-AmountNotDue c = sym (ap own c.in-AmountNotDue.is)
 
-pub returns-in-11 : goal.returns-in-11
-returns-in-11 c = sym (ap words_of c.in-11.is)
+pub returns-in-MemoryInconsistent : goal.returns-in-MemoryInconsistent
+returns-in-MemoryInconsistent c = sym (ap own c.in-MemoryInconsistent.is)
 
-pub returns-in-12 : goal.returns-in-12
-returns-in-12 c = sym (ap words_of c.in-12.is)
+pub returns-in-ListTooShort : goal.returns-in-ListTooShort
+returns-in-ListTooShort c = sym (ap own c.in-ListTooShort.is)
 
-pub returns-in-13 : goal.returns-in-13
-returns-in-13 c = sym (ap words_of c.in-13.is)
+pub returns-in-MalformedLine : goal.returns-in-MalformedLine
+returns-in-MalformedLine c = sym (ap own c.in-MalformedLine.is)
 
-pub returns-in-14 : goal.returns-in-14
-returns-in-14 c = sym (ap words_of c.in-14.is)
+pub returns-in-LogTooShort : goal.returns-in-LogTooShort
+returns-in-LogTooShort c = sym (ap own c.in-LogTooShort.is)
 
-pub returns-in_default : goal.returns-in_default
-returns-in_default c = sym (words_past _ (omega arith))
+pub returns-in-FileUnreadable : goal.returns-in-FileUnreadable
+returns-in-FileUnreadable c = sym (ap own c.in-FileUnreadable.is)
+
+pub returns-in-ChecksumWrong : goal.returns-in-ChecksumWrong
+returns-in-ChecksumWrong c = sym (ap own c.in-ChecksumWrong.is)

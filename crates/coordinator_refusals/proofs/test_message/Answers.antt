@@ -7,6 +7,6 @@ use Rattle.coordinator_refusals.proofs.test_message.Goals as goal
 
 pub returns : goal.returns
 returns c memory =
-    end (pass _ _ _ (begin _) refl (lt-leb c.args.message.site c.args.settings.sites
+    end (pass _ _ _ (begin _) refl (lt-leb c.args.settings.sites c.args.message.site
     (omega (arith, c.if-settings-message.false))))
     (c.test_due.ensures memory)

@@ -1,4 +1,4 @@
--- `snapshot_saving::save_refusal` meets its contract: row by row. One row says that a memory is too
+-- `snapshot_saving::test_save` meets its contract: row by row. One row says that a memory is too
 -- short, or the bytes too few.
 use mathlib.Core.Path.{◌≡◌, refl, sym, ap, ◌∙◌}
 use mathlib.Core.Bool.{Bool, true, false, ◌||◌, not}
@@ -8,24 +8,24 @@ use lib.Dec.{ltb}
 use borrow.Author.Tests.{lt-ltb, le-ltb}
 use Rattle.model.specs.NetworkMemory.{network_too_short}
 use Rattle.model.specs.Held.{held_by}
-use Rattle.model.proofs.Thresholds.RefusalLaws.{Still, begin, pass, pass_part, refuse, refuse_part, end, told}
+use Rattle.model.proofs.Thresholds.RefusalLaws.{Still, begin, pass, pass_part, refuse, end, told, accepted_by}
 use Rattle.bench_memory.proofs.BenchLaws.{fits_of_long}
 use Rattle.snapshot_file.specs.Layout.{file_length}
 use Rattle.snapshot_file.specs.File.{save_refusal}
-use Rattle.snapshot_saving.proofs.save_refusal.Goals as goal
-use Rattle.snapshot_saving.proofs.save_refusal.Goals.{After-file_length, After-memory_short, Else-refusal-ne-NO_REFUSAL, Else-room-file_length, Start}
+use Rattle.snapshot_saving.proofs.test_save.Goals as goal
+use Rattle.snapshot_saving.proofs.test_save.Goals.{After-file_length, After-memory_short, In_ok-test_settings, Else-room-file_length, Start}
 
-abbrev answer : Else-refusal-ne-NO_REFUSAL → ℕ
+abbrev answer : In_ok-test_settings → ℕ
 answer c =
     let a = c.args in
     save_refusal a.settings
     (held_by a.sites a.coordinator a.site_memory.now a.coordinator_memory.now)
     a.room
 
-abbrev past_settings : (c : Else-refusal-ne-NO_REFUSAL) → Still (answer c)
+abbrev past_settings : (c : In_ok-test_settings) → Still (answer c)
 past_settings c =
-    pass_part _ _ (begin _) refl (told c.test_settings-refusal.ensures
-    c.if-refusal-ne-NO_REFUSAL.false)
+    pass_part _ _ (begin _) refl (accepted_by c.test_settings.ensures
+    c.in_ok-test_settings.was)
 
 -- The test of the memory's length, as the model has it.
 too_short : (sized : After-memory_short)
@@ -88,8 +88,8 @@ abbrev past_length : (c : Else-room-file_length) → Still ((let a = c.args in
     (held_by a.sites a.coordinator a.site_memory.now a.coordinator_memory.now)
     a.room))
 past_length c =
-    pass _ _ _ ((pass_part _ _ (begin _) refl (told c.test_settings-refusal.ensures
-    c.if-refusal-ne-NO_REFUSAL.false))) refl
+    pass _ _ _ ((pass_part _ _ (begin _) refl (accepted_by c.test_settings.ensures
+    c.in_ok-test_settings.was))) refl
     (((let a = c.args in
     (λ i. ((let a = c.args in
     sym (c.memory_short.ensures.too_short a.site_memory.now a.coordinator_memory.now
@@ -97,20 +97,16 @@ past_length c =
     || ltb a.room (sym c.file_length.ensures i))
     ∙ (le-ltb _ _ (omega (arith, c.if-room-file_length.false))))))
 
-pub returns-then-refusal-ne-NO_REFUSAL : goal.returns-then-refusal-ne-NO_REFUSAL
-returns-then-refusal-ne-NO_REFUSAL c =
-    refuse_part _ _ (begin _) refl c.test_settings-refusal.ensures c.if-refusal-ne-NO_REFUSAL.true
-
 pub returns-then-memory_short : goal.returns-then-memory_short
 returns-then-memory_short c =
-    refuse _ _ _ (past_settings (goal.at.returns-then-memory_short c).Else-refusal-ne-NO_REFUSAL)
+    refuse _ _ _ (past_settings (goal.at.returns-then-memory_short c).In_ok-test_settings)
     refl
     (by_memory (goal.at.returns-then-memory_short c).After-memory_short c.if-memory_short.true)
 
 pub returns-then-room-file_length : goal.returns-then-room-file_length
 returns-then-room-file_length c =
     refuse _ _ _ (past_settings (goal.at.returns-then-room-file_length
-    c).Else-refusal-ne-NO_REFUSAL) refl
+    c).In_ok-test_settings) refl
     (bytes_few (goal.at.returns-then-room-file_length c).After-file_length
     c.if-room-file_length.true)
 
@@ -118,16 +114,16 @@ pub bench_consistent-requires : goal.bench_consistent-requires
 bench_consistent-requires c =
     let a = c.args in
     fits_of_long a.settings a.site_memory.now a.coordinator_memory.now
-    (told c.test_settings-refusal.ensures c.if-refusal-ne-NO_REFUSAL.false)
+    (accepted_by c.test_settings.ensures c.in_ok-test_settings.was)
     (too_short (goal.at.bench_consistent-requires c).After-memory_short ∙ c.if-memory_short.false)
 
-pub returns-then-bench_consistent : goal.returns-then-bench_consistent
-returns-then-bench_consistent c =
-    end (pass _ _ _ (past_length (goal.at.returns-then-bench_consistent c).Else-room-file_length)
+pub returns-then-not-bench_consistent : goal.returns-then-not-bench_consistent
+returns-then-not-bench_consistent c =
+    refuse _ _ _ (past_length (goal.at.returns-then-not-bench_consistent c).Else-room-file_length)
     refl
-    (ap not (told c.bench_consistent.ensures c.if-bench_consistent.true))) refl
+    (ap not (told c.bench_consistent.ensures c.if-not-bench_consistent.true))
 
 pub returns : goal.returns
 returns c =
-    refuse _ _ _ (past_length (goal.at.returns c).Else-room-file_length) refl
-    (ap not (told c.bench_consistent.ensures c.if-bench_consistent.false))
+    end (pass _ _ _ (past_length (goal.at.returns c).Else-room-file_length) refl
+    (ap not (told c.bench_consistent.ensures c.if-not-bench_consistent.false))) refl

@@ -1,21 +1,24 @@
 -- Row by row. The settings are narrowed when they are tested; where they pass they are as the file
 -- has them.
+use Rattle.std.specs.Prelude.{Err}
+use borrow.Author.Rules.{rules}
 use mathlib.Core.Path.{◌≡◌, refl, sym, ap, ◌∙◌}
 use mathlib.Core.Bool.{not, ◌||◌}
 use Prim.Native.Nat.{ℕ}
 use lib.Dec.{ltb}
 use lib.ListN.{replicate, length-replicate}
 use Rattle.model.specs.declared.Settings.{Settings}
+use Rattle.model.specs.Refusals.{refusal_in}
 use Rattle.model.specs.Settings.{settings_refusal}
 use Rattle.model.specs.CoordinatorMemory.{coordinator_words}
 use Rattle.model.specs.NetworkMemory.{sites_words}
 use Rattle.model.specs.Held.{held_consistent}
-use Rattle.model.proofs.Thresholds.RefusalLaws.{Still, begin, pass, pass_part, refuse, refuse_part, end, told}
+use Rattle.model.proofs.Thresholds.RefusalLaws.{Still, begin, pass, pass_part, refuse, refuse_err, end, told, accepted_by}
 use Rattle.snapshot_file.specs.Reading.{settings_in, held_in, layout_wrong, load_refusal}
 use Rattle.snapshot_refusal.proofs.NarrowLaws.{refusal_same, settings_same}
 use Rattle.snapshot_refusal.proofs.BenchLaws.{long_of, lies_of}
-use Rattle.snapshot_refusal.proofs.load_refusal.Goals as goal
-use Rattle.snapshot_refusal.proofs.load_refusal.Goals.{After-bench_consistent, After-layout_wrong, After-memory_short, After-test_settings-refusal, Else-layout_wrong, Else-memory_short, Else-refusal-ne-NO_REFUSAL, Else-shape_wrong, Else-sum_wrong}
+use Rattle.snapshot_refusal.proofs.test_file.Goals as goal
+use Rattle.snapshot_refusal.proofs.test_file.Goals.{After-bench_consistent, After-layout_wrong, After-memory_short, After-test_settings, Else-layout_wrong, Else-memory_short, In_ok-test_settings, Else-shape_wrong, Else-sum_wrong}
 
 -- ---- 15, 16
 abbrev answer : Else-shape_wrong → ℕ
@@ -35,16 +38,16 @@ past_sum c =
 
 -- ---- 1, 2, 3
 -- The number of the settings that the file has.
-number_is : (c : After-test_settings-refusal)
+number_is : (c : After-test_settings)
     → let a = c.args in
-    settings_refusal (settings_in a.file.now) ≡ c.test_settings-refusal.result
+    settings_refusal (settings_in a.file.now) ≡ refusal_in c.test_settings.result
 number_is c =
     let a = c.args in
     sym (refusal_same (settings_in a.file.now))
     ∙ ap settings_refusal (sym c.settings_in-settings.ensures)
-    ∙ sym c.test_settings-refusal.ensures
+    ∙ sym c.test_settings.ensures
 
-abbrev past_settings : (c : Else-refusal-ne-NO_REFUSAL) → Still ((let a = c.args in
+abbrev past_settings : (c : In_ok-test_settings) → Still ((let a = c.args in
     load_refusal a.file.now a.site_count a.coordinator_count))
 past_settings c =
     pass_part _ _ ((pass _ _ _ ((pass _ _ _ (begin _) refl
@@ -53,10 +56,10 @@ past_settings c =
     ((let a = c.args in
     sym (refusal_same (settings_in a.file.now))
     ∙ ap settings_refusal (sym c.settings_in-settings.ensures)
-    ∙ sym c.test_settings-refusal.ensures) ∙ c.if-refusal-ne-NO_REFUSAL.false)
+    ∙ accepted_by c.test_settings.ensures c.in_ok-test_settings.was))
 
 -- They are those that were tested.
-settings_are : (c : Else-refusal-ne-NO_REFUSAL)
+settings_are : (c : In_ok-test_settings)
     → let a = c.args in
     c.settings_in-settings.result ≡ settings_in a.file.now
 settings_are c =
@@ -64,8 +67,7 @@ settings_are c =
     let found = c.settings_in-settings.ensures in
     found
     ∙ settings_same (settings_in a.file.now)
-    (ap settings_refusal (sym found) ∙ sym c.test_settings-refusal.ensures ∙
-    c.if-refusal-ne-NO_REFUSAL.false)
+    (ap settings_refusal (sym found) ∙ accepted_by c.test_settings.ensures c.in_ok-test_settings.was)
 
 -- ---- 15 again
 layout_told : (c : After-layout_wrong)
@@ -77,8 +79,7 @@ layout_told c =
     let found = c.settings_in-settings.ensures in
     found
     ∙ settings_same (settings_in a.file.now)
-    (ap settings_refusal (sym found) ∙ sym c.test_settings-refusal.ensures ∙
-    c.if-refusal-ne-NO_REFUSAL.false))))
+    (ap settings_refusal (sym found) ∙ accepted_by c.test_settings.ensures c.in_ok-test_settings.was))))
     ∙ sym c.layout_wrong.ensures
 
 abbrev past_layout : (c : Else-layout_wrong)
@@ -91,14 +92,13 @@ past_layout c =
     ((let a = c.args in
     sym (refusal_same (settings_in a.file.now))
     ∙ ap settings_refusal (sym c.settings_in-settings.ensures)
-    ∙ sym c.test_settings-refusal.ensures) ∙ c.if-refusal-ne-NO_REFUSAL.false))) refl
+    ∙ accepted_by c.test_settings.ensures c.in_ok-test_settings.was)))) refl
     ((let a = c.args in
     ap (λ (s : Settings). layout_wrong s a.file.now) (sym ((let a = c.args in
     let found = c.settings_in-settings.ensures in
     found
     ∙ settings_same (settings_in a.file.now)
-    (ap settings_refusal (sym found) ∙ sym c.test_settings-refusal.ensures ∙
-    c.if-refusal-ne-NO_REFUSAL.false))))
+    (ap settings_refusal (sym found) ∙ accepted_by c.test_settings.ensures c.in_ok-test_settings.was))))
     ∙ sym c.layout_wrong.ensures) ∙ c.if-layout_wrong.false)
 
 -- ---- 4
@@ -118,8 +118,7 @@ short_told c =
     let found = c.settings_in-settings.ensures in
     found
     ∙ settings_same (settings_in a.file.now)
-    (ap settings_refusal (sym found) ∙ sym c.test_settings-refusal.ensures ∙
-    c.if-refusal-ne-NO_REFUSAL.false)) in
+    (ap settings_refusal (sym found) ∙ accepted_by c.test_settings.ensures c.in_ok-test_settings.was)) in
     sym (c.memory_short.ensures.too_short sites coordinator long long-2
     ∙ (λ i. ltb (long i) (sites_words (are i)) || ltb (long-2 i) (coordinator_words (are i))))
 
@@ -133,14 +132,13 @@ past_short c =
     ((let a = c.args in
     sym (refusal_same (settings_in a.file.now))
     ∙ ap settings_refusal (sym c.settings_in-settings.ensures)
-    ∙ sym c.test_settings-refusal.ensures) ∙ c.if-refusal-ne-NO_REFUSAL.false))) refl
+    ∙ accepted_by c.test_settings.ensures c.in_ok-test_settings.was)))) refl
     ((let a = c.args in
     ap (λ (s : Settings). layout_wrong s a.file.now) (sym ((let a = c.args in
     let found = c.settings_in-settings.ensures in
     found
     ∙ settings_same (settings_in a.file.now)
-    (ap settings_refusal (sym found) ∙ sym c.test_settings-refusal.ensures ∙
-    c.if-refusal-ne-NO_REFUSAL.false))))
+    (ap settings_refusal (sym found) ∙ accepted_by c.test_settings.ensures c.in_ok-test_settings.was))))
     ∙ sym c.layout_wrong.ensures) ∙ c.if-layout_wrong.false))) refl ((let a = c.args in
     let zero : ℕ = 0 in
     let sites = replicate a.site_count zero in
@@ -151,8 +149,7 @@ past_short c =
     let found = c.settings_in-settings.ensures in
     found
     ∙ settings_same (settings_in a.file.now)
-    (ap settings_refusal (sym found) ∙ sym c.test_settings-refusal.ensures ∙
-    c.if-refusal-ne-NO_REFUSAL.false)) in
+    (ap settings_refusal (sym found) ∙ accepted_by c.test_settings.ensures c.in_ok-test_settings.was)) in
     sym (c.memory_short.ensures.too_short sites coordinator long long-2
     ∙ (λ i. ltb (long i) (sites_words (are i)) || ltb (long-2 i) (coordinator_words (are i))))) ∙
     c.if-memory_short.false)
@@ -169,8 +166,7 @@ bench_told c =
     let found = c.settings_in-settings.ensures in
     found
     ∙ settings_same (settings_in a.file.now)
-    (ap settings_refusal (sym found) ∙ sym c.test_settings-refusal.ensures ∙
-    c.if-refusal-ne-NO_REFUSAL.false))))
+    (ap settings_refusal (sym found) ∙ accepted_by c.test_settings.ensures c.in_ok-test_settings.was))))
     ∙ sym c.bench_consistent.ensures
 
 pub returns-then-shape_wrong : goal.returns-then-shape_wrong
@@ -192,23 +188,25 @@ settings_in-settings-requires c =
     let file = c.args.file.now in
     record { long = long_of file (told c.shape_wrong.ensures c.if-shape_wrong.false) }
 
-pub returns-then-refusal-ne-NO_REFUSAL : goal.returns-then-refusal-ne-NO_REFUSAL
-returns-then-refusal-ne-NO_REFUSAL c =
-    refuse_part _ _ (past_sum (goal.at.returns-then-refusal-ne-NO_REFUSAL c).Else-sum_wrong) refl
-    (sym (number_is (goal.at.returns-then-refusal-ne-NO_REFUSAL c).After-test_settings-refusal))
-    c.if-refusal-ne-NO_REFUSAL.true
+pub returns-in_err-test_settings : goal.returns-in_err-test_settings
+returns-in_err-test_settings c =
+    let is : c.from_residual.result ≡ Err c.in_err-test_settings.field-0.0 = search rules in
+    ap refusal_in is
+    ∙ refuse_err _ _ (past_sum (goal.at.returns-in_err-test_settings c).Else-sum_wrong) refl
+    (sym (number_is (goal.at.returns-in_err-test_settings c).After-test_settings))
+    c.in_err-test_settings.was
 
 pub layout_wrong-requires : goal.layout_wrong-requires
 layout_wrong-requires c =
     let file = c.args.file.now in
     record {
-      settings_accepted = told c.test_settings-refusal.ensures c.if-refusal-ne-NO_REFUSAL.false;
+      settings_accepted = accepted_by c.test_settings.ensures c.in_ok-test_settings.was;
       long = long_of file (told c.shape_wrong.ensures c.if-shape_wrong.false);
     }
 
 pub returns-then-layout_wrong : goal.returns-then-layout_wrong
 returns-then-layout_wrong c =
-    refuse _ _ _ (past_settings (goal.at.returns-then-layout_wrong c).Else-refusal-ne-NO_REFUSAL)
+    refuse _ _ _ (past_settings (goal.at.returns-then-layout_wrong c).In_ok-test_settings)
     refl
     (layout_told (goal.at.returns-then-layout_wrong c).After-layout_wrong ∙ c.if-layout_wrong.true)
 
@@ -221,16 +219,17 @@ pub bench_consistent-requires : goal.bench_consistent-requires
 bench_consistent-requires c =
     let a = c.args in
     lies_of c.settings_in-settings.result a.file.now
-    (told c.test_settings-refusal.ensures c.if-refusal-ne-NO_REFUSAL.false)
+    (accepted_by c.test_settings.ensures c.in_ok-test_settings.was)
     (told c.layout_wrong.ensures c.if-layout_wrong.false)
 
-pub returns-then-bench_consistent : goal.returns-then-bench_consistent
-returns-then-bench_consistent c =
-    end (pass _ _ _ (past_short (goal.at.returns-then-bench_consistent c).Else-memory_short) refl
-    (ap not (bench_told (goal.at.returns-then-bench_consistent c).After-bench_consistent ∙
-    c.if-bench_consistent.true))) refl
+pub returns-then-not-bench_consistent : goal.returns-then-not-bench_consistent
+returns-then-not-bench_consistent c =
+    refuse _ _ _ (past_short (goal.at.returns-then-not-bench_consistent c).Else-memory_short) refl
+    (ap not (bench_told (goal.at.returns-then-not-bench_consistent c).After-bench_consistent
+    ∙ c.if-not-bench_consistent.true))
 
 pub returns : goal.returns
 returns c =
-    refuse _ _ _ (past_short (goal.at.returns c).Else-memory_short) refl
-    (ap not (bench_told (goal.at.returns c).After-bench_consistent ∙ c.if-bench_consistent.false))
+    end (pass _ _ _ (past_short (goal.at.returns c).Else-memory_short) refl
+    (ap not (bench_told (goal.at.returns c).After-bench_consistent
+    ∙ c.if-not-bench_consistent.false))) refl

@@ -4,7 +4,7 @@
 #![tactic(auto)]
 
 ghost use Rattle.std.specs.Prelude.{◌≡◌};
-ghost use Rattle.model.specs.Refusals.{refusal_in};
+ghost use Rattle.model.specs.Refusals.{refusal_told};
 ghost use Rattle.model.specs.MessageCounts.{count_at, counts_within};
 ghost use Rattle.model.specs.Held.{held_consistent};
 ghost use Rattle.snapshot_file.specs.Reading.{counts_in, held_in, load_refusal};
@@ -58,7 +58,7 @@ fn bench_consistent(settings: Settings, file: &[u8]) -> bool
 
 // Why the file is refused, for memories of these lengths.
 pub fn test_file(file: &[u8], site_count: usize, coordinator_count: usize) -> Result<(), Refusal>
-    ensures { refusal_in result ≡ load_refusal file.now site_count coordinator_count }
+    ensures { refusal_told result ≡ load_refusal file.now site_count coordinator_count }
 {
     if shape_wrong(file) {
         return Err(Refusal::FileUnreadable);

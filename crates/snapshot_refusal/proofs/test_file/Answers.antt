@@ -8,7 +8,7 @@ use Prim.Native.Nat.{ℕ}
 use lib.Dec.{ltb}
 use lib.ListN.{replicate, length-replicate}
 use Rattle.model.specs.declared.Settings.{Settings}
-use Rattle.model.specs.Refusals.{refusal_in}
+use Rattle.model.specs.Refusals.{refusal_told}
 use Rattle.model.specs.Settings.{settings_refusal}
 use Rattle.model.specs.CoordinatorMemory.{coordinator_words}
 use Rattle.model.specs.NetworkMemory.{sites_words}
@@ -40,7 +40,7 @@ past_sum c =
 -- The number of the settings that the file has.
 number_is : (c : After-test_settings)
     → let a = c.args in
-    settings_refusal (settings_in a.file.now) ≡ refusal_in c.test_settings.result
+    settings_refusal (settings_in a.file.now) ≡ refusal_told c.test_settings.result
 number_is c =
     let a = c.args in
     sym (refusal_same (settings_in a.file.now))
@@ -191,7 +191,7 @@ settings_in-settings-requires c =
 pub returns-in_err-test_settings : goal.returns-in_err-test_settings
 returns-in_err-test_settings c =
     let is : c.from_residual.result ≡ Err c.in_err-test_settings.field-0.0 = search rules in
-    ap refusal_in is
+    ap refusal_told is
     ∙ refuse_err _ _ (past_sum (goal.at.returns-in_err-test_settings c).Else-sum_wrong) refl
     (sym (number_is (goal.at.returns-in_err-test_settings c).After-test_settings))
     c.in_err-test_settings.was

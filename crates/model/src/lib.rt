@@ -1,13 +1,13 @@
 // The record types that the calls take and hand back. The model's definitions (specs/) speak of
 // these very types: to the logic a machine number is a natural number and a declared array a list,
-// so no translation stands between a contract and the model. This crate has no function. The
-// numbers of refusals, limits and kinds of message stand here once for all code, as
-// specs/Refusals.antt and specs/Limits.antt have them once for all definitions.
+// so no translation stands between a contract and the model. The refusals with their numbers, the
+// limits and the kinds of message stand here once for all code, as specs/Refusals.antt and
+// specs/Limits.antt have them once for all definitions.
 
 #![tactic(auto)]
 
 ghost use Rattle.std.specs.Prelude.{◌≡◌};
-ghost use Rattle.model.specs.Refusals.{number_of, NumberNames};
+ghost use Rattle.model.specs.Refusals.{number_of, refusal_told, NumberNames};
 
 // The number that tells a caller outside that nothing was refused.
 pub const NO_REFUSAL: u32 = 0;
@@ -71,6 +71,16 @@ impl TryFrom<u32> for Refusal {
             16 => Ok(Refusal::ChecksumWrong),
             _ => Err(UnknownRefusal(number)),
         }
+    }
+}
+
+// What a test came to, as the number that a caller outside is told: 0 where it accepts.
+pub fn refusal_number(tested: Result<(), Refusal>) -> u32
+    ensures { result ≡ refusal_told tested }
+{
+    match tested {
+        Ok(()) => NO_REFUSAL,
+        Err(refusal) => refusal.number(),
     }
 }
 

@@ -1,11 +1,10 @@
 -- Memory that is too short, or not: refusal 4 of a whole network.
 use mathlib.Core.Path.{◌≡◌}
-use mathlib.Core.Bool.{true}
 use mathlib.Core.List.{List}
-use Prim.Native.Nat.{ℕ, ◌+◌, ◌*◌, ◌≤◌, ◌<◌}
+use Prim.Native.Nat.{ℕ, ◌+◌, ◌*◌, ◌≤◌}
 use lib.Dec.{ltb}
 use lib.ListN.{length}
-use borrow.Author.Tests.{lt-ltb, le-ltb}
+use borrow.Author.Tests.{le-ltb}
 use Rattle.model.specs.declared.Settings.{Settings}
 use Rattle.model.specs.Refusals.{no_refusal}
 use Rattle.model.specs.Settings.{settings_refusal}
@@ -24,10 +23,6 @@ pub all_words : (settings : Settings) (words : ℕ)
 all_words settings words none words_are = rw words_are (all_small (settled settings none))
 
 module _ (settings : Settings) (sites coordinator : List ℕ) where
-  pub sites_short : length sites < sites_words settings
-      → true ≡ network_too_short settings sites coordinator
-  sites_short short = rw (lt-ltb (length sites) (sites_words settings) short)
-
   pub coordinator_short : sites_words settings ≤ length sites
       → ltb (length coordinator) (settings.universe + 1024)
       ≡ network_too_short settings sites coordinator

@@ -18,15 +18,9 @@ fn sites_consistent(settings: Settings, sites: Sites, memory: &[Word]) -> bool
     ensures { result
         ≡ sites_consistent settings.sites settings sites.records memory.now }
 {
-    let count = settings.sites as usize;
     let words = site_memory::site_words(settings);
-    let mut j = 0;
-    while j < count {
-        let start = j * words;
-        let numbers = sites.records[j];
-        if site_memory::site_consistent(settings, numbers, &memory[start..]) {
-            j += 1;
-        } else {
+    for j in 0..settings.sites as usize {
+        if !site_memory::site_consistent(settings, sites.records[j], &memory[j * words..]) {
             return false;
         }
     }
@@ -46,17 +40,9 @@ pub fn bench_consistent(
         ≡ bench_consistent settings sites coordinator
         site_memory.now coordinator_memory.now }
 {
-    let counts = sites.messages;
-    if message_counts::counts_within(settings, counts) {
-        if sites_consistent(settings, sites, site_memory) {
-            return coordinator_memory::coordinator_consistent(
-                settings,
-                coordinator,
-                coordinator_memory,
-            );
-        }
-    }
-    false
+    message_counts::counts_within(settings, sites.messages)
+        && sites_consistent(settings, sites, site_memory)
+        && coordinator_memory::coordinator_consistent(settings, coordinator, coordinator_memory)
 }
 
 // Whether lent memory is shorter than the settings ask for.
@@ -65,8 +51,5 @@ pub fn memory_short(settings: Settings, site_numbers: usize, coordinator_numbers
     ensures { ShortSays settings site_numbers coordinator_numbers result }
 {
     let all = (settings.sites as usize) * site_memory::site_words(settings);
-    if site_numbers < all {
-        return true;
-    }
-    coordinator_numbers < (settings.universe as usize) + VALUE_COUNT
+    site_numbers < all || coordinator_numbers < (settings.universe as usize) + VALUE_COUNT
 }

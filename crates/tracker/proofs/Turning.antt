@@ -4,6 +4,7 @@
 --   with_counts answer counts     the answer with other counts
 --   Standing call i now           the call so far, with the arrivals from i on still to come
 --   standing_at                   the same at what the answer, the counts and memory are equal to
+--   going_outcome                 an answer that nothing has stopped
 --   standing_open                 before the first arrival
 --   next_arrival, turn_taken      one more arrival: what its turn asks
 --   messages_due                  what the delivery of its messages asks
@@ -17,6 +18,7 @@ use native.Mathlib.Omega.{arith}
 use lib.ListN.{length, get_or, drop}
 use lib.Seq.{drop-cons}
 use Rattle.std.proofs.Common.{drop_of_length-le}
+use Rattle.std.specs.Prelude.{None}
 use Rattle.model.specs.declared.Arrival.{Arrival}
 use Rattle.model.specs.declared.SiteRecord.{SiteRecord}
 use Rattle.model.specs.Refusals.{no_refusal}
@@ -25,10 +27,10 @@ use Rattle.tracker_delivery.specs.declared.Ended.{Ended}
 use Rattle.tracker_delivery.specs.UnderwayParts.{resting, ended_of}
 use Rattle.tracker_delivery.specs.Holding.{carrying}
 use Rattle.tracker_delivery.specs.Arriving.{MessagesAsk}
+use Rattle.tracker_delivery.specs.Stops.{stop_number}
 use Rattle.tracker_steps.specs.declared.BatchAnswer.{BatchAnswer}
-use Rattle.tracker_steps.specs.declared.Turn.{Turn}
-use Rattle.tracker_steps.specs.Steps.{BatchHeld, batch_held, OpenBatchSays, run_limit, OneAsks, OneSays}
-use Rattle.tracker_steps.specs.Turns.{place_of, own_of, TurnAsks, TurnSays}
+use Rattle.tracker_steps.specs.Steps.{BatchOutcome, batch_outcome, BatchHeld, batch_held, OpenBatchSays, run_limit, OneAsks, OneSays}
+use Rattle.tracker_steps.specs.Turns.{TurnOutcome, place_of, own_of, TurnAsks, TurnSays}
 use Rattle.tracker_arrivals.specs.Counting.{counted, CountTurnAsks, SentSays}
 use Rattle.tracker_arrivals.proofs.ArrivalLaws.{turn_asks, count_asks, deliver_asks, messages_ask, quiet_says, sent_says}
 use Rattle.tracker.specs.Batch.{BatchCall, BatchSays}
@@ -36,7 +38,7 @@ use Rattle.tracker.proofs.WalkLaws.{Walked, walked_open, walked_asks, walked_ste
 
 -- ---- Where the loop stands
 
-abbrev pub with_counts : BatchAnswer → List ℕ → BatchAnswer
+abbrev pub with_counts : BatchOutcome → List ℕ → BatchOutcome
 with_counts answer counts = record {
   refusal = answer.refusal;
   accepted = answer.accepted;
@@ -53,7 +55,7 @@ pub record Standing (call : BatchCall) (i : ℕ) (now : BatchHeld) : Type 0 wher
   pub within : i ≤ length call.arrivals
   pub walked : Walked call (drop i call.arrivals) now
 
-pub standing_at : {call : BatchCall} {i : ℕ} {answer answer' : BatchAnswer}
+pub standing_at : {call : BatchCall} {i : ℕ} {answer answer' : BatchOutcome}
     {counts counts' sites sites' coordinator coordinator' log log' : List ℕ}
     → answer' ≡ answer
     → counts' ≡ counts
@@ -67,7 +69,25 @@ standing_at {call} {i} answer_is counts_are sites_are coordinator_is log_is =
     (λ j. batch_held (with_counts (answer_is j) (counts_are j)) (sites_are j) (coordinator_is j)
     (log_is j))
 
-pub standing_open : (call : BatchCall) (answer : BatchAnswer)
+-- An answer that nothing has stopped.
+pub going_outcome : (answer : BatchAnswer) → answer.refusal ≡ None
+    → batch_outcome answer
+    ≡ record {
+      refusal = no_refusal;
+      accepted = answer.accepted;
+      written = answer.written;
+      sites = answer.sites;
+      coordinator = answer.coordinator;
+    }
+going_outcome answer none = λ j. record {
+  refusal = stop_number (none j);
+  accepted = answer.accepted;
+  written = answer.written;
+  sites = answer.sites;
+  coordinator = answer.coordinator;
+}
+
+pub standing_open : (call : BatchCall) (answer : BatchOutcome)
     (site_memory coordinator_memory : List ℕ)
     → OpenBatchSays call.settings call.held.sites call.held.coordinator
     call.held.site_memory call.held.coordinator_memory answer site_memory coordinator_memory
@@ -125,10 +145,10 @@ module _ {call : BatchCall} {i : ℕ} {now : BatchHeld} (standing : Standing cal
         now.held.site_memory
     turn_taken = turn_asks arrival own_is asks
 
-    module _ {turn : Turn} {site_memory : List ℕ}
+    module _ {turn : TurnOutcome} {site_memory : List ℕ}
         (told : TurnSays call.settings own now.written arrival (length now.log)
         now.held.site_memory turn site_memory) where
-      abbrev was : BatchAnswer
+      abbrev was : BatchOutcome
       was = record {
         refusal = now.refusal;
         accepted = now.accepted;
@@ -137,7 +157,7 @@ module _ {call : BatchCall} {i : ℕ} {now : BatchHeld} (standing : Standing cal
         coordinator = now.held.coordinator;
       }
 
-      abbrev next : BatchAnswer
+      abbrev next : BatchOutcome
       next = counted was which turn
 
       next_is : next ≡ counted was (place_of arrival) turn

@@ -29,9 +29,8 @@ use Rattle.model.specs.Held.{Held, no_record, network_of}
 use Rattle.tracker_queue.specs.Log.{log_room}
 use Rattle.tracker_delivery.specs.Holding.{WithLog}
 use Rattle.tracker_memory.proofs.SoundLaws.{Passing, passing}
-use Rattle.tracker_steps.specs.declared.BatchAnswer.{BatchAnswer}
 use Rattle.tracker.specs.Batch.{BatchCall, BatchHeld, batch_held, start_refusal, batch_in, BatchSays}
-use Rattle.tracker_steps.specs.Steps.{opened, OpenBatchSays, run_limit, one_refusal, batch_one, BatchHolds, BatchReady, OneAsks, OneSays}
+use Rattle.tracker_steps.specs.Steps.{BatchOutcome, opened, OpenBatchSays, run_limit, one_refusal, batch_one, BatchHolds, BatchReady, OneAsks, OneSays}
 use Rattle.tracker_steps.proofs.BatchLaws.{ready_next}
 
 -- ---- The batch with the arrivals still to come
@@ -155,7 +154,7 @@ walked_start call = by_refusal (ℕ_discrete (start_refusal call) 0)
     by_refusal (no some) = refused (record { start_refused = some; now_is = refl })
 
 -- The memory as the start's tests left it, which only read it.
-pub walked_open : (call : BatchCall) (answer : BatchAnswer)
+pub walked_open : (call : BatchCall) (answer : BatchOutcome)
     (site_memory coordinator_memory : List ℕ)
     → OpenBatchSays call.settings call.held.sites call.held.coordinator
     call.held.site_memory call.held.coordinator_memory answer site_memory coordinator_memory

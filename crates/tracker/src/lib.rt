@@ -6,10 +6,10 @@
 
 ghost use Rattle.std.specs.Prelude.{[], ◌∷◌};
 ghost use Rattle.model.specs.Held.{held_by};
-ghost use Rattle.tracker_steps.specs.Steps.{batch_held};
+ghost use Rattle.tracker_steps.specs.Steps.{batch_outcome, batch_held};
 ghost use Rattle.tracker.specs.Batch.{BatchSays};
 
-use model::{Arrival, CoordinatorRecord, NO_REFUSAL, Settings, Sites, Word};
+use model::{Arrival, CoordinatorRecord, Settings, Sites, Word};
 use tracker_arrivals::{deliver_turn, take_arrival};
 use tracker_steps::{BatchAnswer, open_batch, place_of, take_turn};
 
@@ -30,7 +30,7 @@ pub fn run_one(
       arrivals = arrival ∷ [];
       log = log.old;
     })
-        (batch_held result site_memory.new coordinator_memory.new
+        (batch_held (batch_outcome result) site_memory.new coordinator_memory.new
         log.new) }
 {
     let answer = open_batch(
@@ -40,17 +40,17 @@ pub fn run_one(
         site_memory,
         coordinator_memory,
     );
-    if answer.refusal != NO_REFUSAL {
-        return answer;
+    if answer.refusal.is_none() {
+        return take_arrival(
+            settings,
+            answer,
+            arrival,
+            site_memory,
+            coordinator_memory,
+            log,
+        );
     }
-    take_arrival(
-        settings,
-        answer,
-        arrival,
-        site_memory,
-        coordinator_memory,
-        log,
-    )
+    answer
 }
 
 // The batch call: a lent run of arrivals, walked one by one until one is refused. The site's record
@@ -73,7 +73,7 @@ pub fn run_batch(
       arrivals = arrivals.now;
       log = log.old;
     })
-        (batch_held result site_memory.new coordinator_memory.new
+        (batch_held (batch_outcome result) site_memory.new coordinator_memory.new
         log.new) }
 {
     let mut answer = open_batch(
@@ -83,23 +83,29 @@ pub fn run_batch(
         site_memory,
         coordinator_memory,
     );
+    if answer.refusal.is_some() {
+        return answer;
+    }
     let mut counts = answer.sites.messages;
-    let mut i: usize = 0;
-    while i < arrivals.len() && answer.refusal == NO_REFUSAL {
-        let arrival = arrivals[i];
-        let which = place_of(arrival);
-        let own = answer.sites.records[which];
-        let turn = take_turn(
+    for arrival in arrivals {
+        let which = place_of(*arrival);
+        let tried = take_turn(
             settings,
-            own,
+            answer.sites.records[which],
             answer.written,
-            arrival,
+            *arrival,
             log.len(),
             site_memory,
         );
+        let turn = match tried {
+            Ok(turn) => turn,
+            Err(refusal) => {
+                answer.refusal = Some(refusal);
+                break;
+            }
+        };
         answer.sites.records[which] = turn.site;
-        answer.refusal = turn.refusal;
-        answer.accepted = answer.accepted + turn.taken;
+        answer.accepted += 1;
         if turn.out.count != 0 {
             let after = deliver_turn(
                 settings,
@@ -117,7 +123,6 @@ pub fn run_batch(
             answer.coordinator = after.coordinator;
             answer.written = after.written;
         }
-        i += 1;
     }
     answer.sites.messages = counts;
     answer

@@ -3,12 +3,13 @@
 --   messages_ask                            what the delivery of a turn's messages asks
 --   turn_asks, count_asks, deliver_asks     what each part asks, from a batch that is held
 --   quiet_says, loud_says, sent_says        the arrival without messages, and with them
+--   stopped_is                              the answer that a refused arrival leaves
 use mathlib.Core.Path.{◌≡◌, refl, ap, ◌∙◌, subst⁻¹}
 use mathlib.Core.List.{List}
 use Prim.Native.Nat.{ℕ, ◌+◌, ◌≤◌}
 use native.Mathlib.Omega.{arith}
 use native.Mathlib.Nat.{add-zero}
-use lib.ListN.{length}
+use lib.ListN.{length, get_or}
 use lib.Seq.{set-get_or}
 use Rattle.model.specs.declared.Settings.{Settings}
 use Rattle.model.specs.declared.Arrival.{Arrival}
@@ -16,22 +17,21 @@ use Rattle.model.specs.declared.SiteRecord.{SiteRecord}
 use Rattle.model.specs.Refusals.{no_refusal}
 use Rattle.model.specs.Runs.{Batch}
 use Rattle.model.specs.Held.{no_record}
+use Rattle.tracker_queue.specs.declared.Queue.{Queue}
 use Rattle.tracker_queue.specs.Log.{log_room}
 use Rattle.tracker_delivery.specs.Arriving.{MessagesAsk, MessagesSay}
 use Rattle.tracker_delivery.proofs.TakenLaws.{quiet_rests}
-use Rattle.tracker_steps.specs.declared.BatchAnswer.{BatchAnswer}
-use Rattle.tracker_steps.specs.declared.Turn.{Turn}
-use Rattle.tracker_steps.specs.Steps.{BatchHeld, batch_held, batch_answer, batch_one, resting_in, BatchHolds, OneAsks, OneSays}
-use Rattle.tracker_steps.specs.Turns.{place_of, own_of, left_turn, taken_in, TurnAsks, TakenTurn, TurnTold, refused, touched, taken, TurnSays}
+use Rattle.tracker_steps.specs.Steps.{BatchOutcome, BatchHeld, batch_held, batch_answer, batch_one, resting_in, BatchHolds, OneAsks, OneSays}
+use Rattle.tracker_steps.specs.Turns.{TurnOutcome, place_of, own_of, left_turn, taken_in, TurnAsks, TakenTurn, TurnTold, refused, touched, taken, TurnSays}
 use Rattle.tracker_steps.proofs.RefusalLaws.{place_within}
 use Rattle.tracker_steps.proofs.BatchLaws.{taken_is, holds_delivered, holds_stopped, holds_touched}
 use Rattle.tracker_arrivals.specs.Counting.{counted, CountTurnAsks, DeliverTurnAsks, DeliverTurnSays}
 
 -- ---- The messages of a turn
 
-abbrev pub messages_ask : {settings : Settings} {turn : Turn} {now : BatchHeld}
-    → DeliverTurnAsks settings turn now
-    → MessagesAsk settings turn.out (resting_in now)
+abbrev pub messages_ask : {settings : Settings} {out : Queue} {now : BatchHeld}
+    → DeliverTurnAsks settings out now
+    → MessagesAsk settings out (resting_in now)
 messages_ask u = record {
   given = u.given;
   earlier = u.batch.messages;
@@ -39,6 +39,20 @@ messages_ask u = record {
   arrival = u.arrival;
   taken = u.taken;
 }
+
+-- The turn of a refused arrival, counted in the answer, is why the batch stopped.
+pub stopped_is : (answer : BatchOutcome) (which number : ℕ) (own : SiteRecord)
+    → own ≡ get_or answer.sites.records which no_record
+    → record {
+      refusal = number;
+      accepted = answer.accepted;
+      written = answer.written;
+      sites = answer.sites;
+      coordinator = answer.coordinator;
+    } ≡ counted answer which (left_turn number 0 own)
+stopped_is answer which number own own_is =
+    let stored = set-get_or answer.sites.records which no_record in
+    rw (own_is, stored, add-zero answer.accepted)
 
 -- ---- One after another
 
@@ -55,7 +69,7 @@ turn_asks {now = now} arrival own_is u = record {
 }
 
 module _ (now : BatchHeld) {settings : Settings} (arrival : Arrival) {own : SiteRecord}
-    (own_is : own ≡ own_of now.held.sites arrival) {turn : Turn} {after : List ℕ}
+    (own_is : own ≡ own_of now.held.sites arrival) {turn : TurnOutcome} {after : List ℕ}
     (says : TurnSays settings own now.written arrival (length now.log)
     now.held.site_memory turn after) where
   abbrev Told : OneAsks settings now → Type 0
@@ -77,7 +91,7 @@ module _ (now : BatchHeld) {settings : Settings} (arrival : Arrival) {own : Site
       by_told (taken t) = rw t.taken_one (omega arith)
 
   -- The answer with the turn in it.
-  module _ (next : BatchAnswer)
+  module _ (next : BatchOutcome)
       (next-is : next ≡ counted (batch_answer now) (place_of arrival) turn) where
     -- What is held when the turn was counted.
     abbrev then : BatchHeld
@@ -87,7 +101,7 @@ module _ (now : BatchHeld) {settings : Settings} (arrival : Arrival) {own : Site
         ≡ batch_held (counted (batch_answer now) (place_of arrival) turn) after
         now.held.coordinator_memory now.log
     then_is =
-        ap (λ (a : BatchAnswer). batch_held a after now.held.coordinator_memory now.log)
+        ap (λ (a : BatchOutcome). batch_held a after now.held.coordinator_memory now.log)
         next-is
 
     module _ (u : OneAsks settings now)
@@ -97,12 +111,12 @@ module _ (now : BatchHeld) {settings : Settings} (arrival : Arrival) {own : Site
 
       accepted_more : next.accepted ≡ u.batch.accepted + 1
       accepted_more =
-          ap (λ (a : BatchAnswer). a.accepted) next-is ∙ rw (t.taken_one, u.holds.accepted)
+          ap (λ (a : BatchOutcome). a.accepted) next-is ∙ rw (t.taken_one, u.holds.accepted)
 
       refusal_none : next.refusal ≡ no_refusal
-      refusal_none = ap (λ (a : BatchAnswer). a.refusal) next-is ∙ t.refusal_none
+      refusal_none = ap (λ (a : BatchOutcome). a.refusal) next-is ∙ t.refusal_none
 
-      abbrev then_asks : DeliverTurnAsks settings turn then
+      abbrev then_asks : DeliverTurnAsks settings turn.out then
       then_asks = record {
         given = u.given;
         batch = u.batch;
@@ -117,14 +131,14 @@ module _ (now : BatchHeld) {settings : Settings} (arrival : Arrival) {own : Site
         (turn_is : turn ≡ left_turn number Taken-then (own_of now.held.sites arrival))
         (memory_kept : after ≡ now.held.site_memory) where
       no_messages : turn.out.count ≡ 0
-      no_messages = ap (λ (t : Turn). t.out.count) turn_is
+      no_messages = ap (λ (t : TurnOutcome). t.out.count) turn_is
 
       refusal_then : next.refusal ≡ number
       refusal_then =
-          ap (λ (a : BatchAnswer). a.refusal) next-is ∙ ap (λ (t : Turn). t.refusal) turn_is
+          ap (λ (a : BatchOutcome). a.refusal) next-is ∙ ap (λ (t : TurnOutcome). t.refusal) turn_is
 
       accepted_then : next.accepted ≡ now.accepted + Taken-then
-      accepted_then = ap (λ (a : BatchAnswer). a.accepted) next-is ∙ rw turn_is
+      accepted_then = ap (λ (a : BatchOutcome). a.accepted) next-is ∙ rw turn_is
 
       stored_same : resting_in then ≡ resting_in now
       stored_same =
@@ -133,17 +147,17 @@ module _ (now : BatchHeld) {settings : Settings} (arrival : Arrival) {own : Site
 
     pub deliver_asks : OneAsks settings now
         → (turn.out.count ≡ 0 → ⊥)
-        → DeliverTurnAsks settings turn then
+        → DeliverTurnAsks settings turn.out then
     deliver_asks u some = by_told (told_of u)
       where
-        by_told : Told u → DeliverTurnAsks settings turn then
+        by_told : Told u → DeliverTurnAsks settings turn.out then
         by_told (refused r) = absurd (some (no_messages _ _ r.turn_is r.memory_kept))
         by_told (touched t) = absurd (some (no_messages _ _ t.turn_is t.memory_kept))
         by_told (taken t) = then_asks u t
 
     pub loud_says : {last : BatchHeld}
         → (turn.out.count ≡ 0 → ⊥)
-        → DeliverTurnSays settings turn then last
+        → DeliverTurnSays settings turn.out then last
         → OneSays settings arrival now last
     loud_says {last} some delivered = record { next = λ u. by_told u (told_of u) }
       where

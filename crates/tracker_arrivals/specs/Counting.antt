@@ -14,15 +14,14 @@ use Rattle.model.specs.Held.{with_record}
 use Rattle.tracker_queue.specs.declared.Queue.{Queue}
 use Rattle.tracker_delivery.specs.Holding.{WithLog, Carrying}
 use Rattle.tracker_delivery.specs.Arriving.{Taken, MessagesSay}
-use Rattle.tracker_steps.specs.declared.BatchAnswer.{BatchAnswer}
-use Rattle.tracker_steps.specs.declared.Turn.{Turn}
-use Rattle.tracker_steps.specs.Steps.{BatchHeld, run_limit, with_one, resting_in, BatchHolds}
+use Rattle.tracker_steps.specs.Steps.{BatchOutcome, BatchHeld, run_limit, with_one, resting_in, BatchHolds}
+use Rattle.tracker_steps.specs.Turns.{TurnOutcome}
 
 -- ---- The answer with a turn in it
 
 -- The refusal, the arrivals accepted, and the record of the site at this place. The turn of a touch
 -- or of a refused arrival brings the record that stands there.
-abbrev pub counted : BatchAnswer → ℕ → Turn → BatchAnswer
+abbrev pub counted : BatchOutcome → ℕ → TurnOutcome → BatchOutcome
 counted answer which turn = record {
   refusal = turn.refusal;
   accepted = answer.accepted + turn.taken;
@@ -31,7 +30,7 @@ counted answer which turn = record {
   coordinator = answer.coordinator;
 }
 
-pub record CountTurnAsks (answer : BatchAnswer) (which : ℕ) (turn : Turn) : Type 0 where
+pub record CountTurnAsks (answer : BatchOutcome) (which : ℕ) (turn : TurnOutcome) : Type 0 where
   pub which_within : which < most_sites
   pub accepted_within : answer.accepted + 1 < run_limit
   pub taken_within : turn.taken ≤ 1
@@ -43,16 +42,16 @@ pub record SentSays (settings : Settings) (out : Queue) (before after : Carrying
   pub says : MessagesSay settings out before after
   pub memory_kept : after.held.site_memory ≡ before.held.site_memory
 
-pub record DeliverTurnAsks (settings : Settings) (turn : Turn) (now : BatchHeld) : Type 0 where
+pub record DeliverTurnAsks (settings : Settings) (out : Queue) (now : BatchHeld) : Type 0 where
   pub given : WithLog
   pub batch : Batch
   pub arrival : Arrival
   pub is_draw_lem : is_draw arrival ≡ true
   pub accepted_more : now.accepted ≡ batch.accepted + 1
-  pub taken : Taken settings given batch.messages batch.network arrival turn.out
+  pub taken : Taken settings given batch.messages batch.network arrival out
       (resting_in now)
 
-pub record DeliverTurnSays (settings : Settings) (turn : Turn) (before after : BatchHeld) : Type 0
+pub record DeliverTurnSays (settings : Settings) (out : Queue) (before after : BatchHeld) : Type 0
   where
-    pub next : (u : DeliverTurnAsks settings turn before)
+    pub next : (u : DeliverTurnAsks settings out before)
         → BatchHolds settings u.given (with_one settings u.batch u.arrival) after

@@ -4,31 +4,30 @@
 #![tactic(auto)]
 
 ghost use Rattle.std.specs.Prelude.{◌≡◌};
-ghost use Rattle.tracker_steps.specs.Steps.{OneAsks, OneSays, batch_held};
+ghost use Rattle.tracker_steps.specs.Steps.{OneAsks, OneSays, batch_outcome, batch_held};
+ghost use Rattle.tracker_steps.specs.Turns.{taken_outcome};
 ghost use Rattle.tracker_delivery.specs.UnderwayParts.{resting, ended_of};
 ghost use Rattle.tracker_delivery.specs.Holding.{carrying};
 ghost use Rattle.tracker_delivery.specs.Arriving.{MessagesAsk};
 ghost use Rattle.tracker_arrivals.specs.Counting.{counted, CountTurnAsks, SentSays, DeliverTurnAsks, DeliverTurnSays};
 
-use model::{
-    Arrival, CoordinatorRecord, NO_REFUSAL, SITE_RECORDS, Settings, SiteRecord, Sites, Word,
-};
-use tracker_delivery::Ended;
+use model::{Arrival, CoordinatorRecord, SITE_RECORDS, Settings, SiteRecord, Sites, Word};
+use tracker_delivery::{Ended, deliver_messages, record_of, with_record};
 use tracker_queue::Queue;
 use tracker_steps::{BatchAnswer, Turn};
 
-// The answer with a turn in it, of the site at this place.
+// The answer with an accepted arrival's turn in it, of the site at this place.
 fn count_turn(answer: BatchAnswer, which: usize, turn: Turn) -> BatchAnswer
-    requires { CountTurnAsks answer which turn }
-    ensures { result ≡ counted answer which turn }
+    requires { CountTurnAsks (batch_outcome answer) which (taken_outcome turn) }
+    ensures { batch_outcome result
+        ≡ counted (batch_outcome answer) which (taken_outcome turn) }
 {
-    let sites = answer.sites;
-    let site = turn.site;
-    let mut next = answer;
-    next.refusal = turn.refusal;
-    next.accepted = answer.accepted + turn.taken;
-    next.sites = tracker_delivery::with_record(sites, which, site);
-    next
+    BatchAnswer {
+        refusal: None,
+        accepted: answer.accepted + 1,
+        sites: with_record(answer.sites, which, turn.site),
+        ..answer
+    }
 }
 
 // The messages of a turn, with full delivery: what changes of the answer is handed over and handed
@@ -55,7 +54,7 @@ pub fn deliver_turn(
         (carrying (ended_of result counts.new) site_memory.new
         coordinator_memory.new log.new) }
 {
-    tracker_delivery::deliver_messages(
+    deliver_messages(
         settings,
         records,
         coordinator,
@@ -72,27 +71,24 @@ pub fn deliver_turn(
 fn deliver_counted(
     settings: Settings,
     answer: BatchAnswer,
-    turn: Turn,
+    out: Queue,
     site_memory: &mut [Word],
     coordinator_memory: &mut [u64],
     log: &mut [u64],
 ) -> BatchAnswer
-    requires { DeliverTurnAsks settings turn
-        (batch_held answer site_memory.old coordinator_memory.old log.old) }
-    ensures { DeliverTurnSays settings turn
-        (batch_held answer site_memory.old coordinator_memory.old
+    requires { DeliverTurnAsks settings out
+        (batch_held (batch_outcome answer) site_memory.old coordinator_memory.old log.old) }
+    ensures { DeliverTurnSays settings out
+        (batch_held (batch_outcome answer) site_memory.old coordinator_memory.old
         log.old)
-        (batch_held result site_memory.new coordinator_memory.new
+        (batch_held (batch_outcome result) site_memory.new coordinator_memory.new
         log.new) }
 {
-    let records = answer.sites.records;
     let mut counts = answer.sites.messages;
-    let coordinator = answer.coordinator;
-    let out = turn.out;
     let after = deliver_turn(
         settings,
-        records,
-        coordinator,
+        answer.sites.records,
+        answer.coordinator,
         answer.written,
         out,
         site_memory,
@@ -100,18 +96,16 @@ fn deliver_counted(
         log,
         &mut counts,
     );
-    let records_then = after.records;
-    let coordinator_then = after.coordinator;
-    let sites_then = Sites {
-        records: records_then,
-        messages: counts,
-    };
+    let records = after.records;
     BatchAnswer {
-        refusal: NO_REFUSAL,
+        refusal: None,
         accepted: answer.accepted,
         written: after.written,
-        sites: sites_then,
-        coordinator: coordinator_then,
+        sites: Sites {
+            records,
+            messages: counts,
+        },
+        coordinator: after.coordinator,
     }
 }
 
@@ -126,17 +120,16 @@ pub fn take_arrival(
     log: &mut [u64],
 ) -> BatchAnswer
     requires { OneAsks settings
-        (batch_held answer site_memory.old coordinator_memory.old log.old) }
+        (batch_held (batch_outcome answer) site_memory.old coordinator_memory.old log.old) }
     ensures { OneSays settings arrival
-        (batch_held answer site_memory.old coordinator_memory.old
+        (batch_held (batch_outcome answer) site_memory.old coordinator_memory.old
         log.old)
-        (batch_held result site_memory.new coordinator_memory.new
+        (batch_held (batch_outcome result) site_memory.new coordinator_memory.new
         log.new) }
 {
     let which = tracker_steps::place_of(arrival);
-    let sites = answer.sites;
-    let own = tracker_delivery::record_of(sites, which);
-    let turn = tracker_steps::take_turn(
+    let own = record_of(answer.sites, which);
+    let tried = tracker_steps::take_turn(
         settings,
         own,
         answer.written,
@@ -144,9 +137,24 @@ pub fn take_arrival(
         log.len(),
         site_memory,
     );
-    let next = count_turn(answer, which, turn);
-    if turn.out.count == 0 {
-        return next;
+    match tried {
+        Ok(turn) => {
+            let next = count_turn(answer, which, turn);
+            if turn.out.count == 0 {
+                return next;
+            }
+            deliver_counted(
+                settings,
+                next,
+                turn.out,
+                site_memory,
+                coordinator_memory,
+                log,
+            )
+        }
+        Err(refusal) => BatchAnswer {
+            refusal: Some(refusal),
+            ..answer
+        },
     }
-    deliver_counted(settings, next, turn, site_memory, coordinator_memory, log)
 }

@@ -23,7 +23,7 @@ use Rattle.model.specs.declared.CoordinatorRecord.{CoordinatorRecord}
 use Rattle.model.specs.Limits.{value_count}
 use Rattle.model.specs.Messages.{message_width, no_message}
 use Rattle.model.specs.Site.{Site, one_more_at}
-use Rattle.model.specs.SiteMemory.{site_words, site_in, site_record, site_memory}
+use Rattle.model.specs.SiteMemory.{site_words, site_in, site_record}
 use Rattle.model.specs.Coordinator.{Coordinator}
 use Rattle.model.specs.CoordinatorMemory.{coordinator_in, coordinator_record, coordinator_memory}
 use Rattle.model.specs.Network.{Network, site_at, with_site, with_coordinator}

@@ -12,3 +12,4 @@ pub mod HandLaws
 pub mod HandToCoordinator
 pub mod HandToSite
 pub mod HandSteps
+pub mod StopLaws

@@ -13,7 +13,7 @@ use Rattle.model.specs.declared.Settings.{Settings}
 use Rattle.model.specs.declared.Message.{Message}
 use Rattle.model.specs.Messages.{message_width, no_message}
 use Rattle.model.specs.Coordinator.{Coordinator, CoordinatorStep, announced, is_announcing}
-use Rattle.model.specs.CoordinatorMemory.{coordinator_in, coordinator_memory}
+use Rattle.model.specs.CoordinatorMemory.{coordinator_in}
 use Rattle.model.specs.Network.{Network, with_coordinator, hand_over, ask_announcement}
 use Rattle.model.specs.DeliveryClaims.{Delivery, delivery, joining, delivery_step}
 use Rattle.model.proofs.MessageCount.CountLaws.{NamesBelow, names_at}

@@ -3,3 +3,4 @@ pub mod UnderwayParts
 pub mod Holding
 pub mod Handing
 pub mod Arriving
+pub mod Stops

@@ -16,16 +16,7 @@ use tracker_queue::{Queue, take_head};
 pub fn goes_on(coordinator: CoordinatorRecord, waiting: Queue) -> bool
     ensures { result ≡ goes_on coordinator waiting }
 {
-    if waiting.count != 0 {
-        return true;
-    }
-    let phase = coordinator.phase;
-    match phase {
-        Phase::Idle => false,
-        Phase::Collecting(_) => false,
-        Phase::Probing(_, _, _, _) => false,
-        Phase::Announcing(_) => true,
-    }
+    waiting.count != 0 || matches!(coordinator.phase, Phase::Announcing(_))
 }
 
 // The site that the head of the messages that wait is for; 0 where it is for the coordinator, or
@@ -33,28 +24,22 @@ pub fn goes_on(coordinator: CoordinatorRecord, waiting: Queue) -> bool
 pub fn site_of_head(waiting: Queue) -> usize
     ensures { result ≡ site_of_head waiting }
 {
-    if waiting.count == 0 {
+    if waiting.count == 0 || to_coordinator(waiting.first) {
         return 0;
     }
-    let message = waiting.first;
-    if to_coordinator(message) {
-        return 0;
-    }
-    message.site as usize
+    waiting.first.site as usize
 }
 
 // The coordinator's answer, with so many messages waiting still.
 fn coordinator_change(own: SiteRecord, waiting: Queue, answer: Answered) -> Change
     ensures { result ≡ coordinator_change own waiting answer }
 {
-    let coordinator = answer.coordinator;
-    let out = answer.out;
     Change {
         site: own,
-        coordinator: coordinator,
-        waiting: waiting,
+        coordinator: answer.coordinator,
+        waiting,
         count: answer.count,
-        out: out,
+        out: answer.out,
     }
 }
 
@@ -89,17 +74,13 @@ pub fn hand_over(
         );
         return coordinator_change(own, rest, answer);
     }
-    let which = message.site as usize;
-    let start = which * site_memory::site_words(settings);
-    let part = &site_memory[start..];
-    let answer = site_receiving::receive_step(settings, own, message, part);
-    let after = answer.site;
-    let out = answer.reply;
+    let start = (message.site as usize) * site_memory::site_words(settings);
+    let answer = site_receiving::receive_step(settings, own, message, &site_memory[start..]);
     Change {
-        site: after,
-        coordinator: coordinator,
+        site: answer.site,
+        coordinator,
         waiting: rest,
         count: answer.count,
-        out: out,
+        out: answer.reply,
     }
 }

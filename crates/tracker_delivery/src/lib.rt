@@ -52,13 +52,12 @@ pub fn record_of(sites: Sites, which: usize) -> SiteRecord
 }
 
 // The record of one site changed. Internal, as `record_of`.
-pub fn with_record(sites: Sites, which: usize, numbers: SiteRecord) -> Sites
+pub fn with_record(mut sites: Sites, which: usize, numbers: SiteRecord) -> Sites
     requires { which < most_sites }
     ensures { result ≡ with_record sites which numbers }
 {
-    let mut next = sites;
-    next.records[which] = numbers;
-    next
+    sites.records[which] = numbers;
+    sites
 }
 
 // A delivery to its end. The records of the sites are changed in their places here, and handed to
@@ -84,33 +83,29 @@ fn deliver(
 {
     while goes_on(coordinator, traffic.waiting) {
         let which = site_of_head(traffic.waiting);
-        let own = records[which];
         let by = hand_over(
             settings,
-            own,
+            records[which],
             coordinator,
             traffic.waiting,
             site_memory,
             coordinator_memory,
         );
-        let site_then = by.site;
-        let coordinator_then = by.coordinator;
-        let waiting_then = by.waiting;
-        records[which] = site_then;
-        coordinator = coordinator_then;
-        traffic.waiting = waiting_then;
+        records[which] = by.site;
+        coordinator = by.coordinator;
+        traffic.waiting = by.waiting;
         traffic = send_answer(traffic, by.count, by.out, counts, log);
     }
     Ended {
-        records: records,
-        coordinator: coordinator,
+        records,
+        coordinator,
         written: traffic.written,
     }
 }
 
 // An arrival at its site, which stands there with the record `own` and a part of the memory: the
 // record then, and the messages that are to go out. Internal: what it requires is decided by the
-// batch call's tests, `tracker_memory::network_refusal` (1 to 4, 11) when it starts and the refusal
+// batch call's tests, `tracker_memory::test_network` (1 to 4, 11) when it starts and the refusal
 // of each arrival (5 to 8, 14) before it calls this.
 pub fn observe(
     settings: Settings,
@@ -122,8 +117,7 @@ pub fn observe(
     ensures { SiteSays settings own arrival
         site_memory.old site_memory.new result }
 {
-    let which = arrival.site as usize;
-    let start = which * site_memory::site_words(settings);
+    let start = (arrival.site as usize) * site_memory::site_words(settings);
     site_steps::observe_step(settings, own, arrival, &mut site_memory[start..])
 }
 
@@ -150,10 +144,9 @@ pub fn deliver_messages(
         (carrying (ended_of result counts.new) site_memory.now
         coordinator_memory.new log.new) }
 {
-    let waiting = empty_queue();
     let traffic = Traffic {
-        written: written,
-        waiting: waiting,
+        written,
+        waiting: empty_queue(),
     };
     let begun = send_two(traffic, out.count, out.first, out.second, counts, log);
     deliver(

@@ -1,10 +1,10 @@
 -- What the tests of a whole network are worth, test by test.
 --
 --   counts_fit                        numbers that can be added up
---   rest_decides, bench_refused       the rows of the test
+--   rest_decides                      a row of the test
 --   bench_counts                      what rest asks, from what is consistent
 use mathlib.Core.Path.{◌≡◌, subst}
-use mathlib.Core.Bool.{Bool, true, false}
+use mathlib.Core.Bool.{Bool, true}
 use mathlib.Core.List.{List}
 use Prim.Native.Nat.{ℕ, ◌*◌, ◌<◌}
 use native.Mathlib.Omega.{arith}
@@ -69,10 +69,6 @@ module _ (settings : Settings) (sites : Sites) (coordinator : CoordinatorRecord)
       → at_rest_together (network_in settings sites coordinator site_memory coordinator_memory)
       ≡ network_consistent settings sites coordinator site_memory coordinator_memory
   rest_decides holds = rw holds
-
-  pub bench_refused : bench_test ≡ false
-      → false ≡ network_consistent settings sites coordinator site_memory coordinator_memory
-  bench_refused fails = rw fails
 
   pub bench_counts : SitesFit settings site_memory
       → bench_test ≡ true

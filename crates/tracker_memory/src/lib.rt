@@ -4,30 +4,21 @@
 #![tactic(auto)]
 
 ghost use Rattle.std.specs.Prelude.{◌≡◌};
+ghost use Rattle.model.specs.Refusals.{refusal_in};
 ghost use Rattle.model.specs.NetworkMemory.{network_consistent, network_refusal};
 ghost use Rattle.bench_memory.specs.Promises.{NetworkFits};
 ghost use Rattle.tracker_memory.specs.Promises.{RecordsFit, AllCountsFit, SameSays, CountedSays, RestSays};
 
-use model::{
-    CoordinatorRecord, MEMORY_INCONSISTENT, MEMORY_TOO_SHORT, NO_REFUSAL, Phase, Settings, Sites,
-    Word,
-};
+use model::{CoordinatorRecord, Phase, Refusal, Settings, Sites, Word};
 
 // Whether each site has this threshold.
 fn same_thresholds(settings: Settings, sites: Sites, threshold: u64) -> bool
     requires { RecordsFit settings sites }
     ensures { SameSays settings sites threshold result }
 {
-    let count = settings.sites as usize;
-    let mut j = 0;
-    while j < count {
-        let numbers = sites.records[j];
-        if numbers.threshold != threshold {
-            return false;
-        }
-        j += 1;
-    }
-    true
+    sites.records[..settings.sites as usize]
+        .iter()
+        .all(|site| site.threshold == threshold)
 }
 
 // Whether a total with all pendings is all arrivals.
@@ -35,17 +26,10 @@ fn all_counted(settings: Settings, sites: Sites, total: u64) -> bool
     requires { AllCountsFit settings sites total }
     ensures { CountedSays settings sites total result }
 {
-    let count = settings.sites as usize;
-    let mut counted = total;
-    let mut arrived: u64 = 0;
-    let mut j = 0;
-    while j < count {
-        let numbers = sites.records[j];
-        counted = counted + numbers.pending;
-        arrived = arrived + numbers.arrivals;
-        j += 1;
-    }
-    counted == arrived
+    let records = &sites.records[..settings.sites as usize];
+    let pending: u64 = records.iter().map(|site| site.pending).sum();
+    let arrivals: u64 = records.iter().map(|site| site.arrivals).sum();
+    total + pending == arrivals
 }
 
 // Whether the network is at rest: the coordinator idle, thresholds equal, all arrivals counted.
@@ -53,18 +37,9 @@ fn at_rest(settings: Settings, sites: Sites, coordinator: CoordinatorRecord) -> 
     requires { AllCountsFit settings sites coordinator.total }
     ensures { RestSays settings sites coordinator result }
 {
-    let phase = coordinator.phase;
-    match phase {
-        Phase::Idle => {
-            if same_thresholds(settings, sites, coordinator.threshold) {
-                return all_counted(settings, sites, coordinator.total);
-            }
-            false
-        }
-        Phase::Collecting(_) => false,
-        Phase::Probing(_, _, _, _) => false,
-        Phase::Announcing(_) => false,
-    }
+    matches!(coordinator.phase, Phase::Idle)
+        && same_thresholds(settings, sites, coordinator.threshold)
+        && all_counted(settings, sites, coordinator.total)
 }
 
 // Whether records and memory of the whole network are consistent, and it is at rest.
@@ -80,45 +55,39 @@ fn network_consistent(
         ≡ network_consistent settings sites coordinator
         site_memory.now coordinator_memory.now }
 {
-    if bench_memory::bench_consistent(
+    bench_memory::bench_consistent(
         settings,
         sites,
         coordinator,
         site_memory,
         coordinator_memory,
-    ) {
-        return at_rest(settings, sites, coordinator);
-    }
-    false
+    ) && at_rest(settings, sites, coordinator)
 }
 
 // Why the batch call is refused when it starts: 1, 2, 3; then 4, 11.
-pub fn network_refusal(
+pub fn test_network(
     settings: Settings,
     sites: Sites,
     coordinator: CoordinatorRecord,
     site_memory: &[Word],
     coordinator_memory: &[u64],
-) -> u32
-    ensures { result
+) -> Result<(), Refusal>
+    ensures { refusal_in result
         ≡ network_refusal settings sites coordinator
         site_memory.now coordinator_memory.now }
 {
-    let refusal = settings::test_settings(settings);
-    if refusal != NO_REFUSAL {
-        return refusal;
-    }
+    settings::test_settings(settings)?;
     if bench_memory::memory_short(settings, site_memory.len(), coordinator_memory.len()) {
-        return MEMORY_TOO_SHORT;
+        return Err(Refusal::MemoryTooShort);
     }
-    if network_consistent(
+    if !network_consistent(
         settings,
         sites,
         coordinator,
         site_memory,
         coordinator_memory,
     ) {
-        return NO_REFUSAL;
+        return Err(Refusal::MemoryInconsistent);
     }
-    MEMORY_INCONSISTENT
+    Ok(())
 }

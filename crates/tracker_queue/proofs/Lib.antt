@@ -1,3 +1,2 @@
 -- Laws of the log and of messages that go out.
 pub mod LogLaws
-pub mod SendLaws

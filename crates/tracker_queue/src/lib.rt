@@ -33,11 +33,10 @@ pub struct Traffic {
 pub fn empty_queue() -> Queue
     ensures { result ≡ nothing_waits }
 {
-    let none = no_message();
     Queue {
         count: 0,
-        first: none,
-        second: none,
+        first: no_message(),
+        second: no_message(),
     }
 }
 
@@ -49,14 +48,13 @@ pub fn join(queue: Queue, message: Message) -> Queue
         return Queue {
             count: 1,
             first: message,
-            second: no_message(),
+            ..empty_queue()
         };
     }
-    let first = queue.first;
     Queue {
         count: 2,
-        first: first,
         second: message,
+        ..queue
     }
 }
 
@@ -65,11 +63,10 @@ pub fn take_head(queue: Queue) -> Queue
     ensures { result ≡ without_head queue }
 {
     if queue.count == 2 {
-        let second = queue.second;
         return Queue {
             count: 1,
-            first: second,
-            second: no_message(),
+            first: queue.second,
+            ..empty_queue()
         };
     }
     empty_queue()
@@ -100,13 +97,10 @@ fn send(
         counts.new log.new }
 {
     write_record(log, traffic.written, message);
-    let written = traffic.written + 1;
-    let which = message.site as usize;
-    counts[which] = counts[which] + 1;
-    let waiting = join(traffic.waiting, message);
+    counts[message.site as usize] += 1;
     Traffic {
-        written: written,
-        waiting: waiting,
+        written: traffic.written + 1,
+        waiting: join(traffic.waiting, message),
     }
 }
 

@@ -1,9 +1,8 @@
 -- The turn of an arrival, as the code takes it.
 --
---   turn_places                              what its refusal asks
---   turn_refused, turn_touched, turn_taken   the three ways that it goes
+--   turn_refused, turn_observes, turn_taken   the ways that it goes
 use mathlib.Core.Path.{◌≡◌, refl, sym, ap, ◌∙◌}
-use mathlib.Core.Bool.{true, false}
+use mathlib.Core.Bool.{true}
 use mathlib.Core.List.{List}
 use Prim.Native.Nat.{ℕ}
 use lib.ListN.{length}
@@ -18,15 +17,14 @@ use Rattle.tracker_queue.specs.Log.{log_room}
 use Rattle.tracker_delivery.specs.Holding.{underway_in}
 use Rattle.tracker_delivery.specs.Arriving.{ArrivalAsks, SiteAsks, SiteSays, out_of}
 use Rattle.tracker_delivery.proofs.SiteLaws.{site_few}
-use Rattle.tracker_steps.specs.declared.Turn.{Turn}
-use Rattle.tracker_steps.specs.Steps.{BatchHeld, places_refusal, PlacesAsk, one_refusal, resting_in, OneAsks}
-use Rattle.tracker_steps.specs.Turns.{place_of, own_of, left_turn, with_site_memory, TurnAsks, refused, touched, taken, TurnSays}
+use Rattle.tracker_steps.specs.Steps.{BatchHeld, places_refusal, one_refusal, resting_in, OneAsks}
+use Rattle.tracker_steps.specs.Turns.{TurnOutcome, place_of, own_of, left_turn, with_site_memory, TurnAsks, refused, taken, TurnSays}
 use Rattle.tracker_steps.proofs.RefusalLaws.{place_known}
-use Rattle.tracker_steps.proofs.BatchLaws.{one_places, refusal_is, one_asks}
+use Rattle.tracker_steps.proofs.BatchLaws.{refusal_is, one_asks}
 
 -- ---- The turn
 
-abbrev pub taken_turn : Observed → Turn
+abbrev pub taken_turn : Observed → TurnOutcome
 taken_turn observed = record {
   refusal = no_refusal;
   taken = 1;
@@ -36,10 +34,6 @@ taken_turn observed = record {
 
 module _ {settings : Settings} {own : SiteRecord} {written : ℕ} (arrival : Arrival) {numbers : ℕ}
     {memory : List ℕ} where
-  pub turn_places : TurnAsks settings own written arrival numbers memory
-      → PlacesAsk settings written numbers
-  turn_places u = rw (u.numbers_are, u.written_is) (one_places u.asks)
-
   -- ---- The refusal that the code finds
 
   module _ (refusal : ℕ)
@@ -56,7 +50,7 @@ module _ {settings : Settings} {own : SiteRecord} {written : ℕ} (arrival : Arr
         ∙ refusal_is u arrival
 
     pub turn_refused : (refusal ≡ no_refusal → ⊥)
-        → (turn : Turn)
+        → (turn : TurnOutcome)
         → turn ≡ left_turn refusal 0 own
         → TurnSays settings own written arrival numbers memory turn memory
     turn_refused some turn turn_is = record {
@@ -79,20 +73,6 @@ module _ {settings : Settings} {own : SiteRecord} {written : ℕ} (arrival : Arr
           → one_refusal settings (log_room u.given.log) u.batch arrival ≡ no_refusal
       none_due now own_is written_is numbers_are u =
           sym (found_is now own_is written_is numbers_are u) ∙ none
-
-      pub turn_touched : is_draw arrival ≡ false
-          → (turn : Turn)
-          → turn ≡ left_turn no_refusal 1 own
-          → TurnSays settings own written arrival numbers memory turn memory
-      turn_touched no_draw turn turn_is = record {
-        told = λ now own_is written_is numbers_are u.
-            touched (record {
-              no_draw = no_draw;
-              none_due = none_due now own_is written_is numbers_are u;
-              turn_is = turn_is ∙ ap (left_turn no_refusal 1) own_is;
-              memory_kept = refl;
-            });
-      }
 
     module _ (none : refusal ≡ no_refusal) (is_draw_lem : is_draw arrival ≡ true) where
       module _ (now : BatchHeld) (own_is : own ≡ own_of now.held.sites arrival)

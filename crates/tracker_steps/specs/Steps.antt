@@ -1,5 +1,6 @@
 -- The parts of the batch call: its start, and one arrival of it.
 --
+--   BatchOutcome, batch_outcome        the answer with the number of what stopped it
 --   BatchHeld                          an answer with what is held and the log
 --   batch_held, batch_answer           the same from the answer and lent memory; the answer of it
 --   opened refusal sites coordinator   the answer before the first arrival
@@ -34,8 +35,30 @@ use Rattle.model.specs.DeliveryClaims.{delivery}
 use Rattle.site_refusals.specs.Bare.{bare_site}
 use Rattle.tracker_queue.specs.Log.{log_room}
 use Rattle.tracker_queue.specs.Sending.{nothing_waits}
+use Rattle.tracker_delivery.specs.Stops.{stop_number}
 use Rattle.tracker_delivery.specs.Holding.{Holds, Fits, WithLog, Carrying}
 use Rattle.tracker_steps.specs.declared.BatchAnswer.{BatchAnswer}
+
+-- ---- What a batch call answers
+
+-- The refusal that stopped it or 0, the arrivals accepted, touches among them, the messages written
+-- to the log, and both records as they are then.
+pub record BatchOutcome : Type 0 where
+  pub refusal : ℕ
+  pub accepted : ℕ
+  pub written : ℕ
+  pub sites : Sites
+  pub coordinator : CoordinatorRecord
+
+-- What the answer says, with the number of what stopped it.
+abbrev pub batch_outcome : BatchAnswer → BatchOutcome
+batch_outcome answer = record {
+  refusal = stop_number answer.refusal;
+  accepted = answer.accepted;
+  written = answer.written;
+  sites = answer.sites;
+  coordinator = answer.coordinator;
+}
 
 -- ---- What a batch call holds
 
@@ -49,7 +72,7 @@ pub record BatchHeld : Type 0 where
   pub log : List ℕ
 
 -- The records are the answer's.
-abbrev pub batch_held : BatchAnswer → List ℕ → List ℕ → List ℕ → BatchHeld
+abbrev pub batch_held : BatchOutcome → List ℕ → List ℕ → List ℕ → BatchHeld
 batch_held answer site_memory coordinator_memory log = record {
   refusal = answer.refusal;
   accepted = answer.accepted;
@@ -58,7 +81,7 @@ batch_held answer site_memory coordinator_memory log = record {
   log = log;
 }
 
-abbrev pub batch_answer : BatchHeld → BatchAnswer
+abbrev pub batch_answer : BatchHeld → BatchOutcome
 batch_answer now = record {
   refusal = now.refusal;
   accepted = now.accepted;
@@ -70,7 +93,7 @@ batch_answer now = record {
 -- ---- The start
 
 -- Nothing is accepted and nothing written yet.
-abbrev pub opened : ℕ → Sites → CoordinatorRecord → BatchAnswer
+abbrev pub opened : ℕ → Sites → CoordinatorRecord → BatchOutcome
 opened refusal sites coordinator = record {
   refusal = refusal;
   accepted = 0;
@@ -85,7 +108,7 @@ pub record OpenBatchSays
     (sites : Sites)
     (coordinator : CoordinatorRecord)
     (site_before coordinatorBefore : List ℕ)
-    (answer : BatchAnswer)
+    (answer : BatchOutcome)
     (site_after coordinator_after : List ℕ) : Type 0 where
   pub answered : answer
       ≡ opened (network_refusal settings sites coordinator site_before coordinatorBefore) sites

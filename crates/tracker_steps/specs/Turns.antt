@@ -3,19 +3,22 @@
 --
 --   place_of arrival            the place of its site among the records
 --   own_of sites arrival        the record that stands there
+--   TurnOutcome, turn_outcome   what a turn comes to, refused or not
 --   left_turn number taken own  the turn of an arrival that leaves its site as it was
 --   taken_in now ..            what is held when the arrival's site has taken it
 --   TurnAsks, TurnSays         an arrival is refused, or a touch, or its site takes it
-use Rattle.std.specs.Prelude.{◌≡◌, true, false, List, ℕ, ltb, length, if◌then◌else◌}
+use Rattle.std.specs.Prelude.{◌≡◌, true, false, List, ℕ, ltb, length, if◌then◌else◌, Result, Ok, Err}
 use Rattle.model.specs.declared.Settings.{Settings}
 use Rattle.model.specs.declared.Arrival.{Arrival}
 use Rattle.model.specs.declared.SiteRecord.{SiteRecord}
 use Rattle.model.specs.declared.Sites.{Sites}
-use Rattle.model.specs.Refusals.{no_refusal}
+use Rattle.model.specs.declared.Refusal.{Refusal}
+use Rattle.model.specs.Refusals.{no_refusal, number_of}
 use Rattle.model.specs.Limits.{most_sites}
 use Rattle.model.specs.Draws.{is_draw}
 use Rattle.model.specs.Runs.{Batch}
 use Rattle.model.specs.Held.{record_in, after_site_call}
+use Rattle.tracker_queue.specs.declared.Queue.{Queue}
 use Rattle.tracker_queue.specs.Log.{log_room}
 use Rattle.tracker_queue.specs.Sending.{nothing_waits}
 use Rattle.tracker_delivery.specs.Holding.{WithLog}
@@ -34,14 +37,36 @@ place_of arrival = if ltb arrival.site most_sites then arrival.site else 0
 abbrev pub own_of : Sites → Arrival → SiteRecord
 own_of sites arrival = record_in sites (place_of arrival)
 
+-- Why an arrival is refused or 0, the arrivals accepted, 1 or none, the record of its site, and the
+-- messages that are to go out.
+pub record TurnOutcome : Type 0 where
+  pub refusal : ℕ
+  pub taken : ℕ
+  pub site : SiteRecord
+  pub out : Queue
+
+-- The turn of an arrival that is accepted.
+abbrev pub taken_outcome : Turn → TurnOutcome
+taken_outcome turn = record {
+  refusal = no_refusal;
+  taken = 1;
+  site = turn.site;
+  out = turn.out;
+}
+
 -- A refused arrival leaves its site's record as it was, and so does a touch, which is accepted.
-abbrev pub left_turn : ℕ → ℕ → SiteRecord → Turn
+abbrev pub left_turn : ℕ → ℕ → SiteRecord → TurnOutcome
 left_turn number taken own = record {
   refusal = number;
   taken = taken;
   site = own;
   out = nothing_waits;
 }
+
+-- What a turn comes to at a site that has this record: refused, all is as it was.
+abbrev pub turn_outcome : SiteRecord → Result Turn Refusal → TurnOutcome
+turn_outcome own (Ok turn) = taken_outcome turn
+turn_outcome own (Err refusal) = left_turn (number_of refusal) 0 own
 
 abbrev pub with_site_memory : BatchHeld → List ℕ → BatchHeld
 with_site_memory now site_memory =
@@ -79,7 +104,7 @@ pub record RefusedTurn
     (batch : Batch)
     (arrival : Arrival)
     (now : BatchHeld)
-    (turn : Turn)
+    (turn : TurnOutcome)
     (site_before site_after : List ℕ) : Type 0 where
   pub due : one_refusal settings (log_room given.log) batch arrival ≡ no_refusal → ⊥
   pub turn_is : turn
@@ -95,7 +120,7 @@ pub record TouchTurn
     (batch : Batch)
     (arrival : Arrival)
     (now : BatchHeld)
-    (turn : Turn)
+    (turn : TurnOutcome)
     (site_before site_after : List ℕ) : Type 0 where
   pub no_draw : is_draw arrival ≡ false
   pub none_due : one_refusal settings (log_room given.log) batch arrival ≡ no_refusal
@@ -109,7 +134,7 @@ pub record TakenTurn
     (batch : Batch)
     (arrival : Arrival)
     (now : BatchHeld)
-    (turn : Turn)
+    (turn : TurnOutcome)
     (site_after : List ℕ) : Type 0 where
   pub is_draw_lem : is_draw arrival ≡ true
   pub none_due : one_refusal settings (log_room given.log) batch arrival ≡ no_refusal
@@ -125,7 +150,7 @@ pub data TurnTold
     (batch : Batch)
     (arrival : Arrival)
     (now : BatchHeld)
-    (turn : Turn)
+    (turn : TurnOutcome)
     (site_before site_after : List ℕ) : Type 0 where
   refused : RefusedTurn settings given batch arrival now turn site_before site_after
       → TurnTold settings given batch arrival now turn site_before site_after
@@ -142,7 +167,7 @@ pub record TurnSays
     (arrival : Arrival)
     (numbers : ℕ)
     (before : List ℕ)
-    (turn : Turn)
+    (turn : TurnOutcome)
     (after : List ℕ) : Type 0 where
   pub told : (now : BatchHeld)
       → own ≡ own_of now.held.sites arrival

@@ -6,35 +6,34 @@
 #![tactic(auto)]
 
 ghost use Rattle.std.specs.Prelude.{◌≡◌, ◌-◌, ◌/◌};
+ghost use Rattle.model.specs.Refusals.{refusal_in};
 ghost use Rattle.model.specs.Messages.{message_width};
 ghost use Rattle.model.specs.Runs.{log_refusal};
-ghost use Rattle.tracker_steps.specs.Steps.{OpenBatchSays, places_refusal, PlacesAsk};
-ghost use Rattle.tracker_steps.specs.Turns.{place_of, left_turn, TurnAsks, TurnSays};
+ghost use Rattle.tracker_queue.specs.Sending.{nothing_waits};
+ghost use Rattle.tracker_steps.specs.Steps.{OpenBatchSays, batch_outcome, places_refusal, PlacesAsk};
+ghost use Rattle.tracker_steps.specs.Turns.{place_of, turn_outcome, TurnAsks, TurnSays};
 
 use model::{
-    Arrival, CoordinatorRecord, LOG_TOO_SHORT, MESSAGE_WIDTH, MOST_SITES, NO_REFUSAL, Settings,
-    SiteRecord, Sites, Word,
+    Arrival, CoordinatorRecord, MESSAGE_WIDTH, MOST_SITES, Refusal, Settings, SiteRecord, Sites,
+    Word,
 };
 use tracker_queue::Queue;
 
-// What the batch call answers: the refusal that stopped it or 0, the arrivals accepted, touches
-// among them, the messages written to the log, and both records as they are then.
+// What the batch call answers: the refusal that stopped it, if one did, the arrivals accepted,
+// touches among them, the messages written to the log, and both records as they are then.
 #[derive(Clone, Copy)]
 pub struct BatchAnswer {
-    pub refusal: u32,
+    pub refusal: Option<Refusal>,
     pub accepted: u64,
     pub written: u64,
     pub sites: Sites,
     pub coordinator: CoordinatorRecord,
 }
 
-// The turn of an arrival: why it is refused, or the record of the site that took it, and the
-// messages that are to go out. `taken` is 1 if it is accepted. A touch or a refused one has the
-// record as it was, and no messages.
+// The turn of an arrival that is accepted: the record of the site that took it, and the messages
+// that are to go out. A touch has the record as it was, and no messages.
 #[derive(Clone, Copy)]
 pub struct Turn {
-    pub refusal: u32,
-    pub taken: u64,
     pub site: SiteRecord,
     pub out: Queue,
 }
@@ -49,10 +48,10 @@ pub fn open_batch(
     coordinator_memory: &mut [u64],
 ) -> BatchAnswer
     ensures { OpenBatchSays settings sites coordinator
-        site_memory.old coordinator_memory.old result
+        site_memory.old coordinator_memory.old (batch_outcome result)
         site_memory.new coordinator_memory.new }
 {
-    let refusal = tracker_memory::network_refusal(
+    let tested = tracker_memory::test_network(
         settings,
         sites,
         coordinator,
@@ -60,11 +59,11 @@ pub fn open_batch(
         coordinator_memory,
     );
     BatchAnswer {
-        refusal: refusal,
+        refusal: tested.err(),
         accepted: 0,
         written: 0,
-        sites: sites,
-        coordinator: coordinator,
+        sites,
+        coordinator,
     }
 }
 
@@ -74,55 +73,50 @@ pub fn place_of(arrival: Arrival) -> usize
     ensures { result ≡ place_of arrival }
 {
     if arrival.site < MOST_SITES {
-        return arrival.site as usize;
+        arrival.site as usize
+    } else {
+        0
     }
-    0
 }
 
-// Why a draw is refused for the log, of which `written` messages are in use: 14.
-fn log_refusal(settings: Settings, numbers: usize, written: u64) -> u32
+// Whether the log, of which `written` messages are in use, has room for a draw: 14.
+fn test_log(settings: Settings, numbers: usize, written: u64) -> Result<(), Refusal>
     requires { PlacesAsk settings written numbers }
-    ensures { result ≡ log_refusal settings (numbers / message_width - written) }
+    ensures { refusal_in result ≡ log_refusal settings (numbers / message_width - written) }
 {
     let free = ((numbers / MESSAGE_WIDTH) as u64) - written;
     if free < settings::most_messages(settings) {
-        return LOG_TOO_SHORT;
+        return Err(Refusal::LogTooShort);
     }
-    NO_REFUSAL
+    Ok(())
 }
 
-// Why an arrival of a batch is refused: 5, 6, 7, 8, 14; a touch not for 8 or 14. `own` is its
-// site's record.
-fn one_refusal(
+// Whether an arrival of a batch is accepted: 5, 6, 7, 8, 14; a touch is not refused by 8 or 14.
+// `own` is its site's record.
+fn test_one(
     settings: Settings,
     own: SiteRecord,
     arrival: Arrival,
     numbers: usize,
     written: u64,
-) -> u32
+) -> Result<(), Refusal>
     requires { PlacesAsk settings written numbers }
-    ensures { result ≡ places_refusal settings own arrival numbers written }
+    ensures { refusal_in result ≡ places_refusal settings own arrival numbers written }
 {
-    let of_line = site_refusals::line_refusal(settings, own, arrival);
-    if of_line != NO_REFUSAL {
-        return of_line;
-    }
+    site_refusals::test_arrival(settings, own, arrival)?;
     if site_refusals::is_draw(arrival) {
-        return log_refusal(settings, numbers, written);
+        test_log(settings, numbers, written)?;
     }
-    NO_REFUSAL
+    Ok(())
 }
 
-// The turn of an arrival that leaves its site as it was: refused with this number, or a touch.
-fn left_turn(number: u32, taken: u64, own: SiteRecord) -> Turn
-    ensures { result ≡ left_turn number taken own }
+// The turn of a touch, which leaves its site as it was.
+fn touch_turn(own: SiteRecord) -> Turn
+    ensures { result ≡ record { site = own; out = nothing_waits } }
 {
-    let out = tracker_queue::empty_queue();
     Turn {
-        refusal: number,
-        taken: taken,
         site: own,
-        out: out,
+        out: tracker_queue::empty_queue(),
     }
 }
 
@@ -138,31 +132,23 @@ pub fn take_turn(
     arrival: Arrival,
     numbers: usize,
     site_memory: &mut [Word],
-) -> Turn
+) -> Result<Turn, Refusal>
     requires { TurnAsks settings own written arrival numbers site_memory.old }
     ensures { TurnSays settings own written arrival numbers
-        site_memory.old result site_memory.new }
+        site_memory.old (turn_outcome own result) site_memory.new }
 {
-    let refusal = one_refusal(settings, own, arrival, numbers, written);
-    if refusal != NO_REFUSAL {
-        return left_turn(refusal, 0, own);
+    test_one(settings, own, arrival, numbers, written)?;
+    if !site_refusals::is_draw(arrival) {
+        return Ok(touch_turn(own));
     }
-    if site_refusals::is_draw(arrival) {
-        let observed = tracker_delivery::observe(settings, own, arrival, site_memory);
-        let site = observed.site;
-        let first = observed.first;
-        let second = observed.second;
-        let out = Queue {
-            count: observed.count,
-            first: first,
-            second: second,
-        };
-        return Turn {
-            refusal: NO_REFUSAL,
-            taken: 1,
-            site: site,
-            out: out,
-        };
-    }
-    left_turn(NO_REFUSAL, 1, own)
+    let observed = tracker_delivery::observe(settings, own, arrival, site_memory);
+    let out = Queue {
+        count: observed.count,
+        first: observed.first,
+        second: observed.second,
+    };
+    Ok(Turn {
+        site: observed.site,
+        out,
+    })
 }

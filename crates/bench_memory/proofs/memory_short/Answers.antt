@@ -3,7 +3,7 @@ use mathlib.Core.Path.{sym, ap, ◌∙◌}
 use Prim.Native.Nat.{ℕ, ◌+◌, ◌*◌}
 use native.Mathlib.Omega.{arith}
 use lib.Dec.{ltb}
-use Rattle.bench_memory.proofs.ShortLaws.{all_words, sites_short, coordinator_short}
+use Rattle.bench_memory.proofs.ShortLaws.{all_words, coordinator_short}
 use Rattle.bench_memory.proofs.memory_short.Goals as goal
 
 pub overflow_mul-all : goal.overflow_mul-all
@@ -11,18 +11,8 @@ overflow_mul-all c =
     let words = c.site_words in
     omega (arith, all_words c.args.settings words.result c.requires words.ensures)
 
-pub returns-then-site_numbers-all : goal.returns-then-site_numbers-all
-returns-then-site_numbers-all c =
-    let a = c.args in
-    let all = ap (λ (z : ℕ). a.settings.sites * z) c.site_words.ensures in
-    record {
-      too_short = λ sites coordinator sites_are coordinator_is.
-          sites_short a.settings sites coordinator
-          (omega (arith, c.if-site_numbers-all.true, sites_are, all));
-    }
-
-pub returns : goal.returns
-returns c =
+pub returns-else-site_numbers-all : goal.returns-else-site_numbers-all
+returns-else-site_numbers-all c =
     let a = c.args in
     let all = ap (λ (z : ℕ). a.settings.sites * z) c.site_words.ensures in
     record {

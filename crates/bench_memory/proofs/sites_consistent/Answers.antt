@@ -1,101 +1,42 @@
--- `bench_memory::sites_consistent` meets its contract. The invariant: the sites before j are
--- consistent.
-use mathlib.Core.Path.{◌≡◌, refl, sym, ap, ◌∙◌}
-use Prim.Native.Nat.{◌*◌}
-use native.Mathlib.Omega.{arith}
-use lib.ListN.{get_or, drop}
+-- `bench_memory::sites_consistent` meets its contract: the site looked at is tested by its own part
+-- of the memory.
+use mathlib.Core.Path.{◌≡◌, sym, ap, ◌∙◌}
+use mathlib.Core.Bool.{Bool}
+use mathlib.Core.List.{List}
+use Prim.Native.Nat.{ℕ, ◌*◌, ◌<◌}
+use lib.ListN.{drop}
+use Rattle.model.specs.declared.Settings.{Settings}
+use Rattle.model.specs.declared.SiteRecord.{SiteRecord}
 use Rattle.model.specs.SiteMemory.{site_words, site_consistent}
-use Rattle.model.specs.Held.{no_record}
-use Rattle.bench_memory.proofs.PartLaws.{PartStarts, site_few, starts_at, own_is, part_fits}
-use Rattle.bench_memory.proofs.SitesLaws.{passing_start, passing_on, passing_fails, passing_end}
+use Rattle.bench_memory.specs.Promises.{SitesFit}
+use Rattle.bench_memory.proofs.PartLaws.{own_is}
+use Rattle.bench_memory.proofs.SitesLaws.{passing_on, passing_fails}
+use Rattle.site_memory.proofs.SitePart.{part}
 use Rattle.bench_memory.proofs.sites_consistent.Goals as goal
-use Rattle.bench_memory.proofs.sites_consistent.Goals.{After-site_consistent, In-loop-j}
 
--- The part of the site looked at starts within the memory, as the code counts its words.
-starts : (tested : In-loop-j)
-    →
-    PartStarts tested.args.memory.now tested.loop-j.j tested.site_words-words.result
-starts tested =
-    starts_at tested.requires _ tested.loop-j-test.true _ tested.site_words-words.ensures
+-- Site j, tested by the part that starts where the code counts it.
+own_decides : {settings : Settings} {memory : List ℕ} (fits : SitesFit settings memory) (j : ℕ)
+    → j < settings.sites
+    → (words : ℕ)
+    → words ≡ site_words settings
+    → (own : SiteRecord) {answer : Bool}
+    → answer ≡ site_consistent settings own (part memory j words)
+    → site_consistent settings own (drop (j * site_words settings) memory) ≡ answer
+own_decides {settings} fits j known words words_are own is =
+    ap (site_consistent settings own) (sym (own_is fits j known words words_are)) ∙ sym is
 
--- The site looked at is tested by its own part of the memory.
-own_decides : (looked : After-site_consistent)
-    →
-    let a = looked.args in
-    site_consistent a.settings (get_or a.sites.records looked.loop-j.j no_record)
-    (drop (looked.loop-j.j * site_words a.settings) a.memory.now)
-    ≡ looked.site_consistent.result
-own_decides looked =
-    let words = looked.site_words-words in
-    ap (site_consistent looked.args.settings _)
-    (sym (own_is looked.requires looked.loop-j.j looked.loop-j-test.true words.result
-    words.ensures))
-    ∙ sym looked.site_consistent.ensures
-
-pub loop-j-init : goal.loop-j-init
-loop-j-init c =
+pub returns-then-not-site_consistent : goal.returns-then-not-site_consistent
+returns-then-not-site_consistent c =
     let a = c.args in
-    record {
-      count_is = refl;
-      words_are = c.site_words-words.ensures;
-      passing = passing_start a.settings.sites a.settings a.sites.records
-          a.memory.now;
-    }
-
-pub overflow_mul-start : goal.overflow_mul-start
-overflow_mul-start c = omega (arith, (starts c).small)
-
-pub bounds-sites-j : goal.bounds-sites-j
-bounds-sites-j c =
-    omega (arith, site_few c.requires c.loop-j.j c.loop-j-test.true)
-
-pub offset_bounds-memory-start : goal.offset_bounds-memory-start
-offset_bounds-memory-start c = omega (
-  arith,
-  (starts
-      (goal.at.offset_bounds-memory-start c).In-loop-j).small,
-)
-
-pub slice_bounds-site_consistent-count : goal.slice_bounds-site_consistent-count
-slice_bounds-site_consistent-count c = omega (
-  arith,
-  (starts (goal.at.slice_bounds-site_consistent-count c).In-loop-j).within,
-)
-
-pub slice_bounds-site_consistent-start : goal.slice_bounds-site_consistent-start
-slice_bounds-site_consistent-start c = omega (
-  arith,
-  (starts (goal.at.slice_bounds-site_consistent-start c).In-loop-j).within,
-)
-
-pub site_consistent-requires : goal.site_consistent-requires
-site_consistent-requires c =
-    let words = c.site_words-words in
-    part_fits c.requires c.loop-j.j c.loop-j-test.true words.result
-    words.ensures
+    passing_fails a.settings.sites a.settings a.sites.records a.memory.now
+    c.loop-j.j c.loop-j.invariant c.loop-j-test.true
+    (own_decides c.requires c.loop-j.j c.loop-j-test.true _ c.site_words-words.ensures _
+    c.site_consistent.ensures ∙ c.if-not-site_consistent.true)
 
 pub loop-j-preserved : goal.loop-j-preserved
 loop-j-preserved c =
     let a = c.args in
-    record {
-      count_is = refl;
-      words_are = c.site_words-words.ensures;
-      passing = passing_on a.settings.sites a.settings a.sites.records a.memory.now
-          c.loop-j.j c.loop-j.invariant.passing c.loop-j-test.true
-          (own_decides (goal.at.loop-j-preserved c).After-site_consistent ∙
-          c.if-site_consistent.true);
-    }
-
-pub returns-else-site_consistent : goal.returns-else-site_consistent
-returns-else-site_consistent c =
-    let a = c.args in
-    passing_fails a.settings.sites a.settings a.sites.records a.memory.now
-    c.loop-j.j c.loop-j.invariant.passing c.loop-j-test.true
-    (own_decides (goal.at.returns-else-site_consistent c).After-site_consistent ∙
-    c.if-site_consistent.false)
-
-pub returns : goal.returns
-returns c =
-    let a = c.args in
-    passing_end a.settings.sites a.settings a.sites.records a.memory.now
-    c.loop-j.j c.loop-j.invariant.passing c.loop-j-test.false
+    passing_on a.settings.sites a.settings a.sites.records a.memory.now
+    c.loop-j.j c.loop-j.invariant c.loop-j-test.true
+    (own_decides c.requires c.loop-j.j c.loop-j-test.true _ c.site_words-words.ensures _
+    c.site_consistent.ensures ∙ c.if-not-site_consistent.false)

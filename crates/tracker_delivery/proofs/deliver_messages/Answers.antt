@@ -5,13 +5,13 @@ use Rattle.tracker_delivery.proofs.deliver_messages.Goals as goal
 
 pub send_two-begun-requires : goal.send_two-begun-requires
 send_two-begun-requires c =
-    rw c.empty_queue-waiting.ensures (two_ask c.requires.taken)
+    rw c.empty_queue.ensures (two_ask c.requires.taken)
 
 pub deliver-requires : goal.deliver-requires
 deliver-requires c =
     let u = c.requires in
     delivering_begun u
-    (begun_holds u.taken (rw c.empty_queue-waiting.ensures at c.send_two-begun.ensures))
+    (begun_holds u.taken (rw c.empty_queue.ensures at c.send_two-begun.ensures))
 
 pub returns : goal.returns
 returns c =
@@ -20,5 +20,5 @@ returns c =
           c.deliver.ensures.ends
           (delivering_begun u
           (begun_holds u.taken
-          (rw c.empty_queue-waiting.ensures at c.send_two-begun.ensures)));
+          (rw c.empty_queue.ensures at c.send_two-begun.ensures)));
     }

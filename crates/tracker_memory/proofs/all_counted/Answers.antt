@@ -1,81 +1,66 @@
--- `tracker_memory::all_counted` meets its contract. The invariant: pendings and arrivals of the
--- sites before j are added.
+-- `tracker_memory::all_counted` meets its contract: two sums over the records.
 use mathlib.Core.Path.{◌≡◌}
 use native.Mathlib.Omega.{arith}
-use Rattle.model.proofs.Thresholds.SettingsLaws.{settled}
-use Rattle.bench_memory.proofs.SitesLaws.{counted_start, counted_on, counted_end}
+use lib.ListN.{take}
+use Rattle.std.specs.List.{sum_by}
+use Rattle.std.proofs.Common.{rules}
+use Rattle.std.proofs.lemmas.Iterator.{YieldsList-from_slice, YieldsList-from_map}
+use Rattle.std.proofs.lemmas.Iterator.Consumers.{sum_by_from_yields_List, fits_by_from_yields_list}
+use Rattle.tracker_memory.proofs.RecordsLaws.{pending_of, arrivals_of, pending_is, arrivals_are, pending_small, arrivals_small}
 use Rattle.tracker_memory.proofs.all_counted.Goals as goal
+use Rattle.tracker_memory.proofs.all_counted.Goals.{After-sum-arrivals}
 
-pub loop-j-init : goal.loop-j-init
-loop-j-init c =
-    let a = c.args in
-    record {
-      within = omega arith;
-      counted_within = omega arith;
-      arrived_within = omega arith;
-      sums = λ settings memory.
-          counted_start a.settings.sites settings a.sites.records memory a.total;
-    }
+pub sum-pending-requires-clause-fits : goal.sum-pending-requires-clause-fits
+sum-pending-requires-clause-fits c =
+    let records = take c.args.settings.sites c.args.sites.records in
+    fits_by_from_yields_list pending_of records c.map.result _
+    (YieldsList-from_map _ pending_of (YieldsList-from_slice records cc) c.map.ensures.closure
+    (λ x r q k. search rules))
+    (omega (arith, pending_small c.requires.records_fit))
 
-pub bounds-sites-j : goal.bounds-sites-j
-bounds-sites-j c =
-    let fit = settled c.args.settings c.requires.records_fit.settings_accepted in
-    omega (arith, c.loop-j-test.true, fit.sites.at_most)
+pub sum-arrivals-requires-clause-fits : goal.sum-arrivals-requires-clause-fits
+sum-arrivals-requires-clause-fits c =
+    let records = take c.args.settings.sites c.args.sites.records in
+    fits_by_from_yields_list arrivals_of records c.map-2.result _
+    (YieldsList-from_map _ arrivals_of (YieldsList-from_slice records cc) c.map-2.ensures.closure
+    (λ x r q k. search rules))
+    (omega (arith, arrivals_small c.requires.records_fit))
 
-pub overflow_add-counted : goal.overflow_add-counted
-overflow_add-counted c =
-    let at-loop = c.loop-j in
-    let fit = settled c.args.settings c.requires.records_fit.settings_accepted in
-    let inside = c.loop-j-test.true in
+pending_sum : (c : After-sum-arrivals)
+    → c.sum-pending.result ≡ sum_by pending_of (take c.args.settings.sites c.args.sites.records)
+pending_sum c =
+    let records = take c.args.settings.sites c.args.sites.records in
+    sum_by_from_yields_List pending_of records c.map.result _ c.sum-pending.ensures.ran
+    (YieldsList-from_map _ pending_of (YieldsList-from_slice records cc) c.map.ensures.closure
+    (λ x r q k. search rules))
+
+arrivals_sum : (c : After-sum-arrivals)
+    → c.sum-arrivals.result ≡ sum_by arrivals_of (take c.args.settings.sites c.args.sites.records)
+arrivals_sum c =
+    let records = take c.args.settings.sites c.args.sites.records in
+    sum_by_from_yields_List arrivals_of records c.map-2.result _ c.sum-arrivals.ensures.ran
+    (YieldsList-from_map _ arrivals_of (YieldsList-from_slice records cc) c.map-2.ensures.closure
+    (λ x r q k. search rules))
+
+pub overflow_add-result : goal.overflow_add-result
+overflow_add-result c =
     omega (
       arith,
-      c.requires.records_fit.pending_within at-loop.j inside,
-      at-loop.invariant.counted_within,
+      pending_sum c,
+      pending_small c.requires.records_fit,
       c.requires.total_within,
-      inside,
-      fit.sites.at_most,
     )
-
-pub overflow_add-arrived : goal.overflow_add-arrived
-overflow_add-arrived c =
-    let at-loop = c.loop-j in
-    let fit = settled c.args.settings c.requires.records_fit.settings_accepted in
-    let inside = c.loop-j-test.true in
-    omega (
-      arith,
-      c.requires.records_fit.arrivals_within at-loop.j inside,
-      at-loop.invariant.arrived_within,
-      inside,
-      fit.sites.at_most,
-    )
-
-pub loop-j-preserved : goal.loop-j-preserved
-loop-j-preserved c =
-    let at-loop = c.loop-j in
-    let a = c.args in
-    let inside = c.loop-j-test.true in
-    let fits = c.requires.records_fit in
-    record {
-      within = omega (arith, inside);
-      counted_within =
-          omega (arith, at-loop.invariant.counted_within, fits.pending_within at-loop.j inside);
-      arrived_within =
-          omega (arith, at-loop.invariant.arrived_within, fits.arrivals_within at-loop.j inside);
-      sums = λ settings memory.
-          counted_on a.settings.sites settings a.sites.records memory a.total
-          at-loop.counted at-loop.arrived at-loop.j (at-loop.invariant.sums settings memory)
-          inside (omega (arith, inside, fits.all_records));
-    }
 
 pub returns : goal.returns
 returns c =
-    let at-loop = c.loop-j in
     let a = c.args in
-    let last : at-loop.j ≡ a.settings.sites =
-    omega (arith, c.loop-j-test.false, at-loop.invariant.within) in
+    let enough = c.requires.records_fit.all_records in
     record {
       counted = λ memory.
-          counted_end a.settings.sites a.settings a.sites.records memory a.total
-          at-loop.counted at-loop.arrived at-loop.j
-          (at-loop.invariant.sums a.settings memory) last;
+          rw (
+            pending_sum c,
+            arrivals_sum c,
+            pending_is a.settings a.settings.sites a.sites.records memory enough,
+            arrivals_are a.settings a.settings.sites a.sites.records memory enough,
+          );
     }

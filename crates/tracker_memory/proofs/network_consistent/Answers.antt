@@ -1,7 +1,7 @@
 -- `tracker_memory::network_consistent` meets its contract: what every network must meet, and that
 -- it is at rest.
 use mathlib.Core.Path.{sym, ◌∙◌}
-use Rattle.tracker_memory.proofs.NetworkLaws.{rest_decides, bench_refused, bench_counts}
+use Rattle.tracker_memory.proofs.NetworkLaws.{rest_decides, bench_counts}
 use Rattle.tracker_memory.proofs.network_consistent.Goals as goal
 
 pub at_rest-requires : goal.at_rest-requires
@@ -18,9 +18,3 @@ returns-then-bench_consistent c =
     ∙ rest_decides a.settings a.sites a.coordinator a.site_memory.now
     a.coordinator_memory.now
     (sym c.bench_consistent.ensures ∙ c.if-bench_consistent.true)
-
-pub returns : goal.returns
-returns c =
-    let a = c.args in
-    bench_refused a.settings a.sites a.coordinator a.site_memory.now
-    a.coordinator_memory.now (sym c.bench_consistent.ensures ∙ c.if-bench_consistent.false)

@@ -54,16 +54,16 @@ offset_bounds-site_memory-start c =
 pub overflow_mul-start : goal.overflow_mul-start
 overflow_mul-start c = omega (arith, (offset_bounds-site_memory-start c).fits)
 
-pub slice_bounds-part-count : goal.slice_bounds-part-count
-slice_bounds-part-count c =
+pub slice_bounds-receive_step-count : goal.slice_bounds-receive_step-count
+slice_bounds-receive_step-count c =
     let u = c.requires.delivering in
     let way = sym c.to_coordinator.ensures
     ∙ c.if-to_coordinator.false in
     starts_within u (handing u c.if-waiting-eq0.false) way c.site_words.result
     c.site_words.ensures
 
-pub slice_bounds-part-start : goal.slice_bounds-part-start
-slice_bounds-part-start c = slice_bounds-part-count c
+pub slice_bounds-receive_step-start : goal.slice_bounds-receive_step-start
+slice_bounds-receive_step-start c = slice_bounds-receive_step-count c
 
 pub receive_step-answer-requires-2 : goal.receive_step-answer-requires-2
 receive_step-answer-requires-2 c =

@@ -8,11 +8,9 @@
 --   MarginSays, QuantileSays        the promises
 --   ReadAsks, SidesAsk, ValuesAsk     what is asked inside: a coordinator that passed its tests
 --   side_needed                       what an item's number has to reach
-use Rattle.std.specs.Prelude.{◌≡◌, true, List, ℤ, pos, ℕ, Result, Ok, Err, ◌-◌, ◌*◌, ◌≤◌, leb, length, get_or, if◌then◌else◌}
+use Rattle.std.specs.Prelude.{◌≡◌, true, List, ℤ, pos, ℕ, Result, Ok, Err, ◌-◌, ◌*◌, ◌≤◌, leb, length, get_or, if◌then◌else◌, Option, None}
 use Rattle.model.specs.declared.Settings.{Settings}
 use Rattle.model.specs.declared.CoordinatorRecord.{CoordinatorRecord}
-use Rattle.model.specs.declared.Quantile.{Quantile}
-use Rattle.model.specs.declared.Quantile.TheVariants.{Nothing}
 use Rattle.model.specs.declared.Refusal.{Refusal}
 use Rattle.model.specs.Choice.{is_zero}
 use Rattle.model.specs.Refusals.{when, ◌or_else◌, no_refusal, unknown_item, number_of}
@@ -54,11 +52,11 @@ pub record MarginSays (settings : Settings) (numbers : CoordinatorRecord) (item 
 -- What the quantile call comes to: the refusal, or 0, and the quantile, none where it is refused.
 pub record QuantileAnswer : Type 0 where
   pub refusal : ℕ
-  pub quantile : Quantile
+  pub quantile : Option ℕ
 
-abbrev pub quantile_answer : Result Quantile Refusal → QuantileAnswer
+abbrev pub quantile_answer : Result (Option ℕ) Refusal → QuantileAnswer
 quantile_answer (Ok found) = record { refusal = no_refusal; quantile = found }
-quantile_answer (Err refusal) = record { refusal = number_of refusal; quantile = Nothing }
+quantile_answer (Err refusal) = record { refusal = number_of refusal; quantile = None }
 
 pub record QuantileSays (settings : Settings) (numbers : CoordinatorRecord) (memory : List ℕ)
     (r : QuantileAnswer) : Type 0 where
@@ -67,7 +65,7 @@ pub record QuantileSays (settings : Settings) (numbers : CoordinatorRecord) (mem
       r.quantile
       ≡ (if is_zero (coordinator_memory_refusal settings numbers memory)
       then quantile_of settings (coordinator_in settings numbers memory)
-      else Nothing)
+      else None)
 
 -- ---- What is asked inside
 

@@ -11,9 +11,7 @@ ghost use Rattle.model.specs.Reading.{difference, least_value, quantile_of};
 ghost use Rattle.coordinator_reading.specs.Promises.{margin_answer, quantile_answer, MarginSays, QuantileSays, ReadAsks, SidesAsk, ValuesAsk, margin_refusal, side_needed};
 
 use coordinator_memory::test_coordinator_memory;
-use model::{
-    CoordinatorRecord, LIST_FACTOR, Quantile, RANK_FACTOR, Refusal, Settings, VALUE_COUNT,
-};
+use model::{CoordinatorRecord, LIST_FACTOR, RANK_FACTOR, Refusal, Settings, VALUE_COUNT};
 
 // (2p - e) × total, the side of the list rule that an item's number has to reach. Internal: the
 // margin call, and crate `coordinator_list`'s list call, make the test `test_coordinator_memory`
@@ -72,7 +70,7 @@ pub fn read_margin(
 }
 
 // The least value with enough counts at or below it.
-fn least_value(rank: u32, total: u64, counts: &[u64]) -> Quantile
+fn least_value(rank: u32, total: u64, counts: &[u64]) -> Option<u32>
     requires { ValuesAsk rank total counts.now }
     ensures { result ≡ least_value rank total counts.now }
 {
@@ -81,36 +79,36 @@ fn least_value(rank: u32, total: u64, counts: &[u64]) -> Quantile
     for (value, count) in counts.iter().enumerate() {
         below += count;
         if needed <= RANK_FACTOR * below {
-            return Quantile::Value(value as u32);
+            return Some(value as u32);
         }
     }
-    Quantile::Nothing
+    None
 }
 
 // The quantile of a coordinator that passed its tests: from the value counts while the threshold is
 // 1, later from the record.
-fn quantile_value(settings: Settings, coordinator: CoordinatorRecord, memory: &[u64]) -> Quantile
+fn quantile_value(settings: Settings, coordinator: CoordinatorRecord, memory: &[u64]) -> Option<u32>
     requires { ReadAsks settings coordinator memory.now }
     ensures { result ≡ quantile_of settings (coordinator_in settings coordinator
         memory.now) }
 {
     if coordinator.threshold == 1 {
         if coordinator.total == 0 {
-            return Quantile::Nothing;
+            return None;
         }
         let items = settings.universe as usize;
         let words = items + VALUE_COUNT;
         return least_value(settings.rank, coordinator.total, &memory[items..words]);
     }
-    Quantile::Value(coordinator.quantile)
+    Some(coordinator.quantile)
 }
 
-// The tracked quantile.
+// The tracked quantile: document 01's class, or none.
 pub fn read_quantile(
     settings: Settings,
     coordinator: CoordinatorRecord,
     memory: &[u64],
-) -> Result<Quantile, Refusal>
+) -> Result<Option<u32>, Refusal>
     ensures { QuantileSays settings coordinator memory.now (quantile_answer result) }
 {
     test_coordinator_memory(settings, coordinator, memory)?;

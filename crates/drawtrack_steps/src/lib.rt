@@ -13,7 +13,7 @@ ghost use Rattle.drawtrack_steps.specs.Outcome.{buffers, ended, RefuseSays};
 ghost use Rattle.drawtrack_steps.specs.Steps.{DrawSays, FinishSays};
 
 use model::{
-    CoordinatorRecord, MESSAGE_WIDTH, NO_REFUSAL, Quantile, Refusal, Settings, Sites, Word,
+    CoordinatorRecord, MESSAGE_WIDTH, NO_REFUSAL, Refusal, Settings, Sites, Word,
 };
 use worklist_reader::NextLine;
 
@@ -128,7 +128,7 @@ pub fn finish(session: Session, memory: &[u64], list: &mut [u32], out: &mut [u8]
         Err(refusal) => return refuse(session, refusal, out),
     };
     let read = coordinator_reading::read_quantile(settings, coordinator, memory);
-    let quantile = read.unwrap_or(Quantile::Nothing);
+    let quantile = read.unwrap_or(None);
     let after_list = output_transcript::write_listed(list, count as usize, out, 0);
     let after_class = output_transcript::write_class(quantile, out, after_list);
     let total = message_counts::total_count(settings, session.sites.messages);

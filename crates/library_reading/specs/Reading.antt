@@ -5,9 +5,7 @@
 --   ListExported             the listed codes, and how many
 --   MarginExported           how far a code is above the list rule, or below it
 --   ClassExported            the tracked class
-use Rattle.std.specs.Prelude.{◌≡◌, ℕ, ℤ}
-use Rattle.model.specs.declared.Quantile.{Quantile}
-use Rattle.model.specs.declared.Quantile.TheVariants.{Nothing, Value}
+use Rattle.std.specs.Prelude.{◌≡◌, ℕ, ℤ, Option, None, Some}
 use Rattle.coordinator_list.specs.declared.Listed.{Listed}
 use Rattle.coordinator_list.specs.Promises.{ListSays}
 use Rattle.coordinator_reading.specs.declared.Margin.{Margin}
@@ -32,9 +30,9 @@ pub record MarginExported (settings desk memory : Row) (code : ℕ) (margin : Le
   pub refusal : answer ≡ read.refusal
   pub margin_is : margin.after ≡ handed_out read.refusal read.margin margin.before
 
-abbrev pub class_number : Quantile → ℕ
-class_number Nothing = greatest_narrow
-class_number (Value value) = value
+abbrev pub class_number : Option ℕ → ℕ
+class_number None = greatest_narrow
+class_number (Some value) = value
 
 pub record ClassExported (settings desk memory : Row) (class : Number) (answer : ℕ)
     : Type 0 where

@@ -7,7 +7,7 @@ ghost use Rattle.library_rows.specs.Rows.{lent};
 ghost use Rattle.library_reading.specs.Reading.{class_number, ListExported, MarginExported, ClassExported};
 
 use coordinator_numbers::{COORDINATOR_NUMBERS, coordinator_from};
-use model::{NO_REFUSAL, Quantile};
+use model::NO_REFUSAL;
 use record_numbers::{SETTINGS_NUMBERS, settings_from};
 
 // The number that stands for no class: the greatest of four bytes.
@@ -63,12 +63,12 @@ pub fn tracker_desk_margin(
 }
 
 // The class as a number.
-fn class_number(quantile: Quantile) -> u32
+fn class_number(quantile: Option<u32>) -> u32
     ensures { result ≡ class_number quantile }
 {
     match quantile {
-        Quantile::Nothing => NO_CLASS,
-        Quantile::Value(value) => value,
+        None => NO_CLASS,
+        Some(value) => value,
     }
 }
 

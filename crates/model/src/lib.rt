@@ -256,10 +256,3 @@ pub struct CoordinatorRecord {
     pub quantile: u32,
     pub phase: Phase,
 }
-
-// The tracked quantile as an answer: document 01's class, or "none".
-#[derive(Clone, Copy)]
-pub enum Quantile {
-    Nothing,
-    Value(u32),
-}

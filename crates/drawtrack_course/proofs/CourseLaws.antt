@@ -22,8 +22,7 @@ use Rattle.model.specs.Transcript.{message_lines, refused_line, transcript_from,
 use Rattle.model.proofs.Runs.RunLaws.{run_from_append, run_from_draws}
 use Rattle.model.proofs.Touches.DrawLaws.{line_taken}
 use Rattle.output_transcript.proofs.LineBounds.{message_lines_append}
-use Rattle.worklist_reader.specs.declared.Step.{Step}
-use Rattle.worklist_reader.specs.Walk.{last_line, step_of, step_at, then_read}
+use Rattle.worklist_reader.specs.Walk.{Step, last_line, step_of, step_at, then_read}
 use Rattle.worklist_reader.proofs.WalkLaws.{walk_claims}
 use Rattle.drawtrack_steps.specs.declared.Session.{Session}
 use Rattle.drawtrack_steps.specs.declared.Moved.{Moved}

@@ -20,7 +20,7 @@ use Rattle.model.specs.Network.{Network, after_line}
 use Rattle.model.specs.Runs.{Run, run_of, line_refusal_in}
 use Rattle.model.specs.MessageCounts.{none_counted, counted_up}
 use Rattle.model.proofs.Touches.DrawLaws.{line_few}
-use Rattle.worklist_reader.specs.declared.Step.{Step}
+use Rattle.worklist_reader.specs.Walk.{Step}
 use Rattle.tracker.specs.Batch.{BatchCall, BatchHeld, BatchSays, batch_in, unless_refused, log_room}
 use Rattle.history.specs.State.{State, network_of}
 use Rattle.history.specs.Steps.{after_batch}

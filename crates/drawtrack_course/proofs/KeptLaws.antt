@@ -11,7 +11,7 @@ use lib.ListN.{length}
 use Rattle.model.specs.Choice.{is_zero}
 use Rattle.model.specs.Lines.{read_fields}
 use Rattle.model.specs.Transcript.{refused_line}
-use Rattle.worklist_reader.specs.declared.Step.{Step}
+use Rattle.worklist_reader.specs.Walk.{Step}
 use Rattle.tracker.specs.Batch.{batch_in}
 use Rattle.coordinator_list.specs.Promises.{list_refusal}
 use Rattle.drawtrack_steps.specs.declared.Session.{Session}

@@ -15,7 +15,7 @@ use Rattle.model.specs.Choice.{is_zero}
 use Rattle.model.specs.Refusals.{no_refusal}
 use Rattle.model.specs.Runs.{Run, line_refusal_in}
 use Rattle.model.specs.Transcript.{message_lines, refused_line}
-use Rattle.worklist_reader.specs.declared.Step.{Step}
+use Rattle.worklist_reader.specs.Walk.{Step}
 use Rattle.tracker.specs.Batch.{BatchCall, batch_in}
 use Rattle.drawtrack_steps.specs.declared.Session.{Session}
 use Rattle.output_lines.specs.Promises.{at_start}

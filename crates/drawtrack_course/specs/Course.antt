@@ -25,7 +25,7 @@ use Rattle.model.specs.MessageCounts.{none_counted, counted_up}
 use Rattle.model.specs.Lines.{Fields, read_fields}
 use Rattle.model.specs.Runs.{Run, run_of, line_refusal_in}
 use Rattle.model.specs.Transcript.{message_lines, refused_line, result_lines, program_refusal}
-use Rattle.worklist_reader.specs.declared.Step.{Step}
+use Rattle.worklist_reader.specs.Walk.{Step}
 use Rattle.worklist_reader.specs.Promises.{line_refusal, settings_in, bytes_after}
 use Rattle.drawtrack_steps.specs.declared.Session.{Session}
 use Rattle.drawtrack_steps.specs.declared.Moved.{Moved}

@@ -9,8 +9,7 @@ use Rattle.std.specs.declared.option.Option.{Option}
 use Rattle.std.specs.Prelude.{Some, None}
 use Rattle.std.specs.Io.KnownBytes.{Appends}
 use borrow.Author.Tests.{ltb-true, ltb-false}
-use Rattle.descriptors.specs.declared.Read.{Read}
-use Rattle.descriptors.specs.Descriptors.{ReadAllGives}
+use Rattle.descriptors.specs.Descriptors.{Read, ReadAllGives}
 use Rattle.drawtrack_steps.specs.Outcome.{Buffers}
 use Rattle.drawtrack_course.specs.Rooms.{input_room}
 use Rattle.drawtrack_course.specs.Ending.{Ending, ending}

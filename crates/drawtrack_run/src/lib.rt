@@ -9,10 +9,10 @@
 #![tactic(auto)]
 
 ghost use Rattle.std.specs.Prelude.{IfSome};
-ghost use Rattle.descriptors.specs.Descriptors.{ReadAllSays, ReadAllGives};
+ghost use Rattle.descriptors.specs.Descriptors.{read_in, ReadAllSays, ReadAllGives};
 ghost use Rattle.drawtrack_run.specs.Running.{RunSays, RunGives};
 
-use descriptors::{Read, fail, read_all, write_all};
+use descriptors::{ReadFailed, fail, read_all, write_all};
 use drawtrack_response::respond;
 use drawtrack_start::{
     SESSION_COORDINATOR_NUMBERS, SESSION_INPUT_BYTES, SESSION_LIST_PLACES, SESSION_LOG_NUMBERS,
@@ -24,15 +24,19 @@ use std::io;
 use std::io::Write;
 
 // Reads the input; where that fails says so to the writer of failures.
-fn take_in<R: io::Read, E: Write>(input: &mut R, failures: &mut E, bytes: &mut [u8]) -> Read
-    ensures counts { ReadAllSays bytes.new result }
-    ensures given { ReadAllGives (R.remaining input.old) (R.remaining input.new) bytes.new result }
+fn take_in<R: io::Read, E: Write>(
+    input: &mut R,
+    failures: &mut E,
+    bytes: &mut [u8],
+) -> Result<usize, ReadFailed>
+    ensures counts { ReadAllSays bytes.new (read_in result) }
+    ensures given { ReadAllGives (R.remaining input.old) (R.remaining input.new) bytes.new
+        (read_in result) }
 {
     let read = read_all(input, bytes);
-    if read.whole {
-        return read;
+    if let Err(failed) = read {
+        fail(failures, b"drawtrack: input failed", failed.error);
     }
-    fail(failures, b"drawtrack: input failed", read.error);
     read
 }
 
@@ -56,11 +60,14 @@ pub fn drawtrack_run<R: io::Read, W: Write, E: Write>(
     let mut out = [0u8; SESSION_OUT_BYTES];
     let mut reason = [0u8; REASON_BYTES];
     let read = take_in(input, failures, &mut bytes);
-    let length = read.length;
+    let length = match read {
+        Ok(length) => length,
+        Err(failed) => failed.length,
+    };
     let response = respond(
         output,
         failures,
-        read.whole,
+        read.is_ok(),
         &bytes[..length],
         &mut site_memory,
         &mut coordinator_memory,
@@ -69,7 +76,6 @@ pub fn drawtrack_run<R: io::Read, W: Write, E: Write>(
         &mut out,
         &mut reason,
     );
-    let said = response.said;
-    write_all(failures, &reason[..said]);
+    let _ = write_all(failures, &reason[..response.said]);
     response.status
 }

@@ -28,12 +28,11 @@ fn hand_out<W: Write, E: Write>(
     ensures { WriteAllGives (W.contents output.old) (W.contents output.new) (take written out.now)
         result }
 {
-    let put = write_all(output, &out[..written]);
-    if put.whole {
-        return true;
+    if let Err(error) = write_all(output, &out[..written]) {
+        fail(failures, b"drawtrack: output failed", error);
+        return false;
     }
-    fail(failures, b"drawtrack: output failed", put.error);
-    false
+    true
 }
 
 // A call for each line, until the session has ended or a write was not taken; what each wrote is

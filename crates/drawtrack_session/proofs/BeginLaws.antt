@@ -17,11 +17,8 @@ use Rattle.model.specs.CoordinatorMemory.{coordinator_words, coordinator_memory}
 use Rattle.model.specs.NetworkMemory.{sites_words}
 use Rattle.model.specs.Lines.{Fields, read_fields}
 use Rattle.model.proofs.BetweenArrivals.ReportLaws.{value_count_is}
-use Rattle.worklist_reader.specs.declared.SettingsRead.{SettingsRead}
-use Rattle.worklist_reader.specs.Promises.{SettingsSays, bytes_after}
-use Rattle.site_start.specs.declared.StartedSites.{StartedSites}
+use Rattle.worklist_reader.specs.Promises.{SettingsReadOutcome, SettingsSays, bytes_after}
 use Rattle.site_start.specs.Starts as SiteStarts
-use Rattle.coordinator.specs.declared.StartedCoordinator.{StartedCoordinator}
 use Rattle.coordinator.specs.Calls as CoordinatorCalls
 use Rattle.drawtrack_steps.specs.declared.Session.{Session}
 use Rattle.drawtrack_steps.specs.declared.Moved.{Moved}
@@ -59,7 +56,7 @@ module _ (settings : Settings) (site_memory memory : List ℕ)
 
 -- ---- The two answers
 
-module _ (input : List ℕ) (given : Buffers) (read : SettingsRead) (says : SettingsSays input read)
+module _ (input : List ℕ) (given : Buffers) (read : SettingsReadOutcome) (says : SettingsSays input read)
     (session : Session) (session-is : session ≡ fresh_session read.settings read.used)
     (refusal : ℕ)
     (refusal-says : refusal
@@ -91,7 +88,7 @@ module _ (input : List ℕ) (given : Buffers) (read : SettingsRead) (says : Sett
       ∙ sym (rw (ne_eqb rule 0 (λ none. refused (refusal_is ∙ none))))
 
   pub begin_started : (site_after coordinator_after : List ℕ)
-      (sites : StartedSites) (coordinator : StartedCoordinator)
+      (sites : SiteStarts.SitesStart) (coordinator : CoordinatorCalls.CoordinatorStart)
       → SiteStarts.StartSitesSays read.settings given.site_memory site_after sites
       → CoordinatorCalls.StartCoordinatorSays read.settings given.coordinator_memory
       coordinator_after

@@ -5,8 +5,7 @@
 use Rattle.std.specs.Prelude.{◌≡◌, true, List, ℕ, if◌then◌else◌}
 use Rattle.model.specs.Choice.{is_zero}
 use Rattle.model.specs.Refusals.{no_refusal}
-use Rattle.worklist_reader.specs.declared.Step.{Step}
-use Rattle.worklist_reader.specs.Walk.{step_at}
+use Rattle.worklist_reader.specs.Walk.{Step, step_at}
 use Rattle.tracker.specs.Batch.{batch_in}
 use Rattle.drawtrack_steps.specs.declared.Session.{Session}
 use Rattle.drawtrack_steps.specs.declared.Moved.{Moved}

@@ -6,11 +6,12 @@
 #![tactic(auto)]
 
 ghost use Rattle.std.specs.Prelude.{◌≡◌, []};
+ghost use Rattle.model.specs.Lines.{settings_of};
 ghost use Rattle.drawtrack_steps.specs.Outcome.{buffers};
 ghost use Rattle.drawtrack_session.specs.Begin.{fresh_session, BeginSays};
 ghost use Rattle.drawtrack_session.specs.Advance.{AdvanceSays};
 
-use drawtrack_start::start_refusal;
+use drawtrack_start::test_start;
 use drawtrack_steps::{Moved, Session};
 use model::{
     CoordinatorRecord, NO_REFUSAL, Phase, SITE_RECORDS, Settings, SiteRecord, Sites, Word,
@@ -27,11 +28,10 @@ fn fresh_session(settings: Settings, at: usize) -> Session
         used: 0,
         dropped: 0,
     };
-    let phase = Phase::Idle;
     Session {
         going: true,
         refusal: NO_REFUSAL,
-        settings: settings,
+        settings,
         sites: Sites {
             records: [site; SITE_RECORDS],
             messages: [0; SITE_RECORDS],
@@ -42,11 +42,26 @@ fn fresh_session(settings: Settings, at: usize) -> Session
             threshold: 1,
             signals: 0,
             quantile: 0,
-            phase: phase,
+            phase: Phase::Idle,
         },
-        at: at,
+        at,
         line: 0,
     }
+}
+
+// A session whose settings line is malformed: it has no settings, and stands at the first byte.
+fn unread_session() -> Session
+    ensures { result ≡ fresh_session (settings_of []) 0 }
+{
+    let settings = Settings {
+        sites: 0,
+        epsilon: 0,
+        phi: 0,
+        rank: 0,
+        capacity: 0,
+        universe: 0,
+    };
+    fresh_session(settings, 0)
 }
 
 // Reads the settings line and starts the network fresh, or writes why not. The start calls clear
@@ -62,22 +77,24 @@ pub fn begin(
         (buffers site_memory.new coordinator_memory.new [] []
         out.new) result }
 {
-    let read = worklist_reader::read_settings(input);
-    let settings = read.settings;
-    let session = fresh_session(settings, read.used);
-    let refusal = start_refusal(
-        read,
+    let read = match worklist_reader::read_settings(input) {
+        Ok(read) => read,
+        Err(refusal) => return drawtrack_steps::refuse(unread_session(), refusal, out),
+    };
+    let session = fresh_session(read.settings, read.used);
+    let tested = test_start(
+        read.settings,
         input.len() - read.used,
         site_memory.len(),
         coordinator_memory.len(),
     );
-    if refusal != NO_REFUSAL {
+    if let Err(refusal) = tested {
         return drawtrack_steps::refuse(session, refusal, out);
     }
-    site_start::start_sites(settings, site_memory);
-    coordinator::start_coordinator(settings, coordinator_memory);
+    let _ = site_start::start_sites(read.settings, site_memory);
+    let _ = coordinator::start_coordinator(read.settings, coordinator_memory);
     Moved {
-        session: session,
+        session,
         written: 0,
     }
 }
@@ -100,12 +117,16 @@ pub fn advance(
         coordinator_memory.new log.new list.new out.new)
         result }
 {
-    let step = worklist_reader::read_line(input, session.at, session.line);
-    if step.found {
-        return drawtrack_steps::take_draw(session, step, site_memory, coordinator_memory, log, out);
+    match worklist_reader::read_line(input, session.at, session.line) {
+        Ok(Some(next)) => drawtrack_steps::take_draw(
+            session,
+            next,
+            site_memory,
+            coordinator_memory,
+            log,
+            out,
+        ),
+        Ok(None) => drawtrack_steps::finish(session, coordinator_memory, list, out),
+        Err(refusal) => drawtrack_steps::refuse(session, refusal, out),
     }
-    if step.refusal != NO_REFUSAL {
-        return drawtrack_steps::refuse(session, step.refusal, out);
-    }
-    drawtrack_steps::finish(session, coordinator_memory, list, out)
 }

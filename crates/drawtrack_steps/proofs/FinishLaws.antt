@@ -18,17 +18,15 @@ use Rattle.model.specs.Reading.{heavy_hitters, quantile_of}
 use Rattle.model.specs.Transcript.{end_line, class_word, messages_word, quantile_word}
 use Rattle.model.proofs.Thresholds.RefusalLaws.{both_accepted}
 use Rattle.output_lines.specs.Promises.{counted_line, listed_line, Written, written_to, at_start, line_after, lines_after, LineWritten}
-use Rattle.coordinator_list.specs.declared.Listed.{Listed}
-use Rattle.coordinator_reading.specs.declared.QuantileRead.{QuantileRead}
-use Rattle.coordinator_reading.specs.Promises.{QuantileSays}
-use Rattle.coordinator_list.specs.Promises.{list_refusal, ListSays}
+use Rattle.coordinator_reading.specs.Promises.{QuantileAnswer, QuantileSays}
+use Rattle.coordinator_list.specs.Promises.{list_refusal, ListAnswer, ListSays}
 use Rattle.message_counts.specs.Totals.{total_held}
 use Rattle.drawtrack_steps.specs.declared.Session.{Session}
 use Rattle.drawtrack_steps.specs.Outcome.{outcome, ended, RefuseSays, refused_of, buffers}
 use Rattle.drawtrack_steps.specs.declared.Moved.{Moved}
 use Rattle.drawtrack_steps.specs.Steps.{result_lines_of, FinishSays}
 
-pub settings_pass : (session : Session) (memory listBefore listAfter : List ℕ) (listed : Listed)
+pub settings_pass : (session : Session) (memory listBefore listAfter : List ℕ) (listed : ListAnswer)
     → ListSays session.settings session.coordinator memory listBefore listAfter listed
     → listed.refusal ≡ no_refusal
     → settings_refusal session.settings ≡ no_refusal
@@ -37,7 +35,7 @@ settings_pass session memory listBefore listAfter listed lists none =
     (both_accepted (settings_refusal session.settings) _
     (both_accepted tested _ (sym lists.refusal ∙ none)).first_accepted).first_accepted
 
-module _ (session : Session) (memory listBefore listAfter : List ℕ) (listed : Listed)
+module _ (session : Session) (memory listBefore listAfter : List ℕ) (listed : ListAnswer)
     (lists : ListSays session.settings session.coordinator memory listBefore listAfter listed)
     (before after : List ℕ) (moved : Moved) where
   abbrev settings : Settings
@@ -63,7 +61,7 @@ module _ (session : Session) (memory listBefore listAfter : List ℕ) (listed : 
             ∙ sym (rw some);
       }
 
-  module _ (none : listed.refusal ≡ no_refusal) (read : QuantileRead)
+  module _ (none : listed.refusal ≡ no_refusal) (read : QuantileAnswer)
       (reads : QuantileSays settings session.coordinator memory read) where
     fine : rule ≡ no_refusal
     fine = sym lists.refusal ∙ none

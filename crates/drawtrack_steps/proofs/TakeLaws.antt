@@ -21,7 +21,7 @@ use Rattle.model.specs.Held.{network_of}
 use Rattle.model.specs.Network.{Network}
 use Rattle.model.specs.Runs.{Batch, batch_refusal, batch_from, batch_of}
 use Rattle.model.specs.Transcript.{message_lines}
-use Rattle.worklist_reader.specs.declared.Step.{Step}
+use Rattle.worklist_reader.specs.Walk.{Step}
 use Rattle.tracker_queue.proofs.LogLaws.{length_message_numbers}
 use Rattle.tracker.specs.Batch.{BatchCall, BatchSays, start_refusal, batch_in, unless_refused, log_room, message_numbers, messages_in, BatchHeld}
 use Rattle.history.specs.State.{State}

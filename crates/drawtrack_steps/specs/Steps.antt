@@ -14,7 +14,7 @@ use Rattle.model.specs.NetworkMemory.{sites_memory}
 use Rattle.model.specs.Reading.{heavy_hitters, quantile_of}
 use Rattle.model.specs.Runs.{Batch}
 use Rattle.model.specs.Transcript.{end_line, class_word, messages_word, quantile_word, message_lines}
-use Rattle.worklist_reader.specs.declared.Step.{Step}
+use Rattle.worklist_reader.specs.Walk.{Step}
 use Rattle.output_lines.specs.Promises.{counted_line, listed_line}
 use Rattle.coordinator_list.specs.Promises.{list_refusal}
 use Rattle.tracker.specs.Batch.{BatchCall, start_refusal, batch_in, unless_refused, sites_after, message_numbers}

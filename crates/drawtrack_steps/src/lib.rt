@@ -6,12 +6,16 @@
 
 ghost use Rattle.std.specs.Prelude.{◌≡◌, [], ◌*◌, ◌≤◌, length};
 ghost use Rattle.model.specs.Messages.{message_width};
+ghost use Rattle.model.specs.Refusals.{number_of};
+ghost use Rattle.worklist_reader.specs.Walk.{step_to};
 ghost use Rattle.drawtrack_steps.specs.Output.{PutMessagesSays};
 ghost use Rattle.drawtrack_steps.specs.Outcome.{buffers, ended, RefuseSays};
 ghost use Rattle.drawtrack_steps.specs.Steps.{DrawSays, FinishSays};
 
-use model::{CoordinatorRecord, MESSAGE_WIDTH, NO_REFUSAL, Settings, Sites, Word};
-use worklist_reader::Step;
+use model::{
+    CoordinatorRecord, MESSAGE_WIDTH, NO_REFUSAL, Refusal, Settings, Sites, Word,
+};
+use worklist_reader::NextLine;
 
 // Where a session stands: whether it goes on, why it was refused or 0, the settings, the records of
 // the network, the place of its reader in the input and the number of the line there.
@@ -39,12 +43,10 @@ fn put_messages(log: &[u64], count: usize, out: &mut [u8]) -> usize
     ensures { PutMessagesSays log.now count out.old out.new
         result }
 {
-    let mut place: usize = 0;
-    let mut done: usize = 0;
-    while done < count {
+    let mut place = 0;
+    for done in 0..count {
         let i = MESSAGE_WIDTH * done;
         place = output_lines::write_record(log[i], log[i + 1], log[i + 2], log[i + 3], out, place);
-        done += 1;
     }
     place
 }
@@ -53,89 +55,83 @@ fn put_messages(log: &[u64], count: usize, out: &mut [u8]) -> usize
 fn stop(session: Session, refusal: u32, written: usize) -> Moved
     ensures { result ≡ ended session refusal written }
 {
-    let mut ended = session;
-    ended.going = false;
-    ended.refusal = refusal;
     Moved {
-        session: ended,
-        written: written,
+        session: Session {
+            going: false,
+            refusal,
+            ..session
+        },
+        written,
     }
 }
 
 // A refusal ends the session with its line.
-pub fn refuse(session: Session, refusal: u32, out: &mut [u8]) -> Moved
-    ensures { RefuseSays session refusal out.old out.new result }
+pub fn refuse(session: Session, refusal: Refusal, out: &mut [u8]) -> Moved
+    ensures { RefuseSays session (number_of refusal) out.old out.new result }
 {
-    let written = output_transcript::write_refused(refusal, out, 0);
-    stop(session, refusal, written)
+    let number = refusal.number();
+    let written = output_transcript::write_refused(number, out, 0);
+    stop(session, number, written)
 }
 
 // Takes the draw of a line: its messages, or why it is refused.
 pub fn take_draw(
     session: Session,
-    step: Step,
+    next: NextLine,
     site_memory: &mut [Word],
     coordinator_memory: &mut [u64],
     log: &mut [u64],
     out: &mut [u8],
 ) -> Moved
-    ensures { DrawSays session step (buffers site_memory.old
+    ensures { DrawSays session (step_to next) (buffers site_memory.old
         coordinator_memory.old log.old [] out.old)
         (buffers site_memory.new coordinator_memory.new log.new []
         out.new) result }
 {
-    let settings = session.settings;
-    let sites = session.sites;
-    let coordinator = session.coordinator;
-    let arrival = step.arrival;
     let answer = tracker::run_one(
-        settings,
-        sites,
-        coordinator,
-        arrival,
+        session.settings,
+        session.sites,
+        session.coordinator,
+        next.arrival,
         site_memory,
         coordinator_memory,
         log,
     );
-    if answer.refusal != NO_REFUSAL {
-        return refuse(session, answer.refusal, out);
+    if let Some(refusal) = answer.refusal {
+        return refuse(session, refusal, out);
     }
     let written = put_messages(log, answer.written as usize, out);
-    let sites_then = answer.sites;
-    let coordinator_then = answer.coordinator;
-    let next = Session {
-        going: true,
-        refusal: NO_REFUSAL,
-        settings: settings,
-        sites: sites_then,
-        coordinator: coordinator_then,
-        at: step.at,
-        line: step.line,
-    };
     Moved {
-        session: next,
-        written: written,
+        session: Session {
+            going: true,
+            refusal: NO_REFUSAL,
+            sites: answer.sites,
+            coordinator: answer.coordinator,
+            at: next.at,
+            line: next.line,
+            ..session
+        },
+        written,
     }
 }
 
 // Writes the results and ends: the list, the class and the sum of the counts of messages, or why
-// there is no list.
+// there is no list. Where there is one, the class is read.
 pub fn finish(session: Session, memory: &[u64], list: &mut [u32], out: &mut [u8]) -> Moved
     ensures { FinishSays session memory.now list.old out.old
         list.new out.new result }
 {
     let settings = session.settings;
     let coordinator = session.coordinator;
-    let listed = coordinator_list::list_heavy_hitters(settings, coordinator, memory, list);
-    if listed.refusal != NO_REFUSAL {
-        return refuse(session, listed.refusal, out);
-    }
+    let count = match coordinator_list::list_heavy_hitters(settings, coordinator, memory, list) {
+        Ok(count) => count,
+        Err(refusal) => return refuse(session, refusal, out),
+    };
     let read = coordinator_reading::read_quantile(settings, coordinator, memory);
-    let after_list = output_transcript::write_listed(list, listed.count as usize, out, 0);
-    let quantile = read.quantile;
+    let quantile = read.unwrap_or(None);
+    let after_list = output_transcript::write_listed(list, count as usize, out, 0);
     let after_class = output_transcript::write_class(quantile, out, after_list);
-    let counts = session.sites.messages;
-    let total = message_counts::total_count(settings, counts);
+    let total = message_counts::total_count(settings, session.sites.messages);
     let written = output_transcript::write_count(total, out, after_class);
     stop(session, NO_REFUSAL, written)
 }

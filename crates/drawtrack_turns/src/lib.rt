@@ -24,17 +24,14 @@ pub fn stopped_at(taken: bool, session: Session, turns: usize) -> Stopped
     requires { turns ≤ input_room }
     ensures { result ≡ stopped_of taken session turns }
 {
-    if turns == 0 {
-        let settings = session.settings;
-        return Stopped {
-            taken: taken,
-            refusal: session.refusal,
-            line: drawtrack_start::start_line(settings, session.refusal),
-        };
-    }
+    let line = if turns == 0 {
+        drawtrack_start::start_line(session.settings, session.refusal)
+    } else {
+        turns + 1
+    };
     Stopped {
-        taken: taken,
+        taken,
         refusal: session.refusal,
-        line: turns + 1,
+        line,
     }
 }

@@ -96,12 +96,13 @@ pub fn read_line(bytes: &[u8], at: usize, line: usize) -> Result<Option<NextLine
     ensures { step_of_line at line result ≡ step_at bytes.now at line }
 {
     let mut reader = Reader { bytes, at, line };
-    let Some(arrival) = reader.next()? else {
-        return Ok(None);
-    };
-    Ok(Some(NextLine {
-        arrival,
-        at: reader.at,
-        line: reader.line,
-    }))
+    match reader.next() {
+        Ok(Some(arrival)) => Ok(Some(NextLine {
+            arrival,
+            at: reader.at,
+            line: reader.line,
+        })),
+        Ok(None) => Ok(None),
+        Err(refusal) => Err(refusal),
+    }
 }

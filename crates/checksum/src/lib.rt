@@ -3,12 +3,12 @@
 
 #![tactic(auto)]
 
-ghost use Rattle.std.specs.Prelude.{◌≡◌, ◌*◌, ◌≤◌, min, length};
+ghost use Rattle.std.specs.Prelude.{◌≡◌, ◌*◌, ◌≤◌, length};
 ghost use Rattle.checksum.specs.Sums.{byte_sum};
-ghost use Rattle.checksum.specs.Rounds.{word_bytes, most_rounds, BlockAsks, RestAsks, BlockSays, WordsSay, RestSays, TakenSays};
+ghost use Rattle.checksum.specs.Rounds.{word_bytes, BlockAsks, RestAsks, BlockSays, WordsSay, RestSays, TakenSays};
 
 use checksum_lanes::{lane_sum, lower_bytes, upper_bytes};
-use little_endian::{read_eight, wide};
+use little_endian::read_fixed;
 
 // How many bytes a word has.
 const WORD_BYTES: usize = 8;
@@ -41,31 +41,19 @@ fn sum_block(bytes: &[u8], first: usize, rounds: usize) -> Part
 {
     let mut lower: u64 = 0;
     let mut upper: u64 = 0;
-    let mut round: usize = 0;
-    while round < rounds {
-        let word = read_eight(bytes, first + WORD_BYTES * round);
+    for round in 0..rounds {
+        let word = read_fixed::<WORD_BYTES>(bytes, first + WORD_BYTES * round);
         lower = lower + lower_bytes(word);
         upper = upper + upper_bytes(word);
-        round += 1;
     }
-    let sum = lane_sum(lower) + lane_sum(upper);
     Part {
-        sum: sum,
-        turns: round,
+        sum: lane_sum(lower) + lane_sum(upper),
+        turns: rounds,
     }
-}
-
-// How many of the rounds that are left a block takes.
-fn block_of(left: usize) -> usize
-    ensures { result ≡ min left most_rounds }
-{
-    if left < MOST_ROUNDS {
-        return left;
-    }
-    MOST_ROUNDS
 }
 
 // The first words, block by block.
+// As it is: the new form is no plainer: a turn goes on by the words that its block took.
 fn sum_words(bytes: &[u8], rounds: usize) -> Part
     requires { word_bytes * rounds ≤ length bytes.now }
     ensures { WordsSay bytes.now rounds result }
@@ -73,14 +61,15 @@ fn sum_words(bytes: &[u8], rounds: usize) -> Part
     let mut sum: u64 = 0;
     let mut passed: usize = 0;
     while passed < rounds {
-        let block = sum_block(bytes, WORD_BYTES * passed, block_of(rounds - passed));
+        let block = sum_block(
+            bytes,
+            WORD_BYTES * passed,
+            (rounds - passed).min(MOST_ROUNDS),
+        );
         sum = (sum + block.sum) % SUM_RANGE;
         passed += block.turns;
     }
-    Part {
-        sum: sum,
-        turns: passed,
-    }
+    Part { sum, turns: passed }
 }
 
 // The bytes from a place on, singly; there are fewer than a word has.
@@ -88,14 +77,15 @@ fn sum_rest(bytes: &[u8], first: usize) -> Part
     requires { RestAsks bytes.now first }
     ensures { RestSays bytes.now first result }
 {
-    let left = bytes.len() - first;
+    let rest = &bytes[first..];
     let mut sum: u64 = 0;
-    let mut i: usize = 0;
-    while i < left {
-        sum = sum + wide(bytes[first + i]);
-        i += 1;
+    for byte in rest {
+        sum = sum + u64::from(*byte);
     }
-    Part { sum: sum, turns: i }
+    Part {
+        sum,
+        turns: rest.len(),
+    }
 }
 
 // The sum of all bytes: length / 8 rounds, and at most seven bytes singly.
@@ -105,9 +95,8 @@ pub fn sum_taken(bytes: &[u8]) -> Taken
     let rounds = bytes.len() / WORD_BYTES;
     let words = sum_words(bytes, rounds);
     let rest = sum_rest(bytes, WORD_BYTES * rounds);
-    let sum = (words.sum + rest.sum) % SUM_RANGE;
     Taken {
-        sum: sum,
+        sum: (words.sum + rest.sum) % SUM_RANGE,
         rounds: words.turns,
         singles: rest.turns,
     }
@@ -117,6 +106,5 @@ pub fn sum_taken(bytes: &[u8]) -> Taken
 pub fn byte_sum(bytes: &[u8]) -> u64
     ensures { result ≡ byte_sum bytes.now }
 {
-    let taken = sum_taken(bytes);
-    taken.sum
+    sum_taken(bytes).sum
 }

@@ -8,17 +8,14 @@ ghost use Rattle.checksum.specs.Sums.{byte_sum};
 ghost use Rattle.checksum_singly.specs.Trials.{TakenExported};
 
 use checksum::{SUM_RANGE, byte_sum, sum_taken};
-use little_endian::wide;
 
 // The sum of all bytes, byte by byte.
 pub fn byte_sum_singly(bytes: &[u8]) -> u64
     ensures { result ≡ byte_sum bytes.now }
 {
     let mut sum: u64 = 0;
-    let mut i: usize = 0;
-    while i < bytes.len() {
-        sum = (sum + wide(bytes[i])) % SUM_RANGE;
-        i += 1;
+    for byte in bytes {
+        sum = (sum + u64::from(*byte)) % SUM_RANGE;
     }
     sum
 }

@@ -1,13 +1,14 @@
 -- The entry points: their chains of refusals, and what they hand back by these.
 --
+--   front_filled                                       a front of zeros, as an overwritten one
 --   fresh_memory                                       the fresh coordinator is zeros alone
 --   start_long, step_asks, announce_asks               what an accepted call may hand to a step
 --   hands_refused, hands_accepted                      the record `ReceivedSays`
 use mathlib.Core.Path.{◌≡◌, ap, sym, ◌∙◌}
-use mathlib.Core.List.{List}
+use mathlib.Core.List.{List, ◌++◌}
 use Prim.Native.Nat.{ℕ, ◌≤◌}
-use native.Mathlib.Omega.{arith}
-use lib.ListN.{replicate, replicate-append-replicate}
+use lib.ListN.{length, take, drop, replicate, length-replicate, replicate-append-replicate}
+use lib.Seq.{length-take-le}
 use Rattle.model.specs.declared.Settings.{Settings}
 use Rattle.model.specs.declared.Message.{Message}
 use Rattle.model.specs.declared.CoordinatorRecord.{CoordinatorRecord}
@@ -21,13 +22,20 @@ use Rattle.model.specs.CoordinatorMemory.{coordinator_memory, coordinator_words,
 use Rattle.model.proofs.Thresholds.RefusalLaws.{both_accepted, accepts, refuses}
 use Rattle.model.proofs.Thresholds.TestedMemory.{length_tested, coordinator_tested}
 use Rattle.coordinator_kinds.specs.declared.Answered.{Answered}
-use Rattle.coordinator.specs.declared.Received.{Received}
 use Rattle.coordinator_kinds.specs.Steps.{answer_of}
 use Rattle.coordinator_steps.specs.Ready.{StepAsks, AnnounceAsks}
-use Rattle.coordinator.specs.Calls.{ReceivedSays, start_refusal, receive_refusal, announce_refusal}
+use Rattle.coordinator.specs.Calls.{Reception, ReceivedSays, start_refusal, receive_refusal, announce_refusal}
 use Rattle.coordinator_memory.proofs.ReadyLaws.{ready_of_consistent}
 
 -- ---- The fresh coordinator in memory
+
+-- A front that was filled with zeros.
+pub front_filled : (front memory : List ℕ) (n : ℕ)
+    → n ≤ length memory
+    → front ≡ replicate (length (take n memory)) 0
+    → front ++ drop n memory ≡ overwrite (replicate n 0) memory
+front_filled front memory n fits zeros =
+    rw (zeros, length-take-le n memory fits, length-replicate {A = ℕ} n 0)
 
 -- The fresh coordinator is zeros alone.
 pub fresh_memory : (before : List ℕ) (settings : Settings)
@@ -75,7 +83,7 @@ announce_asks settings numbers memory none =
 -- ---- What is handed back
 
 module _ (refusal : ℕ) (given : CoordinatorStep) (numbers : CoordinatorRecord) where
-  pub hands_refused : (r : Received)
+  pub hands_refused : (r : Reception)
       → (refusal ≡ no_refusal → ⊥)
       → r.coordinator ≡ numbers
       → r.count ≡ 0
@@ -87,7 +95,7 @@ module _ (refusal : ℕ) (given : CoordinatorStep) (numbers : CoordinatorRecord)
     out = out ∙ refuses refusal _ _ some;
   }
 
-  pub hands_accepted : (r : Received) (answered : Answered)
+  pub hands_accepted : (r : Reception) (answered : Answered)
       → refusal ≡ no_refusal
       → answered ≡ answer_of given
       → r.coordinator ≡ answered.coordinator

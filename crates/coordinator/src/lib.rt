@@ -4,113 +4,69 @@
 
 #![tactic(auto)]
 
-ghost use Rattle.std.specs.Prelude.{◌≡◌, not, ◌≤◌, length, replicate};
-ghost use Rattle.model.specs.SiteMemory.{overwrite};
+ghost use Rattle.std.specs.Prelude.{◌≡◌, not};
+ghost use Rattle.model.specs.Refusals.{refusal_in};
 ghost use Rattle.model.specs.Coordinator.{fresh_coordinator, is_announcing};
 ghost use Rattle.model.specs.CoordinatorMemory.{coordinator_record};
 ghost use Rattle.model.specs.declared.Settings.{Settings};
-ghost use Rattle.coordinator.specs.Calls.{start_refusal, receive_refusal, announce_refusal, StartCoordinatorSays, CoordinatorReceiveSays, AnnounceSays};
+ghost use Rattle.coordinator.specs.Calls.{start_refusal, receive_refusal, announce_refusal, coordinator_start, reception, StartCoordinatorSays, CoordinatorReceiveSays, AnnounceSays};
 
-use coordinator_memory::coordinator_memory_refusal;
-use coordinator_refusals::message_refusal;
+use coordinator_kinds::Answered;
+use coordinator_memory::test_coordinator_memory;
+use coordinator_refusals::test_message;
 use coordinator_steps::{announce_step, receive_step};
-use messages::no_message;
-use model::{
-    CoordinatorRecord, MEMORY_TOO_SHORT, MESSAGE_NOT_DUE, Message, NO_REFUSAL, Phase, Settings,
-    VALUE_COUNT,
-};
+use model::{CoordinatorRecord, Message, Phase, Refusal, Settings, VALUE_COUNT};
 use settings::test_settings;
-
-// What a start hands back. The record is fresh also where the start is refused.
-#[derive(Clone, Copy)]
-pub struct StartedCoordinator {
-    pub refusal: u32,
-    pub coordinator: CoordinatorRecord,
-}
-
-// What a message, or the wish for the next kind 7, hands back.
-#[derive(Clone, Copy)]
-pub struct Received {
-    pub refusal: u32,
-    pub coordinator: CoordinatorRecord,
-    pub count: u32,
-    pub out: Message,
-}
 
 // The record of a coordinator started fresh.
 fn fresh_record() -> CoordinatorRecord
     ensures { (settings : Settings) → result ≡ coordinator_record (fresh_coordinator settings) }
 {
-    let phase = Phase::Idle;
     CoordinatorRecord {
         total: 0,
         base: 0,
         threshold: 1,
         signals: 0,
         quantile: 0,
-        phase: phase,
+        phase: Phase::Idle,
     }
 }
 
-// The first numbers of the memory become 0.
-fn clear(memory: &mut [u64], count: usize)
-    requires { count ≤ length memory.old }
-    ensures { memory.new ≡ overwrite (replicate count 0) memory.old }
+// The test of a start, with memory of so many numbers.
+fn test_start(settings: Settings, words: usize) -> Result<(), Refusal>
+    ensures { refusal_in result ≡ start_refusal settings words }
 {
-    let mut i = 0;
-    while i < count {
-        memory[i] = 0;
-        i += 1;
-    }
-}
-
-// The refusal of a start, with memory of so many numbers.
-fn start_refusal(settings: Settings, words: usize) -> u32
-    ensures { result ≡ start_refusal settings words }
-{
-    let refusal = test_settings(settings);
-    if refusal != NO_REFUSAL {
-        return refusal;
-    }
+    test_settings(settings)?;
     if words < (settings.universe as usize) + VALUE_COUNT {
-        return MEMORY_TOO_SHORT;
+        return Err(Refusal::MemoryTooShort);
     }
-    NO_REFUSAL
+    Ok(())
 }
 
-// StartCoordinatorSays a coordinator fresh: its numbers in memory become 0.
-pub fn start_coordinator(settings: Settings, memory: &mut [u64]) -> StartedCoordinator
-    ensures { StartCoordinatorSays settings memory.old memory.new result }
+// A coordinator started fresh: its numbers in memory become 0.
+pub fn start_coordinator(
+    settings: Settings,
+    memory: &mut [u64],
+) -> Result<CoordinatorRecord, Refusal>
+    ensures { StartCoordinatorSays settings memory.old memory.new
+        (coordinator_start settings result) }
 {
-    let coordinator = fresh_record();
-    let refusal = start_refusal(settings, memory.len());
-    if refusal != NO_REFUSAL {
-        return StartedCoordinator {
-            refusal: refusal,
-            coordinator: coordinator,
-        };
-    }
-    clear(memory, (settings.universe as usize) + VALUE_COUNT);
-    StartedCoordinator {
-        refusal: refusal,
-        coordinator: coordinator,
-    }
+    test_start(settings, memory.len())?;
+    memory[..(settings.universe as usize) + VALUE_COUNT].fill(0);
+    Ok(fresh_record())
 }
 
-// Why a message is refused, or 0.
-fn receive_refusal(
+// The test of a message.
+fn test_receive(
     settings: Settings,
     coordinator: CoordinatorRecord,
     message: Message,
     memory: &[u64],
-) -> u32
-    ensures { result ≡ receive_refusal settings coordinator message memory.now }
+) -> Result<(), Refusal>
+    ensures { refusal_in result ≡ receive_refusal settings coordinator message memory.now }
 {
-    let refusal = coordinator_memory_refusal(settings, coordinator, memory);
-    if refusal != NO_REFUSAL {
-        return refusal;
-    }
-    message_refusal(settings, coordinator, message)
+    test_coordinator_memory(settings, coordinator, memory)?;
+    test_message(settings, coordinator, message)
 }
 
 // A message is handed to the coordinator.
@@ -119,55 +75,34 @@ pub fn receive(
     coordinator: CoordinatorRecord,
     message: Message,
     memory: &mut [u64],
-) -> Received
-    ensures { CoordinatorReceiveSays settings coordinator message memory.old
-        memory.new result }
+) -> Result<Answered, Refusal>
+    ensures { CoordinatorReceiveSays settings coordinator message memory.old memory.new
+        (reception coordinator result) }
 {
-    let refusal = receive_refusal(settings, coordinator, message, memory);
-    if refusal != NO_REFUSAL {
-        return Received {
-            refusal: refusal,
-            coordinator: coordinator,
-            count: 0,
-            out: no_message(),
-        };
-    }
-    let answered = receive_step(settings, coordinator, message, memory);
-    let next = answered.coordinator;
-    let out = answered.out;
-    Received {
-        refusal: refusal,
-        coordinator: next,
-        count: answered.count,
-        out: out,
-    }
+    test_receive(settings, coordinator, message, memory)?;
+    Ok(receive_step(settings, coordinator, message, memory))
 }
 
 // Whether the phase is another than announcing.
 fn not_announcing(phase: Phase) -> bool
     ensures { result ≡ not (is_announcing phase) }
 {
-    match phase {
-        Phase::Idle => true,
-        Phase::Collecting(_) => true,
-        Phase::Probing(_, _, _, _) => true,
-        Phase::Announcing(_) => false,
-    }
+    !matches!(phase, Phase::Announcing(_))
 }
 
-// Why the wish for a kind 7 is refused, or 0.
-fn announce_refusal(settings: Settings, coordinator: CoordinatorRecord, memory: &[u64]) -> u32
-    ensures { result ≡ announce_refusal settings coordinator memory.now }
+// The test of the wish for a kind 7.
+fn test_announce(
+    settings: Settings,
+    coordinator: CoordinatorRecord,
+    memory: &[u64],
+) -> Result<(), Refusal>
+    ensures { refusal_in result ≡ announce_refusal settings coordinator memory.now }
 {
-    let refusal = coordinator_memory_refusal(settings, coordinator, memory);
-    if refusal != NO_REFUSAL {
-        return refusal;
+    test_coordinator_memory(settings, coordinator, memory)?;
+    if not_announcing(coordinator.phase) {
+        return Err(Refusal::MessageNotDue);
     }
-    let phase = coordinator.phase;
-    if not_announcing(phase) {
-        return MESSAGE_NOT_DUE;
-    }
-    NO_REFUSAL
+    Ok(())
 }
 
 // The next kind 7 of a coordinator that is announcing.
@@ -175,25 +110,9 @@ pub fn next_announcement(
     settings: Settings,
     coordinator: CoordinatorRecord,
     memory: &[u64],
-) -> Received
-    ensures { AnnounceSays settings coordinator memory.now result }
+) -> Result<Answered, Refusal>
+    ensures { AnnounceSays settings coordinator memory.now (reception coordinator result) }
 {
-    let refusal = announce_refusal(settings, coordinator, memory);
-    if refusal != NO_REFUSAL {
-        return Received {
-            refusal: refusal,
-            coordinator: coordinator,
-            count: 0,
-            out: no_message(),
-        };
-    }
-    let answered = announce_step(settings, coordinator);
-    let next = answered.coordinator;
-    let out = answered.out;
-    Received {
-        refusal: refusal,
-        coordinator: next,
-        count: answered.count,
-        out: out,
-    }
+    test_announce(settings, coordinator, memory)?;
+    Ok(announce_step(settings, coordinator))
 }

@@ -1,5 +1,4 @@
 -- The laws behind the list call.
-pub mod CallLaws
 pub mod ListLaws
 pub mod WriteLaws
 pub mod Edges

@@ -1,8 +1,8 @@
 -- The walk that writes the list of heavy hitters: what stands in the list after so many items.
 --
 --   Writing                         the items listed so far, then what the list held
---   writing_start, writing_yes, writing_no, writing_end
-use mathlib.Core.Path.{◌≡◌, refl, ap, sym, ◌∙◌}
+--   writing_yes, writing_no, writing_end
+use mathlib.Core.Path.{◌≡◌, ap, sym, ◌∙◌}
 use mathlib.Core.Bool.{true, false}
 use mathlib.Core.List.{List, [], ◌∷◌}
 use Prim.Native.Nat.{ℕ, ◌+◌, ◌≤◌, ◌<◌}
@@ -20,13 +20,6 @@ module _ (settings : Settings) (c : Coordinator) where
     pub counting : Counting settings c count item
     pub same_length : length now ≡ length before
     pub written : now ≡ overwrite (listed_below settings c item) before
-
-  pub writing_start : (before : List ℕ) → Writing before before 0 0
-  writing_start before = record {
-    counting = record { place = omega arith; counted = refl };
-    same_length = refl;
-    written = refl;
-  }
 
   -- The item goes to the first place that is left.
   pub writing_yes : (before now : List ℕ) (count item : ℕ)

@@ -3,19 +3,20 @@
 -- `coordinator_reading`).
 --
 --   list_refusal            the chain of tests
+--   ListAnswer, list_answer   what the call comes to, from its answer
 --   ListSays                   the promise
 --   hitters_in, rule_holds  the heavy hitters in record and memory; the list rule of an item
 --   WriteListedAsks, WriteListedSays       the pass that writes the list
-use Rattle.std.specs.Prelude.{◌≡◌, Bool, ◌&&◌, List, ℕ, ◌*◌, ◌≤◌, leb, ltb, length, if◌then◌else◌}
+use Rattle.std.specs.Prelude.{◌≡◌, Bool, ◌&&◌, List, ℕ, Result, Ok, Err, ◌*◌, ◌≤◌, leb, ltb, length, if◌then◌else◌}
 use Rattle.model.specs.declared.Settings.{Settings}
 use Rattle.model.specs.declared.CoordinatorRecord.{CoordinatorRecord}
 use Rattle.model.specs.Choice.{is_zero}
-use Rattle.model.specs.Refusals.{when, ◌or_else◌, no_refusal, list_too_short}
+use Rattle.model.specs.declared.Refusal.{Refusal}
+use Rattle.model.specs.Refusals.{when, ◌or_else◌, no_refusal, list_too_short, number_of}
 use Rattle.model.specs.SiteMemory.{overwrite}
 use Rattle.model.specs.CoordinatorMemory.{coordinator_in, coordinator_memory_refusal}
 use Rattle.model.specs.Reading.{heavy_hitters}
 use Rattle.coordinator_reading.specs.Promises.{ReadAsks, side_needed}
-use Rattle.coordinator_list.specs.declared.Listed.{Listed}
 
 -- ---- The list
 
@@ -28,9 +29,18 @@ list_refusal settings numbers memory places =
     list_too_short
     or_else no_refusal
 
+-- What the list call comes to: the refusal, or 0, and how many items it wrote.
+pub record ListAnswer : Type 0 where
+  pub refusal : ℕ
+  pub count : ℕ
+
+abbrev pub list_answer : Result ℕ Refusal → ListAnswer
+list_answer (Ok count) = record { refusal = no_refusal; count = count }
+list_answer (Err refusal) = record { refusal = number_of refusal; count = 0 }
+
 -- "Places of a list .. after the last one written keep what they held."
 pub record ListSays (settings : Settings) (numbers : CoordinatorRecord)
-    (memory before after : List ℕ) (r : Listed) : Type 0 where
+    (memory before after : List ℕ) (r : ListAnswer) : Type 0 where
   pub refusal : r.refusal ≡ list_refusal settings numbers memory (length before)
   pub count :
       r.count

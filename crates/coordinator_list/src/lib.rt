@@ -5,28 +5,18 @@
 
 ghost use Rattle.std.specs.Prelude.{◌≡◌, length, leb};
 ghost use Rattle.coordinator_reading.specs.Promises.{ReadAsks, SidesAsk};
-ghost use Rattle.coordinator_list.specs.Promises.{ListSays, WriteListedAsks, WriteListedSays, hitters_in, rule_holds};
+ghost use Rattle.coordinator_list.specs.Promises.{list_answer, ListSays, WriteListedAsks, WriteListedSays, hitters_in, rule_holds};
 
-use coordinator_memory::coordinator_memory_refusal;
+use coordinator_memory::test_coordinator_memory;
 use coordinator_reading::side_needed;
-use model::{CoordinatorRecord, LIST_FACTOR, LIST_TOO_SHORT, NO_REFUSAL, Settings};
-
-// What the list call hands back: how many items it wrote.
-#[derive(Clone, Copy)]
-pub struct Listed {
-    pub refusal: u32,
-    pub count: u32,
-}
+use model::{CoordinatorRecord, LIST_FACTOR, Refusal, Settings};
 
 // Whether an item with this number is listed.
 fn is_listed(settings: Settings, total: u64, number: u64) -> bool
     requires { SidesAsk settings total number }
     ensures { result ≡ rule_holds settings total number }
 {
-    if total < 1 {
-        return false;
-    }
-    side_needed(settings, total, number) <= LIST_FACTOR * number
+    1 <= total && side_needed(settings, total, number) <= LIST_FACTOR * number
 }
 
 // Whether the listed items have places. All of them have where there is a place for every item;
@@ -46,20 +36,18 @@ fn list_fits(
         return true;
     }
     let mut count = 0;
-    let mut item = 0;
-    while item < items {
-        if is_listed(settings, coordinator.total, memory[item]) {
+    for number in &memory[..items] {
+        if is_listed(settings, coordinator.total, *number) {
             count += 1;
             if places < count {
                 return false;
             }
         }
-        item += 1;
     }
     true
 }
 
-// WriteListedSays the listed items to the front of a list that has the places, and says how many
+// Writes the listed items to the front of a list that has the places, and says how many
 // they are.
 fn write_listed(
     settings: Settings,
@@ -73,13 +61,11 @@ fn write_listed(
 {
     let items = settings.universe as usize;
     let mut count = 0;
-    let mut next = 0;
-    while next < items {
-        if is_listed(settings, coordinator.total, memory[next]) {
-            list[count] = next as u32;
+    for (item, number) in memory[..items].iter().enumerate() {
+        if is_listed(settings, coordinator.total, *number) {
+            list[count] = item as u32;
             count += 1;
         }
-        next += 1;
     }
     count as u32
 }
@@ -91,26 +77,12 @@ pub fn list_heavy_hitters(
     coordinator: CoordinatorRecord,
     memory: &[u64],
     list: &mut [u32],
-) -> Listed
-    ensures { ListSays settings coordinator memory.now list.old
-        list.new result }
+) -> Result<u32, Refusal>
+    ensures { ListSays settings coordinator memory.now list.old list.new (list_answer result) }
 {
-    let refusal = coordinator_memory_refusal(settings, coordinator, memory);
-    if refusal != NO_REFUSAL {
-        return Listed {
-            refusal: refusal,
-            count: 0,
-        };
+    test_coordinator_memory(settings, coordinator, memory)?;
+    if !list_fits(settings, coordinator, memory, list.len()) {
+        return Err(Refusal::ListTooShort);
     }
-    if list_fits(settings, coordinator, memory, list.len()) {
-        let count = write_listed(settings, coordinator, memory, list);
-        return Listed {
-            refusal: NO_REFUSAL,
-            count: count,
-        };
-    }
-    Listed {
-        refusal: LIST_TOO_SHORT,
-        count: 0,
-    }
+    Ok(write_listed(settings, coordinator, memory, list))
 }

@@ -4,9 +4,10 @@
 --   read_asks, margin_tested        accepted tests give what reading asks
 --   sides_ask                       the sides of the list rule, by the number in memory
 --   values_ask                      the value counts, as the code cuts them out of the memory
---   Searching, searching_start, searching_fits, searching_found, searching_on, searching_end
+--   Searching, searching_fits, searching_found, searching_on, searching_end
 --   quantile_none, quantile_counted, quantile_kept     the cases of `quantile_of`
-use mathlib.Core.Path.{◌≡◌, refl, ap, ◌∙◌}
+use Rattle.std.specs.Prelude.{None, Some}
+use mathlib.Core.Path.{◌≡◌, ap, ◌∙◌}
 use mathlib.Core.Bool.{Bool, true, false}
 use mathlib.Core.List.{List, ◌∷◌}
 use Prim.Native.Nat.{ℕ, ◌+◌, ◌-◌, ◌*◌, ◌≤◌, ◌<◌}
@@ -18,7 +19,6 @@ use lib.Dec.{leb}
 use borrow.Author.Tests.{le-leb, lt-leb, leb-false, eq-eqb, ne_eqb}
 use Rattle.model.specs.declared.Settings.{Settings}
 use Rattle.model.specs.declared.CoordinatorRecord.{CoordinatorRecord}
-use Rattle.model.specs.declared.Quantile.TheVariants.{Nothing, Value}
 use Rattle.model.specs.Refusals.{no_refusal}
 use Rattle.model.specs.Limits.{coordinator_limit}
 use Rattle.model.specs.Coordinator.{Coordinator, enough}
@@ -106,9 +106,6 @@ pub record Searching (rank total : ℕ) (counts : List ℕ) (below value : ℕ) 
   pub small : below ≤ value * coordinator_limit
 
 module _ (rank total : ℕ) (counts : List ℕ) where
-  pub searching_start : Searching rank total counts 0 0
-  searching_start = record { place = omega arith; rest_decides = refl; small = omega arith }
-
   -- The sum with the next count is at most 1024 times the limit.
   pub searching_fits : (below value : ℕ)
       → ValuesAsk rank total counts
@@ -128,7 +125,7 @@ module _ (rank total : ℕ) (counts : List ℕ) where
       → enough rank total (below + get_or counts value 0) ≡ test
       → least_value_from rank total value below (drop value counts)
       ≡ elim test [
-        | true ↦ Value value
+        | true ↦ Some value
         | false ↦ least_value_from rank total (value + 1) (below + get_or counts value 0)
             (drop (value + 1) counts)
       ]
@@ -140,7 +137,7 @@ module _ (rank total : ℕ) (counts : List ℕ) where
       → Searching rank total counts below value
       → value < length counts
       → rank * total ≤ 1000 * (below + get_or counts value 0)
-      → least_value rank total counts ≡ Value value
+      → least_value rank total counts ≡ Some value
   searching_found below value so_far inside reached =
       so_far.rest_decides ∙ from_on value below true inside (le-leb _ _ reached)
 
@@ -159,7 +156,7 @@ module _ (rank total : ℕ) (counts : List ℕ) where
   pub searching_end : (below value : ℕ)
       → Searching rank total counts below value
       → length counts ≤ value
-      → least_value rank total counts ≡ Nothing
+      → least_value rank total counts ≡ None
   searching_end below value so_far past =
       so_far.rest_decides
       ∙ ap (least_value_from rank total value below) (drop_of_length-le counts past)
@@ -167,7 +164,7 @@ module _ (rank total : ℕ) (counts : List ℕ) where
 -- ---- The quantile, by threshold and total
 
 module _ (settings : Settings) (c : Coordinator) where
-  pub quantile_none : c.threshold ≡ 1 → c.total ≡ 0 → quantile_of settings c ≡ Nothing
+  pub quantile_none : c.threshold ≡ 1 → c.total ≡ 0 → quantile_of settings c ≡ None
   quantile_none one none = rw (eq-eqb _ _ one, eq-eqb _ _ none)
 
   pub quantile_counted : c.threshold ≡ 1
@@ -175,5 +172,5 @@ module _ (settings : Settings) (c : Coordinator) where
       → quantile_of settings c ≡ least_value settings.rank c.total c.histogram
   quantile_counted one some = rw (eq-eqb _ _ one, ne_eqb _ _ some)
 
-  pub quantile_kept : (c.threshold ≡ 1 → ⊥) → quantile_of settings c ≡ Value c.quantile
+  pub quantile_kept : (c.threshold ≡ 1 → ⊥) → quantile_of settings c ≡ Some c.quantile
   quantile_kept more = rw (ne_eqb _ _ more)

@@ -3,21 +3,21 @@
 -- list call is crate `coordinator_list`'s, which asks the same inside.
 --
 --   margin_refusal                    the chain of tests; the quantile has the memory tests alone
+--   MarginAnswer, margin_answer       what the margin call comes to, from its answer
+--   QuantileAnswer, quantile_answer   the same of the quantile call
 --   MarginSays, QuantileSays        the promises
 --   ReadAsks, SidesAsk, ValuesAsk     what is asked inside: a coordinator that passed its tests
 --   side_needed                       what an item's number has to reach
-use Rattle.std.specs.Prelude.{◌≡◌, true, List, pos, ℕ, ◌-◌, ◌*◌, ◌≤◌, leb, length, get_or, if◌then◌else◌}
+use Rattle.std.specs.Prelude.{◌≡◌, true, List, ℤ, pos, ℕ, Result, Ok, Err, ◌-◌, ◌*◌, ◌≤◌, leb, length, get_or, if◌then◌else◌, Option, None}
 use Rattle.model.specs.declared.Settings.{Settings}
 use Rattle.model.specs.declared.CoordinatorRecord.{CoordinatorRecord}
-use Rattle.model.specs.declared.Quantile.TheVariants.{Nothing}
+use Rattle.model.specs.declared.Refusal.{Refusal}
 use Rattle.model.specs.Choice.{is_zero}
-use Rattle.model.specs.Refusals.{when, ◌or_else◌, no_refusal, unknown_item}
+use Rattle.model.specs.Refusals.{when, ◌or_else◌, no_refusal, unknown_item, number_of}
 use Rattle.model.specs.Limits.{value_count, coordinator_limit}
 use Rattle.model.specs.Settings.{settings_refusal}
 use Rattle.model.specs.CoordinatorMemory.{coordinator_in, coordinator_words, coordinator_consistent, coordinator_memory_refusal}
 use Rattle.model.specs.Reading.{margin, quantile_of}
-use Rattle.coordinator_reading.specs.declared.Margin.{Margin}
-use Rattle.coordinator_reading.specs.declared.QuantileRead.{QuantileRead}
 
 -- ---- The margin
 
@@ -28,9 +28,18 @@ margin_refusal settings numbers item memory =
     or_else when (leb settings.universe item) unknown_item
     or_else no_refusal
 
+-- What the margin call comes to: the refusal, or 0, and the margin, 0 where it is refused.
+pub record MarginAnswer : Type 0 where
+  pub refusal : ℕ
+  pub margin : ℤ
+
+abbrev pub margin_answer : Result ℤ Refusal → MarginAnswer
+margin_answer (Ok found) = record { refusal = no_refusal; margin = found }
+margin_answer (Err refusal) = record { refusal = number_of refusal; margin = pos 0 }
+
 pub record MarginSays (settings : Settings) (numbers : CoordinatorRecord) (item : ℕ)
     (memory : List ℕ)
-    (r : Margin) : Type 0 where
+    (r : MarginAnswer) : Type 0 where
   pub refusal : r.refusal ≡ margin_refusal settings numbers item memory
   pub margin_is :
       r.margin
@@ -40,14 +49,23 @@ pub record MarginSays (settings : Settings) (numbers : CoordinatorRecord) (item 
 
 -- ---- The quantile
 
+-- What the quantile call comes to: the refusal, or 0, and the quantile, none where it is refused.
+pub record QuantileAnswer : Type 0 where
+  pub refusal : ℕ
+  pub quantile : Option ℕ
+
+abbrev pub quantile_answer : Result (Option ℕ) Refusal → QuantileAnswer
+quantile_answer (Ok found) = record { refusal = no_refusal; quantile = found }
+quantile_answer (Err refusal) = record { refusal = number_of refusal; quantile = None }
+
 pub record QuantileSays (settings : Settings) (numbers : CoordinatorRecord) (memory : List ℕ)
-    (r : QuantileRead) : Type 0 where
+    (r : QuantileAnswer) : Type 0 where
   pub refusal : r.refusal ≡ coordinator_memory_refusal settings numbers memory
   pub quantile :
       r.quantile
       ≡ (if is_zero (coordinator_memory_refusal settings numbers memory)
       then quantile_of settings (coordinator_in settings numbers memory)
-      else Nothing)
+      else None)
 
 -- ---- What is asked inside
 

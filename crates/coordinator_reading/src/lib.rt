@@ -6,31 +6,15 @@
 
 ghost use Rattle.std.specs.Prelude.{◌≡◌, ◌*◌, ◌<◌};
 ghost use Rattle.model.specs.CoordinatorMemory.{coordinator_in};
+ghost use Rattle.model.specs.Refusals.{refusal_in};
 ghost use Rattle.model.specs.Reading.{difference, least_value, quantile_of};
-ghost use Rattle.coordinator_reading.specs.Promises.{MarginSays, QuantileSays, ReadAsks, SidesAsk, ValuesAsk, margin_refusal, side_needed};
+ghost use Rattle.coordinator_reading.specs.Promises.{margin_answer, quantile_answer, MarginSays, QuantileSays, ReadAsks, SidesAsk, ValuesAsk, margin_refusal, side_needed};
 
-use coordinator_memory::coordinator_memory_refusal;
-use model::{
-    CoordinatorRecord, LIST_FACTOR, NO_REFUSAL, Quantile, RANK_FACTOR, Settings, UNKNOWN_ITEM,
-    VALUE_COUNT,
-};
-
-// What the margin call hands back: 0 where it is refused.
-#[derive(Clone, Copy)]
-pub struct Margin {
-    pub refusal: u32,
-    pub margin: i64,
-}
-
-// What the quantile call hands back: `Nothing` where it is refused.
-#[derive(Clone, Copy)]
-pub struct QuantileRead {
-    pub refusal: u32,
-    pub quantile: Quantile,
-}
+use coordinator_memory::test_coordinator_memory;
+use model::{CoordinatorRecord, LIST_FACTOR, RANK_FACTOR, Refusal, Settings, VALUE_COUNT};
 
 // (2p - e) × total, the side of the list rule that an item's number has to reach. Internal: the
-// margin call, and crate `coordinator_list`'s list call, make the test `coordinator_memory_refusal`
+// margin call, and crate `coordinator_list`'s list call, make the test `test_coordinator_memory`
 // first.
 pub fn side_needed(settings: Settings, total: u64, number: u64) -> u64
     requires { SidesAsk settings total number }
@@ -56,23 +40,20 @@ fn margin_of(settings: Settings, total: u64, number: u64) -> i64
     subtract(LIST_FACTOR * number, side_needed(settings, total, number))
 }
 
-// Why the margin is refused, or 0.
-fn margin_refusal(
+// The test of a wish for a margin.
+fn test_margin(
     settings: Settings,
     coordinator: CoordinatorRecord,
     item: u32,
     memory: &[u64],
-) -> u32
-    ensures { result ≡ margin_refusal settings coordinator item memory.now }
+) -> Result<(), Refusal>
+    ensures { refusal_in result ≡ margin_refusal settings coordinator item memory.now }
 {
-    let refusal = coordinator_memory_refusal(settings, coordinator, memory);
-    if refusal != NO_REFUSAL {
-        return refusal;
-    }
+    test_coordinator_memory(settings, coordinator, memory)?;
     if settings.universe <= item {
-        return UNKNOWN_ITEM;
+        return Err(Refusal::UnknownItem);
     }
-    NO_REFUSAL
+    Ok(())
 }
 
 // How far an item's number is above what the list asks, or below it.
@@ -81,79 +62,55 @@ pub fn read_margin(
     coordinator: CoordinatorRecord,
     item: u32,
     memory: &[u64],
-) -> Margin
-    ensures { MarginSays settings coordinator item memory.now result }
+) -> Result<i64, Refusal>
+    ensures { MarginSays settings coordinator item memory.now (margin_answer result) }
 {
-    let refusal = margin_refusal(settings, coordinator, item, memory);
-    if refusal != NO_REFUSAL {
-        return Margin {
-            refusal: refusal,
-            margin: 0,
-        };
-    }
-    let number = memory[item as usize];
-    let margin = margin_of(settings, coordinator.total, number);
-    Margin {
-        refusal: refusal,
-        margin: margin,
-    }
+    test_margin(settings, coordinator, item, memory)?;
+    Ok(margin_of(settings, coordinator.total, memory[item as usize]))
 }
 
 // The least value with enough counts at or below it.
-fn least_value(rank: u32, total: u64, counts: &[u64]) -> Quantile
+fn least_value(rank: u32, total: u64, counts: &[u64]) -> Option<u32>
     requires { ValuesAsk rank total counts.now }
     ensures { result ≡ least_value rank total counts.now }
 {
     let needed = (rank as u64) * total;
-    let mut below: u64 = 0;
-    let mut value = 0;
-    while value < counts.len() {
-        below += counts[value];
+    let mut below = 0;
+    for (value, count) in counts.iter().enumerate() {
+        below += count;
         if needed <= RANK_FACTOR * below {
-            return Quantile::Value(value as u32);
+            return Some(value as u32);
         }
-        value += 1;
     }
-    Quantile::Nothing
+    None
 }
 
 // The quantile of a coordinator that passed its tests: from the value counts while the threshold is
 // 1, later from the record.
-fn quantile_value(settings: Settings, coordinator: CoordinatorRecord, memory: &[u64]) -> Quantile
+fn quantile_value(settings: Settings, coordinator: CoordinatorRecord, memory: &[u64]) -> Option<u32>
     requires { ReadAsks settings coordinator memory.now }
     ensures { result ≡ quantile_of settings (coordinator_in settings coordinator
         memory.now) }
 {
     if coordinator.threshold == 1 {
         if coordinator.total == 0 {
-            return Quantile::Nothing;
+            return None;
         }
         let items = settings.universe as usize;
         let words = items + VALUE_COUNT;
         return least_value(settings.rank, coordinator.total, &memory[items..words]);
     }
-    Quantile::Value(coordinator.quantile)
+    Some(coordinator.quantile)
 }
 
-// The tracked quantile.
+// The tracked quantile: document 01's class, or none.
 pub fn read_quantile(
     settings: Settings,
     coordinator: CoordinatorRecord,
     memory: &[u64],
-) -> QuantileRead
-    ensures { QuantileSays settings coordinator memory.now result }
+) -> Result<Option<u32>, Refusal>
+    ensures { QuantileSays settings coordinator memory.now (quantile_answer result) }
 {
-    let refusal = coordinator_memory_refusal(settings, coordinator, memory);
-    if refusal != NO_REFUSAL {
-        let nothing = Quantile::Nothing;
-        return QuantileRead {
-            refusal: refusal,
-            quantile: nothing,
-        };
-    }
-    let quantile = quantile_value(settings, coordinator, memory);
-    QuantileRead {
-        refusal: refusal,
-        quantile: quantile,
-    }
+    test_coordinator_memory(settings, coordinator, memory)?;
+    Ok(quantile_value(settings, coordinator, memory))
 }

@@ -7,10 +7,9 @@
 --   QuantileRight settings state answer             the quantile call
 --   ReadsRight settings state                       all three
 -- n is `counted state.accepted`.
-use Rattle.std.specs.Prelude.{◌≡◌, true, false, List, pos, ℕ, ◌+◌, ◌-◌, ◌*◌, ◌≤◌, ◌<◌, length, get_or, take}
+use Rattle.std.specs.Prelude.{◌≡◌, true, false, List, pos, ℕ, ◌+◌, ◌-◌, ◌*◌, ◌≤◌, ◌<◌, length, get_or, take, None, Some}
 use Rattle.model.specs.declared.Settings.{Settings}
 use Rattle.model.specs.declared.Arrival.{Arrival}
-use Rattle.model.specs.declared.Quantile.TheVariants.{Nothing, Value}
 use Rattle.model.specs.Refusals.{no_refusal, unknown_item, list_too_short}
 use Rattle.model.specs.Coordinator.{Coordinator}
 use Rattle.model.specs.CoordinatorMemory.{coordinator_words}
@@ -122,43 +121,43 @@ pub record QuantileRight (settings : Settings) (state : State) (answer : Quantil
   pub quantile_is : answer.quantile ≡ quantile_of settings (rules_coordinator settings state)
   -- "none" before the first arrival, and never after it
   pub nothing_at_start : counted state.accepted ≡ 0
-      → answer.quantile ≡ Nothing
-  pub nothing_only_at_start : answer.quantile ≡ Nothing
+      → answer.quantile ≡ None
+  pub nothing_only_at_start : answer.quantile ≡ None
       → counted state.accepted ≡ 0
   -- "1000 × (draws below it) ≤ (q + e) × n"
   pub few_below : (value : ℕ)
-      → answer.quantile ≡ Value value
+      → answer.quantile ≡ Some value
       → 1000 * below value state.accepted
       ≤ (settings.rank + settings.epsilon) * counted state.accepted
   -- "1000 × (draws above it) ≤ (1000 - q + e) × n"
   pub few_above : (value : ℕ)
-      → answer.quantile ≡ Value value
+      → answer.quantile ≡ Some value
       → 1000 * above value state.accepted
       ≤ (1000 - settings.rank + settings.epsilon) * counted state.accepted
   -- "Volume classes run from 0 to 1023."
   pub value_known : (value : ℕ)
-      → answer.quantile ≡ Value value
+      → answer.quantile ≡ Some value
       → value ≤ top_value
   -- touches are no draws, so class 0 is never answered
   pub value_drawn : (value : ℕ)
-      → answer.quantile ≡ Value value
+      → answer.quantile ≡ Some value
       → least_drawn ≤ value
   -- firmer than "within e": two thirds of e do
   pub firm_below : (value : ℕ)
-      → answer.quantile ≡ Value value
+      → answer.quantile ≡ Some value
       → 3000 * below value state.accepted
       ≤ (3 * settings.rank + 2 * settings.epsilon) * counted state.accepted
   pub firm_above : (value : ℕ)
-      → answer.quantile ≡ Value value
+      → answer.quantile ≡ Some value
       → 3000 * above value state.accepted
       ≤ (3000 - 3 * settings.rank + 2 * settings.epsilon) * counted state.accepted
   -- and while the threshold is 1 it is the least value with 1000 × (draws at or below it) ≥ q × n
   pub exact_below : (value : ℕ)
-      → answer.quantile ≡ Value value
+      → answer.quantile ≡ Some value
       → state.held.coordinator.threshold ≡ 1
       → 1000 * below value state.accepted < settings.rank * counted state.accepted
   pub exact_above : (value : ℕ)
-      → answer.quantile ≡ Value value
+      → answer.quantile ≡ Some value
       → state.held.coordinator.threshold ≡ 1
       → 1000 * above value state.accepted
       ≤ (1000 - settings.rank) * counted state.accepted

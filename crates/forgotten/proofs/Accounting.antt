@@ -4,7 +4,7 @@
 --   one_more          S7 at a sound site, arisen or not, with what it has forgotten
 --   Moves, moves      what an arrival with full delivery adds at any site
 --   RunAccounted, accounted_run   after every list of arrivals
-use Rattle.std.specs.Prelude.{if◌then◌else◌}
+use Rattle.std.specs.Prelude.{if◌then◌else◌, Option, Some, None}
 use mathlib.Core.Path.{◌≡◌, refl, sym, ap, ◌∙◌, subst}
 use mathlib.Core.List.{List, [], ◌∷◌, ◌++◌}
 use Prim.Native.Nat.{ℕ, ◌+◌, ◌≤◌, ◌<◌}
@@ -17,8 +17,7 @@ use borrow.Author.Tests.{eq-eqb, ne_eqb}
 use Rattle.model.specs.declared.Settings.{Settings}
 use Rattle.model.specs.declared.Arrival.{Arrival}
 use Rattle.model.specs.declared.Message.{Message}
-use Rattle.model.specs.declared.Leaving.{Leaving}
-use Rattle.model.specs.declared.Leaving.TheVariants.{Nobody, Left}
+use Rattle.model.specs.declared.Left.{Left}
 use Rattle.model.specs.Refusals.{no_refusal}
 use Rattle.model.specs.Settings.{settings_refusal}
 use Rattle.model.specs.Counters.{unreported_in, gone_with}
@@ -48,16 +47,16 @@ count_at_append which [] second = omega arith
 count_at_append which (one ∷ first) second = omega (arith, count_at_append which first second)
 
 -- What a replacement adds at its own site, and at another.
-dropped_here : (which : ℕ) (leaving : Leaving)
+dropped_here : (which : ℕ) (leaving : Option Left)
     → dropped_at which (departure_by which leaving) ≡ gone_with leaving
-dropped_here which Nobody = refl
-dropped_here which (Left item gone) = rw (eq-eqb which which refl) (omega arith)
+dropped_here which None = refl
+dropped_here which (Some left) = rw (eq-eqb which which refl) (omega arith)
 
-dropped_elsewhere : (which other : ℕ) (leaving : Leaving)
+dropped_elsewhere : (which other : ℕ) (leaving : Option Left)
     → (other ≡ which → ⊥)
     → dropped_at which (departure_by other leaving) ≡ 0
-dropped_elsewhere which other Nobody differs = refl
-dropped_elsewhere which other (Left item gone) differs = rw (ne_eqb other which differs) refl
+dropped_elsewhere which other None differs = refl
+dropped_elsewhere which other (Some left) differs = rw (ne_eqb other which differs) refl
 
 -- ---- One arrival at a sound site
 

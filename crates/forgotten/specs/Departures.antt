@@ -10,12 +10,11 @@
 --   count_at which arrivals        how many arrivals name a site
 --   Accounted ..                   every draw of a site is reported, unreported or forgotten
 --   DroppedClaims                  what is claimed of one arrival, of messages and of all runs
-use Rattle.std.specs.Prelude.{◌≡◌, ◌&&◌, List, [], ◌∷◌, ◌++◌, ℕ, ◌+◌, ◌<◌, eqb, if◌then◌else◌}
+use Rattle.std.specs.Prelude.{◌≡◌, ◌&&◌, Option, Some, None, List, [], ◌∷◌, ◌++◌, ℕ, ◌+◌, ◌<◌, eqb, if◌then◌else◌}
 use Rattle.model.specs.declared.Settings.{Settings}
 use Rattle.model.specs.declared.Arrival.{Arrival}
 use Rattle.model.specs.declared.Message.{Message}
-use Rattle.model.specs.declared.Leaving.{Leaving}
-use Rattle.model.specs.declared.Leaving.TheVariants.{Nobody, Left}
+use Rattle.model.specs.declared.Left.{Left}
 use Rattle.model.specs.declared.SiteRecord.{SiteRecord}
 use Rattle.model.specs.Refusals.{no_refusal}
 use Rattle.model.specs.Settings.{settings_refusal}
@@ -36,9 +35,10 @@ pub record Departure : Type 0 where
   pub item : ℕ
   pub unreported : ℕ
 
-abbrev pub departure_by : ℕ → Leaving → List Departure
-departure_by which Nobody = []
-departure_by which (Left item gone) = record { site = which; item = item; unreported = gone } ∷ []
+abbrev pub departure_by : ℕ → Option Left → List Departure
+departure_by which None = []
+departure_by which (Some left) =
+    record { site = which; item = left.item; unreported = left.gone } ∷ []
 
 -- What an accepted arrival makes: one replacement or none.
 abbrev pub departure_of : Settings → Network → Arrival → List Departure

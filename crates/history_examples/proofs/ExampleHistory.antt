@@ -5,9 +5,9 @@
 --   example_given, example_kept_out  its draws
 --   example_accepted, example_without    the lines that its calls accepted, and without touches
 --   example_list, example_quantile   a reading
+use Rattle.std.specs.Prelude.{Some}
 use mathlib.Core.Path.{◌≡◌, refl, ap, ◌∙◌}
 use mathlib.Core.List.{[], ◌∷◌}
-use Rattle.model.specs.declared.Quantile.TheVariants.{Value}
 use Rattle.model.specs.Limits.{value_count}
 use Rattle.model.specs.Draws.{draws_of}
 use Rattle.model.specs.Instances.{settings_a, arrival_with, draw}
@@ -93,6 +93,6 @@ example_list = record { refusal = refl; count = refl; list = refl }
 -- The quantile call on all of it: value 3.
 pub example_quantile : QuantileSays settings_a after_batch_of_two.held.coordinator
     (coordinator_part after_batch_of_two.held 0 1036)
-    (record { refusal = 0; quantile = Value 3 })
+    (record { refusal = 0; quantile = Some 3 })
 unfolding value_count
 example_quantile = record { refusal = refl; quantile = refl }

@@ -7,17 +7,14 @@
 --   DeckMessageExported   a message at a deck
 use Rattle.std.specs.Prelude.{◌≡◌, ℕ}
 use Rattle.model.specs.Instances.{arrival_with}
-use Rattle.site_steps.specs.declared.Observed.{Observed}
-use Rattle.site_receiving.specs.declared.Replied.{Replied}
-use Rattle.site_start.specs.declared.StartedSite.{StartedSite}
-use Rattle.site.specs.Calls.{ObserveSays, SiteReceiveSays}
-use Rattle.site_start.specs.Starts.{StartSiteSays}
+use Rattle.site.specs.Calls.{SiteReply, Observation, ObserveSays, SiteReceiveSays}
+use Rattle.site_start.specs.Starts.{SiteStart, StartSiteSays}
 use Rattle.record_numbers.specs.Numbers.{settings_from, message_read, site_from, site_numbers}
 use Rattle.library_rows.specs.Rows.{Row, Number, handed_out, HandMessageSays, HandMessagesSays}
 
 pub record StartDeckExported (settings : Row) (deck : ℕ) (numbers memory : Row) (answer : ℕ)
     : Type 0 where
-  pub started : StartedSite
+  pub started : SiteStart
   pub says : StartSiteSays (settings_from settings.before) deck memory.before memory.after
       started
   pub refusal : answer ≡ started.refusal
@@ -27,7 +24,7 @@ pub record StartDeckExported (settings : Row) (deck : ℕ) (numbers memory : Row
 -- The deck's own number is the draw's.
 pub record DeckDrawExported (settings : Row) (deck : ℕ) (numbers memory : Row) (code class : ℕ)
     (out : Row) (count : Number) (answer : ℕ) : Type 0 where
-  pub observed : Observed
+  pub observed : Observation
   pub says : ObserveSays (settings_from settings.before) (site_from numbers.before)
       (arrival_with deck code class) memory.before memory.after observed
   pub refusal : answer ≡ observed.refusal
@@ -38,7 +35,7 @@ pub record DeckDrawExported (settings : Row) (deck : ℕ) (numbers memory : Row)
 
 pub record DeckMessageExported (settings : Row) (deck : ℕ) (numbers memory message reply : Row)
     (count : Number) (answer : ℕ) : Type 0 where
-  pub replied : Replied
+  pub replied : SiteReply
   pub says : SiteReceiveSays (settings_from settings.before) (site_from numbers.before) deck
       (message_read message.before) memory.before replied
   pub refusal : answer ≡ replied.refusal

@@ -14,16 +14,12 @@ use Rattle.model.specs.declared.Arrival.{Arrival}
 use Rattle.model.specs.declared.Message.{Message}
 use Rattle.model.specs.declared.SiteRecord.{SiteRecord}
 use Rattle.model.specs.Refusals.{when, ◌or_else◌, no_refusal, memory_too_short, unknown_site}
-use Rattle.model.specs.Limits.{most_sites}
 use Rattle.model.specs.Settings.{settings_refusal}
 use Rattle.model.specs.SiteMemory.{site_words}
 use Rattle.model.specs.NetworkMemory.{sites_words}
 use Rattle.bench_memory.specs.Promises.{SitesFit}
-use Rattle.site_steps.specs.declared.Observed.{Observed}
-use Rattle.site_receiving.specs.declared.Replied.{Replied}
-use Rattle.site_start.specs.declared.StartedSites.{StartedSites}
-use Rattle.site.specs.Calls.{ObserveSays, SiteReceiveSays}
-use Rattle.site_start.specs.Starts.{StartSitesSays}
+use Rattle.site.specs.Calls.{Observation, SiteReply, ObserveSays, SiteReceiveSays}
+use Rattle.site_start.specs.Starts.{SitesStart, StartSitesSays}
 use Rattle.record_numbers.specs.Numbers.{site_width, settings_from, arrival_from, message_read, site_at, site_numbers, sites_numbers}
 use Rattle.library_rows.specs.Rows.{Row, Number, handed_out, HandMessageSays, HandMessagesSays}
 
@@ -63,7 +59,7 @@ with_deck decks which site = sets decks (site_width * which) (site_numbers site)
 -- ---- Starting all decks
 
 pub record StartDecksExported (settings decks memory : Row) (answer : ℕ) : Type 0 where
-  pub started : StartedSites
+  pub started : SitesStart
   pub says : StartSitesSays (settings_from settings.before) memory.before memory.after
       started
   pub refusal : answer ≡ started.refusal
@@ -76,7 +72,7 @@ pub record StartDecksExported (settings decks memory : Row) (answer : ℕ) : Typ
 pub record DecksDrawn (settings : Settings) (draw : Arrival) (decks memory out : Row)
     (count : Number) (answer : ℕ) : Type 0 where
   pub part : List ℕ
-  pub observed : Observed
+  pub observed : Observation
   pub says : ObserveSays settings (deck_at decks.before draw.site) draw
       (part_from settings memory.before draw.site) part observed
   pub refusal : answer ≡ observed.refusal
@@ -110,7 +106,7 @@ pub record DecksDrawExported (settings decks memory draw out : Row) (count : Num
 -- The site's call, on the record and the part of the deck that the message names.
 pub record DecksReplied (settings : Settings) (message : Message) (memory : List ℕ)
     (decks reply : Row) (count : Number) (answer : ℕ) : Type 0 where
-  pub replied : Replied
+  pub replied : SiteReply
   pub says : SiteReceiveSays settings (deck_at decks.before message.site) message.site
       message (part_from settings memory message.site) replied
   pub refusal : answer ≡ replied.refusal

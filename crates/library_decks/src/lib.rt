@@ -1,19 +1,17 @@
 // The calls of the library on all decks of a bench (tracker.h), with the records of all and the
 // memory of all: the deck is the one that a draw or a message names, and it is looked up after it
 // was tested. The records are one row of numbers behind a pointer, which C sees as a struct.
+// As it is: a call answers with the number of its refusal, or 0, since the C interface needs it.
 
 #![tactic(auto)]
 
-ghost use Rattle.std.specs.Prelude.{◌≡◌, ◌<◌};
-ghost use Rattle.model.specs.Limits.{most_sites};
-ghost use Rattle.library_rows.specs.Rows.{lent, handed_out};
-ghost use Rattle.library_decks.specs.AllDecks.{decks_refusal, with_deck, NamedAsks, StartDecksExported, DecksDrawn, DecksDrawExported, DecksReplied, DecksMessageExported};
+ghost use Rattle.std.specs.Prelude.{◌≡◌};
+ghost use Rattle.model.specs.Refusals.{refusal_in};
+ghost use Rattle.library_rows.specs.Rows.{lent};
+ghost use Rattle.library_decks.specs.AllDecks.{decks_refusal, NamedAsks, StartDecksExported, DecksDrawn, DecksDrawExported, DecksReplied, DecksMessageExported};
 
 use library_rows::{TWO_MESSAGES, hand_message, hand_messages};
-use model::{
-    Arrival, MEMORY_TOO_SHORT, MESSAGE_WIDTH, Message, NO_REFUSAL, Settings, SiteRecord,
-    UNKNOWN_SITE, Word,
-};
+use model::{Arrival, MESSAGE_WIDTH, Message, NO_REFUSAL, Refusal, Settings, Word, refusal_number};
 use record_numbers::{
     ARRIVAL_NUMBERS, SETTINGS_NUMBERS, arrival_from, message_from, settings_from,
 };
@@ -28,44 +26,30 @@ pub fn tracker_start_decks(
     ensures { StartDecksExported (lent settings.now settings.now) (lent decks.old decks.new)
         (lent memory.old memory.new) result }
 {
-    let started = site_start::start_sites(settings_from(settings), memory);
-    if started.refusal == NO_REFUSAL {
-        let fresh = started.sites;
-        *decks = sites_row(fresh);
+    match site_start::start_sites(settings_from(settings), memory) {
+        Err(refusal) => refusal.number(),
+        Ok(fresh) => {
+            *decks = sites_row(fresh);
+            NO_REFUSAL
+        }
     }
-    started.refusal
 }
 
 // 1, 2, 3; 4, with memory of so many numbers for all decks; 5.
-fn decks_refusal(settings: Settings, which: u32, words: usize) -> u32
-    ensures { result ≡ decks_refusal settings which words }
+fn test_decks(settings: Settings, which: u32, words: usize) -> Result<(), Refusal>
+    ensures { refusal_in result ≡ decks_refusal settings which words }
 {
-    let refusal = settings::test_settings(settings);
-    if refusal != NO_REFUSAL {
-        return refusal;
-    }
+    settings::test_settings(settings)?;
     if words < (settings.sites as usize) * site_memory::site_words(settings) {
-        return MEMORY_TOO_SHORT;
+        return Err(Refusal::MemoryTooShort);
     }
     if settings.sites <= which {
-        return UNKNOWN_SITE;
+        return Err(Refusal::UnknownSite);
     }
-    NO_REFUSAL
+    Ok(())
 }
 
-// The record that a call hands back, where it accepts. Internal: its callers test that there is
-// such a deck.
-fn hand_site_at(refusal: u32, which: usize, site: SiteRecord, decks: &mut [u64; SITES_NUMBERS])
-    requires { which < most_sites }
-    ensures { decks.new ≡ handed_out refusal (with_deck decks.old which site)
-        decks.old }
-{
-    if refusal == NO_REFUSAL {
-        store_site(decks, which, site);
-    }
-}
-
-// `site::observe` at the deck that the draw names. Internal: `decks_refusal` decides what it
+// `site::observe` at the deck that the draw names. Internal: `test_decks` decides what it
 // requires.
 fn draw_at(
     settings: Settings,
@@ -74,22 +58,19 @@ fn draw_at(
     draw: Arrival,
     out: &mut [u64; TWO_MESSAGES],
     count: &mut u32,
-) -> u32
+) -> Result<(), Refusal>
     requires { NamedAsks settings draw.site memory.old }
     ensures { DecksDrawn settings draw (lent decks.old decks.new) (lent memory.old memory.new)
         (lent out.old out.new)
-        (lent count.old count.new) result }
+        (lent count.old count.new) (refusal_in result) }
 {
     let which = draw.site as usize;
     let start = which * site_memory::site_words(settings);
     let numbers = site_at(decks, which);
-    let observed = site::observe(settings, numbers, draw, &mut memory[start..]);
-    let site = observed.site;
-    let first = observed.first;
-    let second = observed.second;
-    hand_site_at(observed.refusal, which, site, decks);
-    hand_messages(observed.refusal, observed.count, first, second, out, count);
-    observed.refusal
+    let observed = site::observe(settings, numbers, draw, &mut memory[start..])?;
+    store_site(decks, which, observed.site);
+    hand_messages(observed.count, observed.first, observed.second, out, count);
+    Ok(())
 }
 
 // A draw at the deck that it names.
@@ -107,11 +88,10 @@ pub fn tracker_decks_draw(
 {
     let rules = settings_from(settings);
     let arrival = arrival_from(draw);
-    let refusal = decks_refusal(rules, arrival.site, memory.len());
-    if refusal != NO_REFUSAL {
-        return refusal;
+    if let Err(refusal) = test_decks(rules, arrival.site, memory.len()) {
+        return refusal.number();
     }
-    draw_at(rules, decks, memory, arrival, out, count)
+    refusal_number(draw_at(rules, decks, memory, arrival, out, count))
 }
 
 // `site::receive` at the deck that the message names. Internal, as `draw_at`.
@@ -122,22 +102,19 @@ fn message_at(
     message: Message,
     reply: &mut [u64; MESSAGE_WIDTH],
     count: &mut u32,
-) -> u32
+) -> Result<(), Refusal>
     requires { NamedAsks settings message.site memory.now }
     ensures { DecksReplied settings message memory.now (lent decks.old decks.new)
         (lent reply.old reply.new)
-        (lent count.old count.new) result }
+        (lent count.old count.new) (refusal_in result) }
 {
     let which = message.site as usize;
     let start = which * site_memory::site_words(settings);
-    let part = &memory[start..];
     let numbers = site_at(decks, which);
-    let replied = site::receive(settings, numbers, message.site, message, part);
-    let site = replied.site;
-    let answer = replied.reply;
-    hand_site_at(replied.refusal, which, site, decks);
-    hand_message(replied.refusal, replied.count, answer, reply, count);
-    replied.refusal
+    let replied = site::receive(settings, numbers, message.site, message, &memory[start..])?;
+    store_site(decks, which, replied.site);
+    hand_message(replied.count, replied.reply, reply, count);
+    Ok(())
 }
 
 // A message at the deck that it names.
@@ -156,9 +133,8 @@ pub fn tracker_decks_message(
 {
     let rules = settings_from(settings);
     let received = message_from(message);
-    let refusal = decks_refusal(rules, received.site, memory.len());
-    if refusal != NO_REFUSAL {
-        return refusal;
+    if let Err(refusal) = test_decks(rules, received.site, memory.len()) {
+        return refusal.number();
     }
-    message_at(rules, decks, memory, received, reply, count)
+    refusal_number(message_at(rules, decks, memory, received, reply, count))
 }

@@ -7,14 +7,12 @@
 --   AnnouncementExported    the next kind 7
 use Rattle.std.specs.Prelude.{◌≡◌, ℕ}
 use Rattle.model.specs.Refusals.{no_refusal}
-use Rattle.coordinator.specs.declared.StartedCoordinator.{StartedCoordinator}
-use Rattle.coordinator.specs.declared.Received.{Received}
-use Rattle.coordinator.specs.Calls.{StartCoordinatorSays, CoordinatorReceiveSays, AnnounceSays}
+use Rattle.coordinator.specs.Calls.{Reception, CoordinatorStart, StartCoordinatorSays, CoordinatorReceiveSays, AnnounceSays}
 use Rattle.record_numbers.specs.Numbers.{settings_from, message_read, message_numbers, coordinator_read, coordinator_numbers}
 use Rattle.library_rows.specs.Rows.{Row, Number, handed_out, HandMessageSays}
 
 pub record StartDeskExported (settings desk memory : Row) (answer : ℕ) : Type 0 where
-  pub started : StartedCoordinator
+  pub started : CoordinatorStart
   pub says : StartCoordinatorSays (settings_from settings.before) memory.before
       memory.after started
   pub refusal : answer ≡ started.refusal
@@ -23,7 +21,7 @@ pub record StartDeskExported (settings desk memory : Row) (answer : ℕ) : Type 
 
 pub record DeskMessageExported (settings desk memory message out : Row) (count : Number)
     (answer : ℕ) : Type 0 where
-  pub received : Received
+  pub received : Reception
   pub says : CoordinatorReceiveSays (settings_from settings.before)
       (coordinator_read desk.before) (message_read message.before) memory.before
       memory.after received
@@ -33,7 +31,7 @@ pub record DeskMessageExported (settings desk memory message out : Row) (count :
   pub out_is : HandMessageSays received.refusal received.count received.out out count
 
 pub record AnnouncementExported (settings desk memory out : Row) (answer : ℕ) : Type 0 where
-  pub received : Received
+  pub received : Reception
   pub says : AnnounceSays (settings_from settings.before) (coordinator_read desk.before)
       memory.before received
   pub refusal : answer ≡ received.refusal

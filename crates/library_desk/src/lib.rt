@@ -1,39 +1,15 @@
 // Starting the desk, a message for it, and the messages of kind 7 that it announces.
+// As it is: a call answers with the number of its refusal, or 0, since the C interface needs it.
 
 #![tactic(auto)]
 
-ghost use Rattle.std.specs.Prelude.{◌≡◌};
-ghost use Rattle.record_numbers.specs.Numbers.{message_numbers, coordinator_numbers};
-ghost use Rattle.library_rows.specs.Rows.{lent, handed_out};
+ghost use Rattle.library_rows.specs.Rows.{lent};
 ghost use Rattle.library_desk.specs.Desk.{StartDeskExported, DeskMessageExported, AnnouncementExported};
 
 use coordinator_numbers::{COORDINATOR_NUMBERS, coordinator_from, coordinator_row};
 use library_rows::hand_message;
-use model::{CoordinatorRecord, MESSAGE_WIDTH, Message, NO_REFUSAL};
+use model::{MESSAGE_WIDTH, NO_REFUSAL};
 use record_numbers::{SETTINGS_NUMBERS, message_from, message_row, settings_from};
-
-// The record that a call hands back, where it accepts.
-fn hand_coordinator(
-    refusal: u32,
-    coordinator: CoordinatorRecord,
-    desk: &mut [u64; COORDINATOR_NUMBERS],
-)
-    ensures { desk.new ≡ handed_out refusal (coordinator_numbers coordinator)
-        desk.old }
-{
-    if refusal == NO_REFUSAL {
-        *desk = coordinator_row(coordinator);
-    }
-}
-
-// The one message that a call hands back, where it accepts.
-fn hand_one(refusal: u32, message: Message, out: &mut [u64; MESSAGE_WIDTH])
-    ensures { out.new ≡ handed_out refusal (message_numbers message) out.old }
-{
-    if refusal == NO_REFUSAL {
-        *out = message_row(message);
-    }
-}
 
 // `coordinator::start_coordinator`.
 pub fn tracker_start_desk(
@@ -44,10 +20,13 @@ pub fn tracker_start_desk(
     ensures { StartDeskExported (lent settings.now settings.now) (lent desk.old desk.new)
         (lent memory.old memory.new) result }
 {
-    let started = coordinator::start_coordinator(settings_from(settings), memory);
-    let fresh = started.coordinator;
-    hand_coordinator(started.refusal, fresh, desk);
-    started.refusal
+    match coordinator::start_coordinator(settings_from(settings), memory) {
+        Err(refusal) => refusal.number(),
+        Ok(fresh) => {
+            *desk = coordinator_row(fresh);
+            NO_REFUSAL
+        }
+    }
 }
 
 // `coordinator::receive`.
@@ -63,17 +42,19 @@ pub fn tracker_desk_message(
         (lent memory.old memory.new) (lent message.now message.now)
         (lent out.old out.new) (lent count.old count.new) result }
 {
-    let received = coordinator::receive(
+    match coordinator::receive(
         settings_from(settings),
         coordinator_from(desk),
         message_from(message),
         memory,
-    );
-    let next = received.coordinator;
-    let sent = received.out;
-    hand_coordinator(received.refusal, next, desk);
-    hand_message(received.refusal, received.count, sent, out, count);
-    received.refusal
+    ) {
+        Err(refusal) => refusal.number(),
+        Ok(received) => {
+            *desk = coordinator_row(received.coordinator);
+            hand_message(received.count, received.out, out, count);
+            NO_REFUSAL
+        }
+    }
 }
 
 // `coordinator::next_announcement`.
@@ -87,14 +68,12 @@ pub fn tracker_desk_announcement(
         (lent memory.now memory.now) (lent out.old out.new)
         result }
 {
-    let received = coordinator::next_announcement(
-        settings_from(settings),
-        coordinator_from(desk),
-        memory,
-    );
-    let announcing = received.coordinator;
-    let sent = received.out;
-    hand_coordinator(received.refusal, announcing, desk);
-    hand_one(received.refusal, sent, out);
-    received.refusal
+    match coordinator::next_announcement(settings_from(settings), coordinator_from(desk), memory) {
+        Err(refusal) => refusal.number(),
+        Ok(announced) => {
+            *desk = coordinator_row(announced.coordinator);
+            *out = message_row(announced.out);
+            NO_REFUSAL
+        }
+    }
 }

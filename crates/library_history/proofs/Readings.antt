@@ -1,4 +1,5 @@
 -- The calls that read the desk, at a bench that a history left at rest: `reads-bench`.
+use Rattle.std.specs.Prelude.{Option, None, Some}
 use mathlib.Core.Path.{◌≡◌, refl, sym, ap, ◌∙◌, subst}
 use mathlib.Core.Bool.{true}
 use mathlib.Core.List.{List}
@@ -6,8 +7,6 @@ use Prim.Native.Nat.{ℕ, ◌+◌, ◌≤◌, ◌<◌}
 use native.Mathlib.Omega.{arith}
 use lib.ListN.{length, get_or, take}
 use Rattle.model.specs.declared.Settings.{Settings}
-use Rattle.model.specs.declared.Quantile.{Quantile}
-use Rattle.model.specs.declared.Quantile.TheVariants.{Nothing, Value}
 use Rattle.model.specs.Refusals.{no_refusal}
 use Rattle.model.specs.CoordinatorMemory.{coordinator_words}
 use Rattle.model.specs.Claims.{contains}
@@ -102,11 +101,11 @@ module _ (settings : Settings) (bench : Bench) (state : State)
       by_class : (answer : _) → History.QuantileRight settings state answer
           → (class refusal : ℕ)
           → refusal ≡ no_refusal
-          → (quantile : Quantile)
+          → (quantile : Option ℕ)
           → answer.quantile ≡ quantile
           → class ≡ class_number quantile
           → ClassRight settings state class refusal
-      by_class answer right class refusal none Nothing is number =
+      by_class answer right class refusal none None is number =
           let early = right.nothing_only_at_start is in
           record {
             never_refused = none;
@@ -116,7 +115,7 @@ module _ (settings : Settings) (bench : Bench) (state : State)
             few_below = λ some. absurd (omega (arith, early, some));
             few_above = λ some. absurd (omega (arith, early, some));
           }
-      by_class answer right class refusal none (Value value) is number =
+      by_class answer right class refusal none (Some value) is number =
           subst (λ (c : ℕ). ClassRight settings state c refusal) (sym number)
           (record {
             never_refused = none;

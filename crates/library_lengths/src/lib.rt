@@ -1,4 +1,5 @@
 // How much a caller of the library lends: the call behind `tracker_test_lengths` of tracker.h.
+// As it is: a call answers with the number of its refusal, or 0, since the C interface needs it.
 
 #![tactic(auto)]
 
@@ -22,11 +23,7 @@ fn most_listed(settings: Settings) -> u64
     let share = 2 * (settings.phi as u64) - (settings.epsilon as u64);
     let lag = THRESHOLD_FACTOR - (settings.epsilon as u64);
     let most = LIST_FACTOR * THRESHOLD_FACTOR / (share * lag);
-    let universe = settings.universe as u64;
-    if universe < most {
-        return universe;
-    }
-    most
+    most.min(settings.universe as u64)
 }
 
 // The lengths of all that is lent, in the order of tracker.h. Internal: the settings are tested.
@@ -36,13 +33,12 @@ fn lengths_of(settings: Settings) -> [u64; LENGTHS]
 {
     let site = site_memory::site_words(settings) as u64;
     let coordinator = (settings.universe as u64) + (VALUE_COUNT as u64);
-    let listed = most_listed(settings);
     let messages = settings::most_messages(settings);
     [
         site,
         (settings.sites as u64) * site,
         coordinator,
-        listed,
+        most_listed(settings),
         (MESSAGE_WIDTH as u64) * messages,
     ]
 }
@@ -52,9 +48,11 @@ pub fn tracker_test_lengths(settings: &[u32; SETTINGS_NUMBERS], lengths: &mut [u
     ensures { LengthsExported settings.now lengths.old lengths.new result }
 {
     let rules = settings_from(settings);
-    let refusal = settings::test_settings(rules);
-    if refusal == NO_REFUSAL {
-        *lengths = lengths_of(rules);
+    match settings::test_settings(rules) {
+        Err(refusal) => refusal.number(),
+        Ok(()) => {
+            *lengths = lengths_of(rules);
+            NO_REFUSAL
+        }
     }
-    refusal
 }

@@ -5,20 +5,15 @@
 --   ListExported             the listed codes, and how many
 --   MarginExported           how far a code is above the list rule, or below it
 --   ClassExported            the tracked class
-use Rattle.std.specs.Prelude.{◌≡◌, ℕ, ℤ}
-use Rattle.model.specs.declared.Quantile.{Quantile}
-use Rattle.model.specs.declared.Quantile.TheVariants.{Nothing, Value}
-use Rattle.coordinator_list.specs.declared.Listed.{Listed}
-use Rattle.coordinator_list.specs.Promises.{ListSays}
-use Rattle.coordinator_reading.specs.declared.Margin.{Margin}
-use Rattle.coordinator_reading.specs.declared.QuantileRead.{QuantileRead}
-use Rattle.coordinator_reading.specs.Promises.{MarginSays, QuantileSays}
+use Rattle.std.specs.Prelude.{◌≡◌, ℕ, ℤ, Option, None, Some}
+use Rattle.coordinator_list.specs.Promises.{ListAnswer, ListSays}
+use Rattle.coordinator_reading.specs.Promises.{MarginAnswer, QuantileAnswer, MarginSays, QuantileSays}
 use Rattle.record_numbers.specs.Numbers.{greatest_narrow, settings_from, coordinator_read}
 use Rattle.library_rows.specs.Rows.{Lent, Row, Number, handed_out}
 
 pub record ListExported (settings desk memory codes : Row) (count : Number) (answer : ℕ)
     : Type 0 where
-  pub listed : Listed
+  pub listed : ListAnswer
   pub says : ListSays (settings_from settings.before) (coordinator_read desk.before)
       memory.before codes.before codes.after listed
   pub refusal : answer ≡ listed.refusal
@@ -26,19 +21,19 @@ pub record ListExported (settings desk memory codes : Row) (count : Number) (ans
 
 pub record MarginExported (settings desk memory : Row) (code : ℕ) (margin : Lent ℤ) (answer : ℕ)
     : Type 0 where
-  pub read : Margin
+  pub read : MarginAnswer
   pub says : MarginSays (settings_from settings.before) (coordinator_read desk.before) code
       memory.before read
   pub refusal : answer ≡ read.refusal
   pub margin_is : margin.after ≡ handed_out read.refusal read.margin margin.before
 
-abbrev pub class_number : Quantile → ℕ
-class_number Nothing = greatest_narrow
-class_number (Value value) = value
+abbrev pub class_number : Option ℕ → ℕ
+class_number None = greatest_narrow
+class_number (Some value) = value
 
 pub record ClassExported (settings desk memory : Row) (class : Number) (answer : ℕ)
     : Type 0 where
-  pub read : QuantileRead
+  pub read : QuantileAnswer
   pub says : QuantileSays (settings_from settings.before) (coordinator_read desk.before)
       memory.before read
   pub refusal : answer ≡ read.refusal

@@ -1,13 +1,13 @@
 // Reading the desk: the list, the margin of a code, the class. The record is only read.
+// As it is: a call answers with the number of its refusal, or 0, since the C interface needs it.
 
 #![tactic(auto)]
 
-ghost use Rattle.std.specs.Prelude.{◌≡◌};
 ghost use Rattle.library_rows.specs.Rows.{lent};
-ghost use Rattle.library_reading.specs.Reading.{class_number, ListExported, MarginExported, ClassExported};
+ghost use Rattle.library_reading.specs.Reading.{ListExported, MarginExported, ClassExported};
 
 use coordinator_numbers::{COORDINATOR_NUMBERS, coordinator_from};
-use model::{NO_REFUSAL, Quantile};
+use model::NO_REFUSAL;
 use record_numbers::{SETTINGS_NUMBERS, settings_from};
 
 // The number that stands for no class: the greatest of four bytes.
@@ -25,16 +25,18 @@ pub fn tracker_desk_list(
         (lent memory.now memory.now) (lent codes.old codes.new)
         (lent count.old count.new) result }
 {
-    let listed = coordinator_list::list_heavy_hitters(
+    match coordinator_list::list_heavy_hitters(
         settings_from(settings),
         coordinator_from(desk),
         memory,
         codes,
-    );
-    if listed.refusal == NO_REFUSAL {
-        *count = listed.count as usize;
+    ) {
+        Err(refusal) => refusal.number(),
+        Ok(listed) => {
+            *count = listed as usize;
+            NO_REFUSAL
+        }
     }
-    listed.refusal
 }
 
 // `coordinator_reading::read_margin`.
@@ -49,26 +51,17 @@ pub fn tracker_desk_margin(
         (lent memory.now memory.now) code (lent margin.old margin.new)
         result }
 {
-    let read = coordinator_reading::read_margin(
+    match coordinator_reading::read_margin(
         settings_from(settings),
         coordinator_from(desk),
         code,
         memory,
-    );
-    if read.refusal == NO_REFUSAL {
-        let value = read.margin;
-        *margin = value;
-    }
-    read.refusal
-}
-
-// The class as a number.
-fn class_number(quantile: Quantile) -> u32
-    ensures { result ≡ class_number quantile }
-{
-    match quantile {
-        Quantile::Nothing => NO_CLASS,
-        Quantile::Value(value) => value,
+    ) {
+        Err(refusal) => refusal.number(),
+        Ok(read) => {
+            *margin = read;
+            NO_REFUSAL
+        }
     }
 }
 
@@ -82,14 +75,15 @@ pub fn tracker_desk_class(
     ensures { ClassExported (lent settings.now settings.now) (lent desk.now desk.now)
         (lent memory.now memory.now) (lent class.old class.new) result }
 {
-    let read = coordinator_reading::read_quantile(
+    match coordinator_reading::read_quantile(
         settings_from(settings),
         coordinator_from(desk),
         memory,
-    );
-    if read.refusal == NO_REFUSAL {
-        let quantile = read.quantile;
-        *class = class_number(quantile);
+    ) {
+        Err(refusal) => refusal.number(),
+        Ok(quantile) => {
+            *class = quantile.unwrap_or(NO_CLASS);
+            NO_REFUSAL
+        }
     }
-    read.refusal
 }

@@ -1,56 +1,39 @@
-// The messages that a call of the library hands out, as rows of numbers: only where it accepts.
-// Both functions serve the crates `library_decks` and `library_desk`.
+// The messages that a call of the library hands out, as rows of numbers: where it accepts, and a
+// refused call never gets here. Both functions serve the crates `library_deck`, `library_decks` and
+// `library_desk`.
 
 #![tactic(auto)]
 
+ghost use Rattle.model.specs.Refusals.{no_refusal};
 ghost use Rattle.library_rows.specs.Rows.{lent, HandMessageSays, HandMessagesSays};
 
-use model::{MESSAGE_WIDTH, Message, NO_REFUSAL};
+use model::{MESSAGE_WIDTH, Message};
 use record_numbers::message_row;
 
 // The numbers of two messages.
 pub const TWO_MESSAGES: usize = 2 * MESSAGE_WIDTH;
 
 // One message, and how many there are.
-pub fn hand_message(
-    refusal: u32,
-    sent: u32,
-    message: Message,
-    out: &mut [u64; MESSAGE_WIDTH],
-    count: &mut u32,
-)
-    ensures { HandMessageSays refusal sent message (lent out.old out.new)
+pub fn hand_message(sent: u32, message: Message, out: &mut [u64; MESSAGE_WIDTH], count: &mut u32)
+    ensures { HandMessageSays no_refusal sent message (lent out.old out.new)
         (lent count.old count.new) }
 {
-    if refusal == NO_REFUSAL {
-        *out = message_row(message);
-        *count = sent;
-    }
+    *out = message_row(message);
+    *count = sent;
 }
 
 // Two messages, and how many there are.
 pub fn hand_messages(
-    refusal: u32,
     sent: u32,
     first: Message,
     second: Message,
     out: &mut [u64; TWO_MESSAGES],
     count: &mut u32,
 )
-    ensures { HandMessagesSays refusal sent first second (lent out.old out.new)
+    ensures { HandMessagesSays no_refusal sent first second (lent out.old out.new)
         (lent count.old count.new) }
 {
-    if refusal == NO_REFUSAL {
-        *out = [
-            first.kind as u64,
-            first.site as u64,
-            first.a,
-            first.b,
-            second.kind as u64,
-            second.site as u64,
-            second.a,
-            second.b,
-        ];
-        *count = sent;
-    }
+    out[..MESSAGE_WIDTH].copy_from_slice(&message_row(first));
+    out[MESSAGE_WIDTH..].copy_from_slice(&message_row(second));
+    *count = sent;
 }

@@ -2,12 +2,18 @@
 --
 --   CountsPass, counts_start, counts_on    the counts before j
 --   counts_fail, counts_end                what the walk answers
-use mathlib.Core.Path.{◌≡◌, refl, sym, subst}
+--   all_within                             a test of all of them
+use Rattle.std.specs.Prelude.{IsTrue, ◌↔◌}
+use Rattle.std.specs.List.{All}
+use Rattle.std.proofs.lemmas.List.{get_or_default}
+use mathlib.Core.Path.{◌≡◌, refl, sym, subst, ◌∙◌}
 use mathlib.Core.Bool.{Bool, true, false}
 use mathlib.Core.List.{List}
 use Prim.Native.Nat.{ℕ, ◌+◌, ◌≤◌, ◌<◌}
 use native.Mathlib.Omega.{arith}
 use native.Mathlib.Decide.{dec_lt}
+use lib.ListN.{length, take}
+use lib.Seq.{length-take-le, get_or-take}
 use Rattle.model.specs.Limits.{message_limit}
 use Rattle.model.specs.MessageCounts.{count_at, counts_within}
 use Rattle.model.proofs.MessageCount.Counts.{FewCounted, few_counted_of, counts_within_of}
@@ -48,3 +54,25 @@ module _ (k : ℕ) (counts : List ℕ) where
   counts_end j passing done =
       let last : j ≡ k = omega (arith, passing.within) in
       sym (counts_within_of k counts (subst (λ (n : ℕ). FewCounted n counts) last passing.few))
+
+-- The same as one test of all.
+pub all_within : (k : ℕ) (counts : List ℕ) (passed : Bool)
+    → k ≤ length counts
+    → IsTrue passed ↔ All (λ n. n ≤ message_limit) (take k counts)
+    → passed ≡ counts_within k counts
+all_within k counts true enough told =
+    sym (counts_within_of k counts (record {
+      each_within = λ i i<.
+          subst (λ (n : ℕ). n ≤ message_limit) (get_or-take k counts i 0 i<)
+          (told.0 refl i 0 (omega (arith, i<, length-take-le k counts enough)));
+    }))
+all_within k counts false enough told = by_test (counts_within k counts) refl
+  where
+    by_test : (test : Bool) → counts_within k counts ≡ test → false ≡ counts_within k counts
+    by_test true passes =
+        told.1 (λ i d i<.
+        let inside : i < k = omega (arith, i<, length-take-le k counts enough) in
+        let same = get_or-take k counts i d inside ∙ get_or_default counts i d 0 (omega arith) in
+        omega (arith, same, (few_counted_of k counts passes).each_within i inside))
+        ∙ sym passes
+    by_test false fails = sym fails

@@ -12,23 +12,14 @@ ghost use Rattle.message_counts.specs.Totals.{total_held};
 
 use model::{MESSAGE_LIMIT, SITE_RECORDS, Settings};
 
-// What 64 bits hold at most.
-const LARGEST_COUNT: u64 = u64::MAX;
-
 // Whether the count of each site is within its limit; their sum has none.
 pub fn counts_within(settings: Settings, counts: [u64; SITE_RECORDS]) -> bool
     requires { settings_refusal settings ≡ no_refusal }
     ensures { result ≡ counts_within settings.sites counts }
 {
-    let all = settings.sites as usize;
-    let mut j = 0;
-    while j < all {
-        if MESSAGE_LIMIT < counts[j] {
-            return false;
-        }
-        j += 1;
-    }
-    true
+    counts[..settings.sites as usize]
+        .iter()
+        .all(|count| *count <= MESSAGE_LIMIT)
 }
 
 // The messages counted for all sites: the sum of their counts, or what 64 bits hold at most where
@@ -37,16 +28,7 @@ pub fn total_count(settings: Settings, counts: [u64; SITE_RECORDS]) -> u64
     requires { settings_refusal settings ≡ no_refusal }
     ensures { result ≡ total_held settings counts }
 {
-    let sites = settings.sites as usize;
-    let mut total: u64 = 0;
-    let mut j = 0;
-    while j < sites {
-        let count = counts[j];
-        if LARGEST_COUNT - total < count {
-            return LARGEST_COUNT;
-        }
-        total += count;
-        j += 1;
-    }
-    total
+    counts[..settings.sites as usize]
+        .iter()
+        .fold(0, |total, count| total.saturating_add(*count))
 }

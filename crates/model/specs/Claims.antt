@@ -16,11 +16,10 @@
 --   AfterEach settings arrivals n       the demands after the first n accepted arrivals
 -- In all of them `run.accepted` has the draws of a run: its accepted arrivals of class 1 or more
 -- (request N2; Cuts.antt `accepted-drawn`).
-use Rattle.std.specs.Prelude.{◌≡◌, Bool, true, false, ◌&&◌, ◌||◌, List, [], ◌∷◌, pos, ℕ, ◌+◌, ◌-◌, ◌*◌, ◌≤◌, ◌<◌, eqb, ltb, length, get_or, take}
+use Rattle.std.specs.Prelude.{◌≡◌, Bool, true, false, ◌&&◌, ◌||◌, List, [], ◌∷◌, pos, ℕ, ◌+◌, ◌-◌, ◌*◌, ◌≤◌, ◌<◌, eqb, ltb, length, get_or, take, None, Some}
 use Rattle.model.specs.declared.Settings.{Settings}
 use Rattle.model.specs.declared.Arrival.{Arrival}
 use Rattle.model.specs.declared.Phase.TheVariants.{Idle}
-use Rattle.model.specs.declared.Quantile.TheVariants.{Nothing, Value}
 use Rattle.model.specs.Refusals.{no_refusal}
 use Rattle.model.specs.Limits.{top_value, least_drawn, messages_per_arrival, allowance_factor, firm_messages, firm_messages_per_digit}
 use Rattle.model.specs.Settings.{settings_refusal, digits, allowance}
@@ -61,17 +60,17 @@ above value (arrival ∷ arrivals) = one_if (ltb value arrival.value) + above va
 pub record QuantilePromise (settings : Settings) (run : Run) : Type 0 where
   -- "none" before the first draw, and never after it
   pub nothing_at_start : counted run.accepted ≡ 0
-      → quantile_of settings run.network.coordinator ≡ Nothing
-  pub nothing_only_at_start : quantile_of settings run.network.coordinator ≡ Nothing
+      → quantile_of settings run.network.coordinator ≡ None
+  pub nothing_only_at_start : quantile_of settings run.network.coordinator ≡ None
       → counted run.accepted ≡ 0
   -- "1000 × (draws below it) ≤ (q + e) × n"
   pub few_below : (value : ℕ)
-      → quantile_of settings run.network.coordinator ≡ Value value
+      → quantile_of settings run.network.coordinator ≡ Some value
       → 1000 * below value run.accepted
       ≤ (settings.rank + settings.epsilon) * counted run.accepted
   -- "1000 × (draws above it) ≤ (1000 - q + e) × n"
   pub few_above : (value : ℕ)
-      → quantile_of settings run.network.coordinator ≡ Value value
+      → quantile_of settings run.network.coordinator ≡ Some value
       → 1000 * above value run.accepted
       ≤ (1000 - settings.rank + settings.epsilon) * counted run.accepted
 
@@ -80,29 +79,29 @@ pub record QuantilePromise (settings : Settings) (run : Run) : Type 0 where
 pub record FirmQuantile (settings : Settings) (run : Run) : Type 0 where
   -- "Volume classes run from 0 to 1023."
   pub value_known : (value : ℕ)
-      → quantile_of settings run.network.coordinator ≡ Value value
+      → quantile_of settings run.network.coordinator ≡ Some value
       → value ≤ top_value
   -- and since touches are no draws, class 0 never comes out
   pub value_drawn : (value : ℕ)
-      → quantile_of settings run.network.coordinator ≡ Value value
+      → quantile_of settings run.network.coordinator ≡ Some value
       → least_drawn ≤ value
   -- 1000 × (draws below it) ≤ (q + 2e / 3) × n, times 3
   pub few_below : (value : ℕ)
-      → quantile_of settings run.network.coordinator ≡ Value value
+      → quantile_of settings run.network.coordinator ≡ Some value
       → 3000 * below value run.accepted
       ≤ (3 * settings.rank + 2 * settings.epsilon) * counted run.accepted
   -- 1000 × (draws above it) ≤ (1000 - q + 2e / 3) × n, times 3
   pub few_above : (value : ℕ)
-      → quantile_of settings run.network.coordinator ≡ Value value
+      → quantile_of settings run.network.coordinator ≡ Some value
       → 3000 * above value run.accepted
       ≤ (3000 - 3 * settings.rank + 2 * settings.epsilon) * counted run.accepted
   -- while the threshold is 1, the least value with 1000 × (draws at or below it) ≥ q × n
   pub exact_below : (value : ℕ)
-      → quantile_of settings run.network.coordinator ≡ Value value
+      → quantile_of settings run.network.coordinator ≡ Some value
       → run.network.coordinator.threshold ≡ 1
       → 1000 * below value run.accepted < settings.rank * counted run.accepted
   pub exact_above : (value : ℕ)
-      → quantile_of settings run.network.coordinator ≡ Value value
+      → quantile_of settings run.network.coordinator ≡ Some value
       → run.network.coordinator.threshold ≡ 1
       → 1000 * above value run.accepted
       ≤ (1000 - settings.rank) * counted run.accepted
@@ -214,7 +213,7 @@ pub record Estimates (settings : Settings) (run : Run) : Type 0 where
 -- there were, nothing is listed, there is no class, each margin is 0, and no message went out.
 pub record BeforeDraws (settings : Settings) (run : Run) : Type 0 where
   pub nothing_listed : heavy_hitters settings run.network.coordinator ≡ []
-  pub no_class : quantile_of settings run.network.coordinator ≡ Nothing
+  pub no_class : quantile_of settings run.network.coordinator ≡ None
   pub margins_zero : (item : ℕ) → margin settings run.network.coordinator item ≡ pos 0
   pub no_message_lem : run.messages ≡ []
 

@@ -7,9 +7,8 @@
 --   leaving_by placement counters        which item leaves, and its unreported arrivals
 --   dropped_by placement counters        those alone: what goes with a replaced counter
 --   unreported_in counters               the unreported arrivals of all counters
-use Rattle.std.specs.Prelude.{Bool, true, false, ◌&&◌, ◌||◌, List, [], ◌∷◌, ◌++◌, ℕ, suc, ◌+◌, ◌-◌, eqb, ltb, length, get_or, set, if◌then◌else◌}
-use Rattle.model.specs.declared.Leaving.{Leaving}
-use Rattle.model.specs.declared.Leaving.TheVariants.{Nobody, Left}
+use Rattle.std.specs.Prelude.{Bool, true, false, Option, Some, None, ◌&&◌, ◌||◌, List, [], ◌∷◌, ◌++◌, ℕ, suc, ◌+◌, ◌-◌, eqb, ltb, length, get_or, set, if◌then◌else◌}
+use Rattle.model.specs.declared.Left.{Left}
 
 -- A counter: document 01's slot, "a code, a count, an overcount and a sent number".
 pub record Counter : Type 0 where
@@ -105,17 +104,20 @@ counters_after (replaced place) counters item =
 
 -- Request N1: "which code left and how many unsent draws went", by what the counter held before the
 -- new item is written. An item with nothing unreported leaves too.
-abbrev pub leaving_by : Placement → List Counter → Leaving
-leaving_by (own place) counters = Nobody
-leaving_by unused counters = Nobody
+abbrev pub left_with : ℕ → ℕ → Left
+left_with item gone = record { item = item; gone = gone }
+
+abbrev pub leaving_by : Placement → List Counter → Option Left
+leaving_by (own place) counters = None
+leaving_by unused counters = None
 leaving_by (replaced place) counters =
     let counter = counter_at counters place in
-    Left counter.item (unreported counter)
+    Some (left_with counter.item (unreported counter))
 
 -- "its unsent draws go with it": none, where nobody leaves.
-abbrev pub gone_with : Leaving → ℕ
-gone_with Nobody = 0
-gone_with (Left item gone) = gone
+abbrev pub gone_with : Option Left → ℕ
+gone_with None = 0
+gone_with (Some left) = left.gone
 
 abbrev pub dropped_by : Placement → List Counter → ℕ
 dropped_by placement counters = gone_with (leaving_by placement counters)

@@ -1,10 +1,9 @@
 -- Document 01's instances marked P, in one table: each field is one sentence of its section
 -- "Instances". The theorem `instances` of proofs/Instances.antt proves them all.
-use Rattle.std.specs.Prelude.{◌≡◌, List, [], ◌∷◌, ◌++◌, pos, negsuc, ℕ, zero, suc, length, replicate}
+use Rattle.std.specs.Prelude.{◌≡◌, List, [], ◌∷◌, ◌++◌, pos, negsuc, ℕ, zero, suc, length, replicate, None, Some}
 use Rattle.model.specs.declared.Settings.{Settings}
 use Rattle.model.specs.declared.Arrival.{Arrival}
 use Rattle.model.specs.declared.Message.{Message}
-use Rattle.model.specs.declared.Quantile.TheVariants.{Nothing, Value}
 use Rattle.model.specs.Refusals.{no_refusal, too_few_counters}
 use Rattle.model.specs.Settings.{settings_with, settings_refusal, threshold_of, allowance}
 use Rattle.model.specs.Lines.{write_fields, line_feed}
@@ -108,7 +107,7 @@ draws_p9 = arrival_with 0 7 3 ∷ arrival_with 0 7 9 ∷ []
 pub record Instances : Type 0 where
   -- "P1 fresh: list empty, class none."
   pub p1_list : heavy_hitters settings_a (fresh_coordinator settings_a) ≡ []
-  pub p1_class : quantile_of settings_a (fresh_coordinator settings_a) ≡ Nothing
+  pub p1_class : quantile_of settings_a (fresh_coordinator settings_a) ≡ None
   -- "P2 A, then `0;7;3`."
   pub p2_messages : messages_of settings_a [] draw ≡ messages_p2
   pub p2_transcript : transcript input_p2 ≡ message_bytes_p2 ++ result_bytes_p2
@@ -144,9 +143,9 @@ pub record Instances : Type 0 where
   pub p8_below : margin settings_a (coordinator_after settings_a (draws 1)) 8 ≡ negsuc 999
   -- "P9 A but for q, one draw each of classes 3 and 9: q 500 gives 3, q 501 gives 9."
   pub p9_lower : quantile_of (settings_p9 500) (coordinator_after (settings_p9 500) draws_p9) ≡
-      Value 3
+      Some 3
   pub p9_upper : quantile_of (settings_p9 501) (coordinator_after (settings_p9 501) draws_p9) ≡
-      Value 9
+      Some 9
   -- "P10 A: allowance 600 at n 6, 150 at n 0."
   pub p10_six : allowance settings_a 6 ≡ 600
   pub p10_none : allowance settings_a 0 ≡ 150

@@ -4,11 +4,9 @@
 --   heavy_hitters settings c          the listed items in rising order
 --   most_listed settings              the places that a list needs after any run
 --   margin settings c item            the signed difference of the list rule's two sides
---   quantile_of settings c            `Nothing` at threshold 1 and total 0
-use Rattle.std.specs.Prelude.{Bool, true, false, ◌&&◌, List, [], ◌∷◌, ◌++◌, ℤ, pos, negsuc, ℕ, zero, suc, ◌+◌, ◌-◌, ◌*◌, ◌/◌, min, eqb, leb, get_or, if◌then◌else◌}
+--   quantile_of settings c            `None` at threshold 1 and total 0
+use Rattle.std.specs.Prelude.{Bool, true, false, ◌&&◌, List, [], ◌∷◌, ◌++◌, ℤ, pos, negsuc, ℕ, zero, suc, ◌+◌, ◌-◌, ◌*◌, ◌/◌, min, eqb, leb, get_or, if◌then◌else◌, Option, None, Some}
 use Rattle.model.specs.declared.Settings.{Settings}
-use Rattle.model.specs.declared.Quantile.{Quantile}
-use Rattle.model.specs.declared.Quantile.TheVariants.{Nothing, Value}
 use Rattle.model.specs.Choice.{is_zero}
 use Rattle.model.specs.Coordinator.{Coordinator, enough}
 
@@ -55,22 +53,22 @@ margin settings c item = difference (held_side c item) (needed_side settings c)
 
 -- "the least v with 1000 × (counts at or below v) ≥ q × total": from a value on, with the counts
 -- below it summed up.
-abbrev pub least_value_from : ℕ → ℕ → ℕ → ℕ → List ℕ → Quantile
-least_value_from rank total value below [] = Nothing
+abbrev pub least_value_from : ℕ → ℕ → ℕ → ℕ → List ℕ → Option ℕ
+least_value_from rank total value below [] = None
 least_value_from rank total value below (count ∷ counts) =
     elim (enough rank total (below + count)) [
-      | true ↦ Value value
+      | true ↦ Some value
       | false ↦ least_value_from rank total (value + 1) (below + count) counts
     ]
 
-abbrev pub least_value : ℕ → ℕ → List ℕ → Quantile
+abbrev pub least_value : ℕ → ℕ → List ℕ → Option ℕ
 least_value rank total histogram = least_value_from rank total 0 0 histogram
 
 -- "The class while the threshold is 1 is the least v .., "none" at total 0; later the record's
 -- class".
-abbrev pub quantile_of : Settings → Coordinator → Quantile
+abbrev pub quantile_of : Settings → Coordinator → Option ℕ
 quantile_of settings c =
     if eqb c.threshold 1
-    then (if is_zero c.total then Nothing
+    then (if is_zero c.total then None
     else least_value settings.rank c.total c.histogram)
-    else Value c.quantile
+    else Some c.quantile

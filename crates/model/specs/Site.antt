@@ -9,7 +9,7 @@
 --   site_due_refusal site which m                  9, 7, 10 in that order, or accepted
 --   site_message_refusal settings site which m     5; then 9, 7, 10
 --   site_receives site m                           the site and its answer after a message
-use Rattle.std.specs.Prelude.{Bool, ◌&&◌, ◌||◌, not, List, [], ◌∷◌, ◌++◌, ℕ, zero, suc, ◌+◌, eqb, ltb, leb, get_or, set, replicate, if◌then◌else◌}
+use Rattle.std.specs.Prelude.{Bool, ◌&&◌, ◌||◌, not, Option, List, [], ◌∷◌, ◌++◌, ℕ, zero, suc, ◌+◌, eqb, ltb, leb, get_or, set, replicate, if◌then◌else◌}
 use Rattle.model.specs.declared.Settings.{Settings}
 use Rattle.model.specs.declared.Arrival.{Arrival}
 use Rattle.model.specs.declared.Message.{Message}
@@ -18,7 +18,7 @@ use Rattle.model.specs.Refusals.{when, ◌or_else◌, no_refusal, unknown_site, 
 use Rattle.model.specs.Limits.{top_value, value_count, site_limit}
 use Rattle.model.specs.Messages.{item_report, count_report, poll_answer, probe_answer, is_poll, is_probe, is_announcement}
 use Rattle.model.specs.Draws.{is_draw}
-use Rattle.model.specs.declared.Leaving.{Leaving}
+use Rattle.model.specs.declared.Left.{Left}
 use Rattle.model.specs.Counters.{Counter, counter_at, unreported, Placement, placement_for, place_of, counters_after, leaving_by, gone_with, after_report}
 
 -- A site: its counters in use from first to last, arrivals for each value (document 01's class
@@ -89,7 +89,7 @@ counters_with settings site arrival =
     counters_after (placement_in settings site arrival) site.counters arrival.item
 
 -- Who leaves for it, and with how many unreported arrivals (request N1).
-abbrev pub leaving_for : Settings → Site → Arrival → Leaving
+abbrev pub leaving_for : Settings → Site → Arrival → Option Left
 leaving_for settings site arrival = leaving_by (placement_in settings site arrival) site.counters
 
 -- "If unsent reaches the threshold, kind 1 goes out and sent grows by it."

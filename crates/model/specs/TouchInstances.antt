@@ -5,9 +5,8 @@
 --   touch, draw_then_touch    "0;8;0"; "0;7;3" and then it
 --   touch_of site item         a touch of an item at a site
 --   TouchInstances            the table
-use Rattle.std.specs.Prelude.{◌≡◌, true, false, List, [], ◌∷◌, ◌++◌, pos, ℕ}
+use Rattle.std.specs.Prelude.{◌≡◌, true, false, List, [], ◌∷◌, ◌++◌, pos, ℕ, None, Some}
 use Rattle.model.specs.declared.Arrival.{Arrival}
-use Rattle.model.specs.declared.Quantile.TheVariants.{Nothing, Value}
 use Rattle.model.specs.Settings.{allowance}
 use Rattle.model.specs.Lines.{write_fields, line_feed}
 use Rattle.model.specs.Draws.{is_draw, draws_of}
@@ -71,7 +70,7 @@ pub record TouchInstances : Type 0 where
   -- "A, `0;7;3` then `0;8;0`: 5 messages, listed 7, class 3, records as after P2"
   pub both_messages : (run_of settings_a draw_then_touch).messages ≡ messages_p2
   pub both_listed : heavy_hitters settings_a (coordinator_after settings_a draw_then_touch) ≡ 7 ∷ []
-  pub both_class : quantile_of settings_a (coordinator_after settings_a draw_then_touch) ≡ Value 3
+  pub both_class : quantile_of settings_a (coordinator_after settings_a draw_then_touch) ≡ Some 3
   pub both_network : (run_of settings_a draw_then_touch).network ≡
       (run_of settings_a (draws 1)).network
   -- one draw, none of it of code 8
@@ -91,7 +90,7 @@ pub record TouchInstances : Type 0 where
   pub alone_listed : heavy_hitters settings_a (coordinator_after settings_a (touch_of 0 7 ∷ [])) ≡
       []
   pub alone_class : quantile_of settings_a (coordinator_after settings_a (touch_of 0 7 ∷ [])) ≡
-      Nothing
+      None
   pub alone_margin : margin settings_a (coordinator_after settings_a (touch_of 0 7 ∷ [])) 7 ≡ pos 0
   pub alone_messages : (run_of settings_a (touch_of 0 7 ∷ [])).messages ≡ []
   pub alone_counted : counted (run_of settings_a (touch_of 0 7 ∷ [])).accepted ≡ 0

@@ -2,11 +2,9 @@
 -- instance P2).
 --
 --   transcript input     the messages so far, and then the results or the line `refused N`
-use Rattle.std.specs.Prelude.{Bool, true, false, ◌||◌, List, [], ◌∷◌, ◌++◌, ℕ, ltb, length}
+use Rattle.std.specs.Prelude.{Bool, true, false, ◌||◌, List, [], ◌∷◌, ◌++◌, ℕ, ltb, length, Option, None, Some}
 use Rattle.model.specs.declared.Settings.{Settings}
 use Rattle.model.specs.declared.Message.{Message}
-use Rattle.model.specs.declared.Quantile.{Quantile}
-use Rattle.model.specs.declared.Quantile.TheVariants.{Nothing, Value}
 use Rattle.model.specs.Choice.{is_zero}
 use Rattle.model.specs.Refusals.{when, ◌or_else◌, no_refusal, memory_too_short, malformed_line}
 use Rattle.model.specs.Settings.{settings_refusal}
@@ -63,9 +61,9 @@ refused_line refusal = end_line (refused_word ++ spaced (refusal ∷ []))
 -- ---- The results
 
 -- "then the listed codes in order with a space before each, the class or `none`, and the count"
-abbrev pub quantile_word : Quantile → List ℕ
-quantile_word Nothing = space ∷ none_word
-quantile_word (Value value) = spaced (value ∷ [])
+abbrev pub quantile_word : Option ℕ → List ℕ
+quantile_word None = space ∷ none_word
+quantile_word (Some value) = spaced (value ∷ [])
 
 abbrev pub result_lines : Settings → Run → List ℕ
 result_lines settings run =

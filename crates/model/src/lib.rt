@@ -210,11 +210,11 @@ pub struct Message {
 }
 
 // Who leaves when an arrival's item is counted, request N1's "which code left and how many unsent
-// draws went": nobody, or an item with its unreported arrivals, of which there may be none.
+// draws went": an item with its unreported arrivals, of which there may be none.
 #[derive(Clone, Copy)]
-pub enum Leaving {
-    Nobody,
-    Left(Word, Word),
+pub struct Left {
+    pub item: Word,
+    pub gone: Word,
 }
 
 // A site's record: document 01's deck record of draws, pending, threshold and slots in use; last,
@@ -255,11 +255,4 @@ pub struct CoordinatorRecord {
     pub signals: u32,
     pub quantile: u32,
     pub phase: Phase,
-}
-
-// The tracked quantile as an answer: document 01's class, or "none".
-#[derive(Clone, Copy)]
-pub enum Quantile {
-    Nothing,
-    Value(u32),
 }

@@ -8,65 +8,43 @@ ghost use Rattle.std.specs.Prelude.{◌≡◌, ◌+◌, ◌*◌, ◌≤◌, leng
 ghost use Rattle.laws.specs.Writing.{written_at};
 ghost use Rattle.little_endian.specs.Numbers.{numbers_bytes, numbers_in};
 
-use little_endian::{read_eight, read_four, write_eight, write_four};
+use little_endian::{read_fixed, write_fixed};
 use model::Word;
 
-// A number of a site's memory as one of 64 bits.
-fn widened(n: Word) -> u64
-    ensures { result ≡ n }
-{
-    n as u64
-}
-
 // Writes numbers of a site's memory from a place on, in four bytes each.
+// As it is: the new form is no plainer: a trait with what a `u32` and a `u64` say would stand for
+// this function beside the next, and every contract would map over it.
 pub fn write_words(numbers: &[Word], bytes: &mut [u8], place: usize)
     requires { place + 4 * length numbers.now ≤ length bytes.old }
     ensures { bytes.new
         ≡ written_at place (numbers_bytes 4 numbers.now) bytes.old }
 {
-    let mut i: usize = 0;
-    while i < numbers.len() {
-        write_four(bytes, place + 4 * i, widened(numbers[i]));
-        i += 1;
+    for i in 0..numbers.len() {
+        write_fixed::<4>(bytes, place + 4 * i, u64::from(numbers[i]));
     }
 }
 
-// Writes the lowest four bytes of each of some numbers of 64 bits from a place on.
-pub fn write_narrow(numbers: &[u64], bytes: &mut [u8], place: usize)
-    requires { place + 4 * length numbers.now ≤ length bytes.old }
+// Writes the lowest bytes of each of some numbers of 64 bits from a place on, as many of each as a
+// fixed width says.
+pub fn write_numbers<const WIDTH: usize>(numbers: &[u64], bytes: &mut [u8], place: usize)
+    requires { (place + WIDTH * length numbers.now ≤ length bytes.old) × (WIDTH ≤ 8) }
     ensures { bytes.new
-        ≡ written_at place (numbers_bytes 4 numbers.now) bytes.old }
+        ≡ written_at place (numbers_bytes WIDTH numbers.now) bytes.old }
 {
-    let mut i: usize = 0;
-    while i < numbers.len() {
-        write_four(bytes, place + 4 * i, numbers[i]);
-        i += 1;
-    }
-}
-
-// Writes numbers of 64 bits from a place on, in eight bytes each.
-pub fn write_numbers(numbers: &[u64], bytes: &mut [u8], place: usize)
-    requires { place + 8 * length numbers.now ≤ length bytes.old }
-    ensures { bytes.new
-        ≡ written_at place (numbers_bytes 8 numbers.now) bytes.old }
-{
-    let mut i: usize = 0;
-    while i < numbers.len() {
-        write_eight(bytes, place + 8 * i, numbers[i]);
-        i += 1;
+    for i in 0..numbers.len() {
+        write_fixed::<WIDTH>(bytes, place + WIDTH * i, numbers[i]);
     }
 }
 
 // Reads numbers of four bytes each from a place on, as many as are lent.
+// As it is: the new form is no plainer, as for `write_words`.
 pub fn read_words(bytes: &[u8], place: usize, numbers: &mut [Word])
     requires { place + 4 * length numbers.old ≤ length bytes.now }
     ensures { numbers.new
         ≡ numbers_in 4 (length numbers.old) (drop place bytes.now) }
 {
-    let mut i: usize = 0;
-    while i < numbers.len() {
-        numbers[i] = read_four(bytes, place + 4 * i) as Word;
-        i += 1;
+    for i in 0..numbers.len() {
+        numbers[i] = read_fixed::<4>(bytes, place + 4 * i) as Word;
     }
 }
 
@@ -76,9 +54,7 @@ pub fn read_numbers(bytes: &[u8], place: usize, numbers: &mut [u64])
     ensures { numbers.new
         ≡ numbers_in 8 (length numbers.old) (drop place bytes.now) }
 {
-    let mut i: usize = 0;
-    while i < numbers.len() {
-        numbers[i] = read_eight(bytes, place + 8 * i);
-        i += 1;
+    for i in 0..numbers.len() {
+        numbers[i] = read_fixed::<8>(bytes, place + 8 * i);
     }
 }

@@ -2,9 +2,8 @@
 -- proves it; it is what a program needs to see that its buffer is long enough.
 --
 --   MachineMessage m     the numbers of a message are those of a machine: two of 32 bits, two of 64
-use Rattle.std.specs.Prelude.{◌≡◌, List, ◌++◌, ℕ, suc, ◌+◌, ◌*◌, ◌^◌, ◌≤◌, ◌<◌, length, get_or}
+use Rattle.std.specs.Prelude.{◌≡◌, List, ◌++◌, ℕ, suc, ◌+◌, ◌*◌, ◌^◌, ◌≤◌, ◌<◌, length, get_or, None, Some}
 use Rattle.model.specs.declared.Message.{Message}
-use Rattle.model.specs.declared.Quantile.TheVariants.{Nothing, Value}
 use Rattle.model.specs.Messages.{no_message}
 use Rattle.model.specs.Decimal.{decimal}
 use Rattle.model.specs.Transcript.{end_line, message_line, message_lines, refused_line, class_word, quantile_word, messages_word}
@@ -28,10 +27,10 @@ pub record LineClaims : Type 0 where
       → ((i : ℕ) → i < length ms → MachineMessage (get_or ms i no_message))
       → length (message_lines ms) ≤ 64 * length ms
   pub refused : (refusal : ℕ) → refusal < 2 ^ 32 → length (refused_line refusal) ≤ 19
-  pub class_none : length (end_line (class_word ++ quantile_word Nothing)) ≡ 11
+  pub class_none : length (end_line (class_word ++ quantile_word None)) ≡ 11
   pub class_value : (value : ℕ)
       → value < 2 ^ 32
-      → length (end_line (class_word ++ quantile_word (Value value))) ≤ 17
+      → length (end_line (class_word ++ quantile_word (Some value))) ≤ 17
   pub count : (n : ℕ) → n < 2 ^ 64 → length (counted_line messages_word n) ≤ 30
   -- Items below 10 ^ (m + 1): each takes a space and at most m + 1 digits.
   pub listed : (m : ℕ) (items : List ℕ)

@@ -8,7 +8,7 @@ ghost use Rattle.std.specs.Prelude.{◌≡◌, ◌++◌, min, take};
 ghost use Rattle.model.specs.Transcript.{end_line, message_line, refused_line, class_word, messages_word, quantile_word};
 ghost use Rattle.output_lines.specs.Promises.{counted_line, listed_line, LineWritten};
 
-use model::{Message, Quantile};
+use model::Message;
 use output_lines::{write_counted, write_items, write_record, write_text};
 
 // A message as kind, site, a and b.
@@ -45,13 +45,13 @@ pub fn write_listed(items: &[u32], count: usize, out: &mut [u8], at: usize) -> u
 }
 
 // "class" and the value, or `none`.
-pub fn write_class(quantile: Quantile, out: &mut [u8], at: usize) -> usize
+pub fn write_class(quantile: Option<u32>, out: &mut [u8], at: usize) -> usize
     ensures { LineWritten (end_line (class_word ++ quantile_word quantile)) at
         out.old out.new result }
 {
     match quantile {
-        Quantile::Nothing => write_text(b"class none\n", out, at),
-        Quantile::Value(value) => write_counted(b"class", value as u64, out, at),
+        None => write_text(b"class none\n", out, at),
+        Some(value) => write_counted(b"class", value as u64, out, at),
     }
 }
 

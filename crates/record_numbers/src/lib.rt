@@ -54,19 +54,14 @@ pub fn arrival_from(row: &[u32; ARRIVAL_NUMBERS]) -> Arrival
 pub fn narrow(number: u64) -> u32
     ensures { result ≡ narrowed number }
 {
-    if number < 4294967295 {
-        return number as u32;
-    }
-    4294967295
+    number.min(u32::MAX as u64) as u32
 }
 
 // The message of a row. A kind or a site of more than four bytes is no kind and no site.
 pub fn message_from(row: &[u64; MESSAGE_WIDTH]) -> Message
     ensures { result ≡ message_read row.now }
 {
-    let kind = narrow(row[0]);
-    let site = narrow(row[1]);
-    message_of(kind, site, row[2], row[3])
+    message_of(narrow(row[0]), narrow(row[1]), row[2], row[3])
 }
 
 // The row of a message.

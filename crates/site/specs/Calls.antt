@@ -5,13 +5,14 @@
 --
 -- A refused call leaves record and memory as they were and hands out no message; so does an
 -- accepted touch.
-use Rattle.std.specs.Prelude.{◌≡◌, Bool, List, [], ℕ, leb, length, get_or, if◌then◌else◌}
+use Rattle.std.specs.Prelude.{◌≡◌, Bool, Result, Ok, Err, List, [], ℕ, leb, length, get_or, if◌then◌else◌}
 use Rattle.model.specs.declared.Settings.{Settings}
 use Rattle.model.specs.declared.Arrival.{Arrival}
 use Rattle.model.specs.declared.Message.{Message}
 use Rattle.model.specs.declared.SiteRecord.{SiteRecord}
+use Rattle.model.specs.declared.Refusal.{Refusal}
 use Rattle.model.specs.Choice.{is_zero}
-use Rattle.model.specs.Refusals.{when, ◌or_else◌, unknown_site}
+use Rattle.model.specs.Refusals.{when, ◌or_else◌, no_refusal, unknown_site, number_of}
 use Rattle.model.specs.Draws.{is_taken}
 use Rattle.model.specs.Messages.{no_message}
 use Rattle.model.specs.Site.{SiteStep, line_refusal, observed, site_message_refusal, site_receives}
@@ -32,8 +33,17 @@ abbrev pub observe_takes : Settings → SiteRecord → Arrival → List ℕ → 
 observe_takes settings numbers arrival memory =
     is_taken arrival (observe_refusal settings numbers arrival memory)
 
+-- What an arrival comes to, as the table of refusals tells it: its refusal or none, the site's record
+-- then, and the messages that go out, of which there are `count`; an absent one is all zeros.
+pub record Observation : Type 0 where
+  pub refusal : ℕ
+  pub site : SiteRecord
+  pub count : ℕ
+  pub first : Message
+  pub second : Message
+
 -- The answer that leaves a site as it was.
-abbrev pub unchanged_by : ℕ → SiteRecord → Observed
+abbrev pub unchanged_by : ℕ → SiteRecord → Observation
 unchanged_by refusal numbers = record {
   refusal = refusal;
   site = numbers;
@@ -41,6 +51,17 @@ unchanged_by refusal numbers = record {
   first = no_message;
   second = no_message;
 }
+
+-- The answer of the call: refused, the site is as it was.
+abbrev pub observation : SiteRecord → Result Observed Refusal → Observation
+observation numbers (Ok answer) = record {
+  refusal = no_refusal;
+  site = answer.site;
+  count = answer.count;
+  first = answer.first;
+  second = answer.second;
+}
+observation numbers (Err refusal) = unchanged_by (number_of refusal) numbers
 
 -- The model's step of a draw that is taken.
 abbrev pub observed_step : Settings → SiteRecord → Arrival → List ℕ → SiteStep
@@ -59,7 +80,7 @@ pub record ObserveSays
     (numbers : SiteRecord)
     (arrival : Arrival)
     (before after : List ℕ)
-    (answer : Observed) : Type 0 where
+    (answer : Observation) : Type 0 where
   pub refusal : answer.refusal ≡ observe_refusal settings numbers arrival before
   pub site : answer.site
       ≡ (if observe_takes settings numbers arrival before
@@ -75,6 +96,29 @@ pub record ObserveSays
       else before)
 
 -- ---- A message at a site
+
+-- What a message comes to, as the table of refusals tells it: its refusal or none, the site's record
+-- then, and the reply, if `count` is 1.
+pub record SiteReply : Type 0 where
+  pub refusal : ℕ
+  pub site : SiteRecord
+  pub count : ℕ
+  pub reply : Message
+
+-- The answer of the call: refused, the site is as it was.
+abbrev pub site_reply : SiteRecord → Result Replied Refusal → SiteReply
+site_reply numbers (Ok answer) = record {
+  refusal = no_refusal;
+  site = answer.site;
+  count = answer.count;
+  reply = answer.reply;
+}
+site_reply numbers (Err refusal) = record {
+  refusal = number_of refusal;
+  site = numbers;
+  count = 0;
+  reply = no_message;
+}
 
 -- 1, 2, 3, 4, 11; 5 for the site's own number; then 5, 9, 7, 10.
 abbrev pub receive_refusal : Settings → SiteRecord → ℕ → Message → List ℕ → ℕ
@@ -99,7 +143,7 @@ pub record SiteReceiveSays
     (which : ℕ)
     (m : Message)
     (memory : List ℕ)
-    (answer : Replied) : Type 0 where
+    (answer : SiteReply) : Type 0 where
   pub refusal : answer.refusal ≡ receive_refusal settings numbers which m memory
   pub site : answer.site
       ≡ (if is_zero (receive_refusal settings numbers which m memory)

@@ -4,12 +4,12 @@
 
 #![tactic(auto)]
 
-ghost use Rattle.std.specs.Prelude.{◌≡◌};
-ghost use Rattle.model.specs.Refusals.{refusal_in};
-ghost use Rattle.site.specs.Calls.{observe_refusal, unchanged_by, receive_refusal, ObserveSays, SiteReceiveSays};
+ghost use Rattle.std.specs.Prelude.{◌≡◌, Ok};
+ghost use Rattle.model.specs.Refusals.{no_refusal, refusal_in};
+ghost use Rattle.site.specs.Calls.{observation, observe_refusal, unchanged_by, ObserveSays, site_reply, receive_refusal, SiteReceiveSays};
 
 use messages::no_message;
-use model::{Arrival, Message, NO_REFUSAL, Refusal, Settings, SiteRecord, Word, refusal_number};
+use model::{Arrival, Message, Refusal, Settings, SiteRecord, Word};
 use site_receiving::Replied;
 use site_steps::Observed;
 
@@ -26,37 +26,33 @@ fn test_observe(
     site_refusals::test_arrival(settings, site, arrival)
 }
 
-// The answer of an arrival that changes nothing: refused with this number, or a touch.
-fn unchanged(refusal: u32, site: SiteRecord) -> Observed
-    ensures { result ≡ unchanged_by refusal site }
+// The answer of a touch, which changes nothing.
+fn unchanged(site: SiteRecord) -> Observed
+    ensures { observation site (Ok result) ≡ unchanged_by no_refusal site }
 {
-    let none = no_message();
     Observed {
-        refusal,
         site,
         count: 0,
-        first: none,
-        second: none,
+        first: no_message(),
+        second: no_message(),
     }
 }
 
 // An arrival at a site, with its messages. The memory is the site's own, and may be longer.
+#[tactic(auto, using(crate::proofs::CallLaws::observing))]
 pub fn observe(
     settings: Settings,
     site: SiteRecord,
     arrival: Arrival,
     memory: &mut [Word],
-) -> Observed
-    ensures { ObserveSays settings site arrival memory.old memory.new result }
+) -> Result<Observed, Refusal>
+    ensures { ObserveSays settings site arrival memory.old memory.new (observation site result) }
 {
-    let refusal = refusal_number(test_observe(settings, site, arrival, memory));
-    if refusal != NO_REFUSAL {
-        return unchanged(refusal, site);
-    }
+    test_observe(settings, site, arrival, memory)?;
     if site_refusals::is_draw(arrival) {
-        return site_steps::observe_step(settings, site, arrival, memory);
+        return Ok(site_steps::observe_step(settings, site, arrival, memory));
     }
-    unchanged(refusal, site)
+    Ok(unchanged(site))
 }
 
 // Whether a message is accepted: 1, 2, 3, 4, 11; 5 for the site's own number; then 5, 9, 7, 10.
@@ -77,24 +73,16 @@ fn test_receive(
 }
 
 // A message at site `which`, with the reply, if there is one. The memory is only read.
+#[tactic(auto, using(crate::proofs::CallLaws::receive_asks))]
 pub fn receive(
     settings: Settings,
     site: SiteRecord,
     which: u32,
     message: Message,
     memory: &[Word],
-) -> Replied
-    ensures { SiteReceiveSays settings site which message memory.now result }
+) -> Result<Replied, Refusal>
+    ensures { SiteReceiveSays settings site which message memory.now (site_reply site result) }
 {
-    let refusal = refusal_number(test_receive(settings, site, which, message, memory));
-    if refusal != NO_REFUSAL {
-        let none = no_message();
-        return Replied {
-            refusal,
-            site,
-            count: 0,
-            reply: none,
-        };
-    }
-    site_receiving::receive_step(settings, site, message, memory)
+    test_receive(settings, site, which, message, memory)?;
+    Ok(site_receiving::receive_step(settings, site, message, memory))
 }

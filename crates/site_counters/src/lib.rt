@@ -9,7 +9,7 @@ ghost use Rattle.std.specs.Prelude.{◌≡◌, ◌+◌, ◌*◌, ◌≤◌, leng
 ghost use Rattle.model.specs.Counters.{unreported, gone_with};
 ghost use Rattle.site_counters.specs.Stored.{stored_at, set_counter, counter_of, PartsWithin};
 
-use model::{Leaving, Word};
+use model::{Left, Word};
 
 // A counter as memory holds it: document 01's slot, a code, a count, an overcount and a sent
 // number.
@@ -58,11 +58,11 @@ pub fn unreported_of(counter: StoredCounter) -> Word
 }
 
 // How many unreported arrivals went with the item that left.
-pub fn gone_with(leaving: Leaving) -> Word
+pub fn gone_with(leaving: Option<Left>) -> Word
     ensures { result ≡ gone_with leaving }
 {
     match leaving {
-        Leaving::Nobody => 0,
-        Leaving::Left(_, gone) => gone,
+        None => 0,
+        Some(left) => left.gone,
     }
 }

@@ -3,6 +3,7 @@
 --
 --   least_within, small_at, parts_at               places and counts within their bounds
 --   counted_own, counted_unused, counted_replaced   the promise of `count_item` for each way
+use Rattle.std.specs.Prelude.{Option, Some, None}
 use Prim.Native.Nat.{ℕ, ◌+◌, ◌<◌, ◌≤◌}
 use mathlib.Core.Path.{◌≡◌, ap, sym, ◌∙◌, subst}
 use mathlib.Core.List.{List, [], ◌∷◌, ◌++◌}
@@ -12,9 +13,8 @@ use lib.ListN.{length, set, length-set, length-append}
 use lib.Seq.{get_or-set_same, get_or-append_seam}
 use lib.Dec.{ltb}
 use borrow.Author.Tests.{lt-ltb, le-ltb}
-use Rattle.model.specs.declared.Leaving.{Leaving}
-use Rattle.model.specs.declared.Leaving.TheVariants.{Nobody, Left}
-use Rattle.model.specs.Counters.{Counter, no_counter, counter_at, unreported, find, least_place, Placement, place_of, one_more_of, first_of, replacing, leaving_by}
+use Rattle.model.specs.declared.Left.{Left}
+use Rattle.model.specs.Counters.{Counter, no_counter, counter_at, unreported, find, least_place, Placement, place_of, one_more_of, first_of, replacing, left_with, leaving_by}
 use Rattle.model.specs.Counters.Placement.{own, unused, replaced}
 use Rattle.model.specs.SiteMemory.{counters_in}
 use Rattle.model.proofs.OneSite.CounterLaws.{least_place_is}
@@ -87,7 +87,7 @@ module _
   -- ---- What is then promised
 
   -- A counter in use is overwritten.
-  counted_set : (place : ℕ) (x : Counter) (left : Leaving)
+  counted_set : (place : ℕ) (x : Counter) (left : Option Left)
       → place < used
       → place_in before capacity used item ≡ place
       → counters_then before capacity used item ≡ set (counters_in used before) place x
@@ -124,13 +124,13 @@ module _
       → answer.place ≡ found
       → answer.used ≡ used
       → counter_of answer.counter ≡ one_more_of old
-      → answer.leaving ≡ Nobody
+      → answer.leaving ≡ None
       → after ≡ set_counter before found (one_more_of old)
       → CountItemSays before after capacity used item answer
   counted_own old old-is within =
       let way = placement_own within in
       let same = counter_at_counters_in used found before within ∙ sym old-is in
-      counted_set found (one_more_of old) Nobody within
+      counted_set found (one_more_of old) None within
       (ap (λ (p : Placement). place_of p (counters_in used before)) way)
       (rw (way, same))
       (ap (λ (p : Placement). leaving_by p (counters_in used before)) way)
@@ -143,7 +143,7 @@ module _
       → answer.place ≡ least
       → answer.used ≡ used
       → counter_of answer.counter ≡ replacing old item
-      → answer.leaving ≡ Left old.item (unreported old)
+      → answer.leaving ≡ Some (left_with old.item (unreported old))
       → after ≡ set_counter before least (replacing old item)
       → CountItemSays before after capacity used item answer
   counted_replaced least old least-is old-is past full =
@@ -151,7 +151,7 @@ module _
       let within : least < used =
       omega (arith, least-is, least_within before capacity used asks full) in
       let same = counter_at_counters_in used least before within ∙ sym old-is in
-      counted_set least (replacing old item) (Left old.item (unreported old)) within
+      counted_set least (replacing old item) (Some (left_with old.item (unreported old))) within
       (ap (λ (p : Placement). place_of p (counters_in used before)) way ∙ sym least-is)
       (rw (way, ← least-is, same))
       (rw (way, ← least-is, same))
@@ -161,7 +161,7 @@ module _
       → answer.place ≡ used
       → answer.used ≡ used + 1
       → counter_of answer.counter ≡ first_of item
-      → answer.leaving ≡ Nobody
+      → answer.leaving ≡ None
       → after ≡ set_counter before used (first_of item)
       → CountItemSays before after capacity used item answer
   counted_unused past room same_place same-used same-counter same_left stored =

@@ -2,8 +2,8 @@
 --
 --   CountItemAsks memory capacity used                 what the step requires
 --   CountItemSays before after capacity used item answer   what it promises
-use Rattle.std.specs.Prelude.{◌≡◌, List, ℕ, ◌*◌, ◌≤◌, ◌<◌, length}
-use Rattle.model.specs.declared.Leaving.{Leaving}
+use Rattle.std.specs.Prelude.{◌≡◌, Option, List, ℕ, ◌*◌, ◌≤◌, ◌<◌, length}
+use Rattle.model.specs.declared.Left.{Left}
 use Rattle.model.specs.Counters.{Counter, counter_at, Placement, placement_for, place_of, counters_after, leaving_by}
 use Rattle.model.specs.SiteMemory.{counters_in, counter_numbers, overwrite}
 use Rattle.site_counters.specs.Stored.{greatest_word, counter_of, PartsWithin}
@@ -32,7 +32,7 @@ counters_then memory capacity used item =
     counters_after (placement memory capacity used item) (counters_in used memory) item
 
 -- Request N1: "The slot step should also say which code left and how many unsent draws went".
-abbrev pub leaving_in : List ℕ → ℕ → ℕ → ℕ → Leaving
+abbrev pub leaving_in : List ℕ → ℕ → ℕ → ℕ → Option Left
 leaving_in memory capacity used item =
     leaving_by (placement memory capacity used item) (counters_in used memory)
 

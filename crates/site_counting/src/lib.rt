@@ -5,7 +5,7 @@
 
 ghost use Rattle.site_counting.specs.Count.{CountItemAsks, CountItemSays};
 
-use model::{Leaving, Word};
+use model::{Left, Word};
 use site_counters::{StoredCounter, counter_at, put_counter, unreported_of};
 use site_search::{find_counter, least_counter};
 
@@ -16,7 +16,7 @@ pub struct Counted {
     pub place: usize,
     pub used: usize,
     pub counter: StoredCounter,
-    pub leaving: Leaving,
+    pub leaving: Option<Left>,
 }
 
 // An item counted: in its own counter, in the next unused one, or in place of the least. Internal:
@@ -38,7 +38,7 @@ pub fn count_item(memory: &mut [Word], capacity: usize, used: usize, item: Word)
             place: found,
             used,
             counter: more,
-            leaving: Leaving::Nobody,
+            leaving: None,
         };
     }
     if used < capacity {
@@ -53,7 +53,7 @@ pub fn count_item(memory: &mut [Word], capacity: usize, used: usize, item: Word)
             place: used,
             used: used + 1,
             counter: first,
-            leaving: Leaving::Nobody,
+            leaving: None,
         };
     }
     let least = least_counter(memory, used);
@@ -70,6 +70,9 @@ pub fn count_item(memory: &mut [Word], capacity: usize, used: usize, item: Word)
         place: least,
         used,
         counter: replacing,
-        leaving: Leaving::Left(replaced.item, gone),
+        leaving: Some(Left {
+            item: replaced.item,
+            gone,
+        }),
     }
 }

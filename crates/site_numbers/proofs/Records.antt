@@ -1,17 +1,16 @@
 -- The sites' records and counts made from a row, and their row written, one after another.
 --
 --   Reading, reading_on, reading_end            the records of the numbers so far
---   Counting, counting_on, counting_end         the counts among the numbers so far
+--   counts_taken, part_stored                   the counts as a part of the row; a part stored
 --   Recording, recording_on, recording_end      the numbers of the records so far
---   Storing, storing_on, storing_end            the counts stored so far
-use Prim.Native.Nat.{ℕ, suc, ◌+◌, ◌*◌, ◌<◌, ◌≤◌}
+use Prim.Native.Nat.{ℕ, zero, suc, ◌+◌, ◌*◌, ◌<◌, ◌≤◌}
 use mathlib.Core.Path.{◌≡◌, refl, ap, sym, subst, ◌∙◌}
-use mathlib.Core.List.{List, [], ◌∷◌, ◌++◌, append-nil}
-use native.Mathlib.Nat.{add-zero, zero-add}
+use mathlib.Core.List.{List, [], ◌∷◌, ◌++◌, append_assoc, append-nil}
 use native.Mathlib.Numerals.{add-one}
 use native.Mathlib.Omega.{arith}
-use lib.ListN.{length, set, get_or, replicate, length-append, length-replicate, drop_of_length-le}
-use lib.Seq.{sets}
+use lib.ListN.{length, set, get_or, take, drop, replicate, length-append, length-drop, length-replicate, drop_of_length-le}
+use lib.Seq.{sets, take-suc, get_or-drop, drop-drop}
+use Rattle.laws.proofs.Writing.{written_sets}
 use Rattle.laws.proofs.Fronts.{Growing, growing_on, growing_ends, overwritten_sets}
 use Rattle.model.specs.declared.SiteRecord.{SiteRecord}
 use Rattle.model.specs.declared.Sites.{Sites}
@@ -61,31 +60,27 @@ reading_end numbers records i reading past =
     all_grown (λ (n : ℕ). records_from n numbers) no_record records i reading past
     (length_records_from 32 numbers)
 
--- ---- The loop that reads the counts
+-- ---- The counts read, and parts stored
 
--- 32 zeros, over which the counts are written.
-abbrev pub Counting : List ℕ → List ℕ → ℕ → Type 0
-Counting numbers =
-    Growing (λ (n : ℕ). counts_from n count_place numbers) (replicate 32 0) 32
+pub counts_taken : (n at : ℕ) (numbers : List ℕ)
+    → at + n ≤ length numbers
+    → take n (drop at numbers) ≡ counts_from n at numbers
+counts_taken zero at numbers inside = refl
+counts_taken (suc n) at numbers inside =
+    rw (take-suc (drop at numbers) n 0 (omega (arith, length-drop at numbers)), get_or-drop)
+    (ap (λ (l : List ℕ). l ++ (get_or numbers (at + n) 0 ∷ []))
+    (counts_taken n at numbers (omega arith)))
 
-pub counting_on : (numbers counts : List ℕ) (i : ℕ)
-    → Counting numbers counts i
-    → i < 32
-    → Counting numbers (set counts i (get_or numbers (count_place + i) 0)) (i + 1)
-counting_on numbers counts i counting inside =
-    growing_on (λ (n : ℕ). counts_from n count_place numbers) (replicate 32 0) 32 counts i counting
-    i
-    (get_or numbers (count_place + i) 0 ∷ []) inside (length_counts_from i count_place numbers)
-    (omega (arith, length-replicate {A = ℕ} 32 0))
-    (ap (λ (n : ℕ). counts_from n count_place numbers) (sym (add-one i))) refl
-
-pub counting_end : (numbers counts : List ℕ) (i : ℕ)
-    → Counting numbers counts i
-    → 32 ≤ i
-    → counts ≡ counts_from 32 count_place numbers
-counting_end numbers counts i counting past =
-    all_grown (λ (n : ℕ). counts_from n count_place numbers) 0 counts i counting past
-    (length_counts_from 32 count_place numbers)
+-- A part of a list overwritten, as std says it.
+pub part_stored : (place width : ℕ) (piece list : List ℕ)
+    → length piece ≡ width
+    → place + width ≤ length list
+    → take place list ++ (piece ++ drop width (drop place list)) ≡ sets list place piece
+part_stored place width piece list long inside =
+    ap (λ (l : List ℕ). take place list ++ (piece ++ l))
+    (drop-drop width place list ∙ ap (λ (n : ℕ). drop (place + n) list) (sym long))
+    ∙ sym (append_assoc (take place list) piece (drop (place + length piece) list))
+    ∙ written_sets place piece list (omega arith)
 
 -- ---- The loop that writes
 
@@ -130,40 +125,3 @@ recording_end sites numbers i recording past stored =
     ∙ ap (λ (l : List ℕ). (records ++ counts) ++ l)
     (drop_of_length-le (replicate sites_width 0) short)
     ∙ append-nil _
-
--- ---- The loop that stores the counts
-
--- The first i counts are stored from their place on.
-pub record Storing (counts before now : List ℕ) (i : ℕ) : Type 0 where
-  pub within : i ≤ 32
-  pub stored : now ≡ sets before count_place (counts_from i 0 counts)
-
--- One store behind others.
-sets_snoc : (list : List ℕ) (place : ℕ) (xs : List ℕ) (x : ℕ)
-    → set (sets list place xs) (place + length xs) x ≡ sets list place (xs ++ (x ∷ []))
-sets_snoc list place [] x = ap (λ (n : ℕ). set list n x) (add-zero place)
-sets_snoc list place (y ∷ xs) x =
-    let next : place + suc (length xs) ≡ suc place + length xs = omega arith in
-    ap (λ (n : ℕ). set (sets (set list place y) (suc place) xs) n x) next
-    ∙ sets_snoc (set list place y) (suc place) xs x
-
-pub storing_on : (counts before now : List ℕ) (i : ℕ)
-    → Storing counts before now i
-    → i < 32
-    → Storing counts before (set now (count_place + i) (get_or counts i 0)) (i + 1)
-storing_on counts before now i storing inside = record {
-  within = omega arith;
-  stored =
-      (λ j. set (storing.stored j) (count_place + sym (length_counts_from i 0 counts) j)
-      (get_or counts (sym (zero-add i) j) 0))
-      ∙ sets_snoc before count_place (counts_from i 0 counts) (get_or counts (0 + i) 0)
-      ∙ ap (λ (n : ℕ). sets before count_place (counts_from n 0 counts)) (sym (add-one i));
-}
-
-pub storing_end : (counts before now : List ℕ) (i : ℕ)
-    → Storing counts before now i
-    → 32 ≤ i
-    → now ≡ sets before count_place (counts_from 32 0 counts)
-storing_end counts before now i storing past =
-    let all : i ≡ 32 = omega (arith, storing.within) in
-    storing.stored ∙ ap (λ (n : ℕ). sets before count_place (counts_from n 0 counts)) all

@@ -18,6 +18,15 @@ pub const SITES_NUMBERS: usize = COUNT_PLACE + SITE_RECORDS;
 // Where the first site's count of messages stands: after all records.
 const COUNT_PLACE: usize = SITE_NUMBERS * SITE_RECORDS;
 
+// A record of zeros.
+const NO_RECORD: SiteRecord = SiteRecord {
+    arrivals: 0,
+    pending: 0,
+    threshold: 0,
+    used: 0,
+    dropped: 0,
+};
+
 // The record of a row.
 pub fn site_from(row: &[u64; SITE_NUMBERS]) -> SiteRecord
     ensures { result ≡ site_from row.now }
@@ -65,11 +74,7 @@ pub fn store_site(row: &mut [u64; SITES_NUMBERS], which: usize, site: SiteRecord
     ensures { row.new ≡ sets row.old (site_width * which) (site_numbers site) }
 {
     let at = SITE_NUMBERS * which;
-    row[at] = site.arrivals;
-    row[at + 1] = site.pending;
-    row[at + 2] = site.threshold;
-    row[at + 3] = site.used;
-    row[at + 4] = site.dropped;
+    row[at..at + SITE_NUMBERS].copy_from_slice(&site_row(site));
 }
 
 // The counts of messages in the row of all. Internal: a part of `sites_from`.
@@ -77,11 +82,7 @@ pub fn counts_in(row: &[u64; SITES_NUMBERS]) -> [u64; SITE_RECORDS]
     ensures { result ≡ counts_from most_sites count_place row.now }
 {
     let mut counts = [0u64; SITE_RECORDS];
-    let mut i = 0;
-    while i < SITE_RECORDS {
-        counts[i] = row[COUNT_PLACE + i];
-        i += 1;
-    }
+    counts.copy_from_slice(&row[COUNT_PLACE..]);
     counts
 }
 
@@ -89,32 +90,19 @@ pub fn counts_in(row: &[u64; SITES_NUMBERS]) -> [u64; SITE_RECORDS]
 pub fn store_counts(row: &mut [u64; SITES_NUMBERS], counts: [u64; SITE_RECORDS])
     ensures { row.new ≡ sets row.old count_place (counts_from most_sites 0 counts) }
 {
-    let mut i = 0;
-    while i < SITE_RECORDS {
-        row[COUNT_PLACE + i] = counts[i];
-        i += 1;
-    }
+    row[COUNT_PLACE..].copy_from_slice(&counts);
 }
 
 // All records and the counts of messages.
 pub fn sites_from(row: &[u64; SITES_NUMBERS]) -> Sites
     ensures { result ≡ sites_from row.now }
 {
-    let zero = SiteRecord {
-        arrivals: 0,
-        pending: 0,
-        threshold: 0,
-        used: 0,
-        dropped: 0,
-    };
-    let mut records = [zero; SITE_RECORDS];
-    let mut i = 0;
-    while i < SITE_RECORDS {
+    let mut records = [NO_RECORD; SITE_RECORDS];
+    for i in 0..SITE_RECORDS {
         records[i] = site_at(row, i);
-        i += 1;
     }
     Sites {
-        records: records,
+        records,
         messages: counts_in(row),
     }
 }
@@ -124,11 +112,8 @@ pub fn sites_row(sites: Sites) -> [u64; SITES_NUMBERS]
     ensures { result ≡ sites_numbers sites }
 {
     let mut row = [0u64; SITES_NUMBERS];
-    let mut i = 0;
-    while i < SITE_RECORDS {
-        let site = sites.records[i];
-        store_site(&mut row, i, site);
-        i += 1;
+    for i in 0..SITE_RECORDS {
+        store_site(&mut row, i, sites.records[i]);
     }
     store_counts(&mut row, sites.messages);
     row

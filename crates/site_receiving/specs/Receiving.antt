@@ -3,7 +3,6 @@ use Rattle.std.specs.Prelude.{◌≡◌, true, List, ℕ, ◌≤◌, length, get
 use Rattle.model.specs.declared.Settings.{Settings}
 use Rattle.model.specs.declared.Message.{Message}
 use Rattle.model.specs.declared.SiteRecord.{SiteRecord}
-use Rattle.model.specs.Refusals.{no_refusal}
 use Rattle.model.specs.Limits.{top_value}
 use Rattle.model.specs.Messages.{no_message, is_probe}
 use Rattle.model.specs.Site.{SiteStep, site_receives}
@@ -29,7 +28,6 @@ pub record ReceiveStepSays
     (m : Message)
     (memory : List ℕ)
     (answer : Replied) : Type 0 where
-  pub refusal : answer.refusal ≡ no_refusal
   pub site : answer.site ≡ site_record (received_in settings numbers m memory).site
   pub count : answer.count ≡ length (received_in settings numbers m memory).messages
   pub reply : answer.reply ≡ get_or (received_in settings numbers m memory).messages 0 no_message

@@ -6,12 +6,11 @@
 ghost use Rattle.site_receiving.specs.Receiving.{ReceiveAsks, ReceiveStepSays};
 
 use messages::{no_message, poll_answer_of, probe_answer_of};
-use model::{Message, NO_REFUSAL, POLL, PROBE, Settings, SiteRecord, Word};
+use model::{Message, POLL, PROBE, Settings, SiteRecord, Word};
 
 // What a message leads to: the site's record then, and the reply, if `count` is 1.
 #[derive(Clone, Copy)]
 pub struct Replied {
-    pub refusal: u32,
     pub site: SiteRecord,
     pub count: u32,
     pub reply: Message,
@@ -21,6 +20,7 @@ pub struct Replied {
 // its value, and an announcement sets the threshold. The memory is only read. Internal: what it
 // requires is decided by `site_memory::test_site_memory` and `site_refusals::test_message`,
 // or by the tests of the batch call.
+#[tactic(auto, using(model::proofs::Soundness::ConsistentSites::length_counters_in))]
 pub fn receive_step(
     settings: Settings,
     site: SiteRecord,
@@ -32,7 +32,6 @@ pub fn receive_step(
 {
     if message.kind == POLL {
         return Replied {
-            refusal: NO_REFUSAL,
             site: SiteRecord { pending: 0, ..site },
             count: 1,
             reply: poll_answer_of(message.site, site.pending),
@@ -42,14 +41,12 @@ pub fn receive_step(
         let from = 4 * (settings.capacity as usize);
         let count = site_memory::count_up_to(memory, from, message.a as usize);
         return Replied {
-            refusal: NO_REFUSAL,
             site,
             count: 1,
             reply: probe_answer_of(message.site, message.a, count),
         };
     }
     Replied {
-        refusal: NO_REFUSAL,
         site: SiteRecord {
             threshold: message.a,
             ..site

@@ -4,20 +4,31 @@
 --   StartSitesSays       starting all sites
 --   StartSiteSays        starting one
 --   StartClaims          sites started one by one are as all started together
-use Rattle.std.specs.Prelude.{◌≡◌, List, ℕ, ◌*◌, ◌<◌, leb, ltb, length, get_or, take, drop, replicate, if◌then◌else◌}
+use Rattle.std.specs.Prelude.{◌≡◌, Result, Ok, Err, List, ℕ, ◌*◌, ◌<◌, leb, ltb, length, get_or, take, drop, replicate, if◌then◌else◌}
 use Rattle.model.specs.declared.Settings.{Settings}
+use Rattle.model.specs.declared.SiteRecord.{SiteRecord}
+use Rattle.model.specs.declared.Sites.{Sites}
+use Rattle.model.specs.declared.Refusal.{Refusal}
 use Rattle.model.specs.Choice.{is_zero}
-use Rattle.model.specs.Refusals.{when, ◌or_else◌, no_refusal, memory_too_short, unknown_site}
+use Rattle.model.specs.Refusals.{when, ◌or_else◌, no_refusal, number_of, memory_too_short, unknown_site}
 use Rattle.model.specs.Settings.{settings_refusal}
 use Rattle.model.specs.Limits.{most_sites}
 use Rattle.model.specs.Held.{no_record}
 use Rattle.model.specs.Site.{fresh_site}
 use Rattle.model.specs.SiteMemory.{site_words, site_record, overwrite}
 use Rattle.model.specs.NetworkMemory.{sites_words, fresh_sites}
-use Rattle.site_start.specs.declared.StartedSites.{StartedSites}
-use Rattle.site_start.specs.declared.StartedSite.{StartedSite}
 
 -- ---- Starting all sites
+
+-- What starting all sites comes to, as the table of refusals tells it: a refusal or none, and fresh
+-- records in every case.
+pub record SitesStart : Type 0 where
+  pub refusal : ℕ
+  pub sites : Sites
+
+abbrev pub sites_start : Result Sites Refusal → SitesStart
+sites_start (Ok sites) = record { refusal = no_refusal; sites = sites }
+sites_start (Err refusal) = record { refusal = number_of refusal; sites = fresh_sites }
 
 -- "longer is fine, the rest untouched"
 abbrev pub start_refusal : Settings → List ℕ → ℕ
@@ -33,13 +44,25 @@ cleared settings memory = overwrite (replicate (sites_words settings) 0) memory
 pub record StartSitesSays
     (settings : Settings)
     (before after : List ℕ)
-    (answer : StartedSites) : Type 0 where
+    (answer : SitesStart) : Type 0 where
   pub refusal : answer.refusal ≡ start_refusal settings before
   pub sites : answer.sites ≡ fresh_sites
   pub memory : after
       ≡ (if is_zero (start_refusal settings before) then cleared settings before else before)
 
 -- ---- Starting one site
+
+-- What starting one site comes to: a refusal or none, and a fresh record in every case.
+pub record SiteStart : Type 0 where
+  pub refusal : ℕ
+  pub site : SiteRecord
+
+abbrev pub site_start_of : Result SiteRecord Refusal → SiteStart
+site_start_of (Ok site) = record { refusal = no_refusal; site = site }
+site_start_of (Err refusal) = record {
+  refusal = number_of refusal;
+  site = site_record fresh_site;
+}
 
 -- 1, 2, 3, 4, with memory of so many numbers; then 5 for the site's own number.
 abbrev pub start_site_refusal : Settings → ℕ → ℕ → ℕ
@@ -56,7 +79,7 @@ pub record StartSiteSays
     (settings : Settings)
     (which : ℕ)
     (before after : List ℕ)
-    (answer : StartedSite) : Type 0 where
+    (answer : SiteStart) : Type 0 where
   pub refusal : answer.refusal ≡ start_site_refusal settings which (length before)
   pub site : answer.site ≡ site_record fresh_site
   pub memory : after

@@ -1,5 +1,5 @@
-// Starting sites, all of them or one. Refused as document 01's table "Refused" names, a start hands
-// back fresh records all the same.
+// Starting sites, all of them or one. Refused as document 01's table "Refused" names, a start leaves
+// the memory as it was.
 
 #![tactic(auto)]
 
@@ -8,23 +8,9 @@ ghost use Rattle.model.specs.Refusals.{refusal_in};
 ghost use Rattle.model.specs.SiteMemory.{site_record};
 ghost use Rattle.model.specs.NetworkMemory.{fresh_sites};
 ghost use Rattle.model.specs.Site.{fresh_site};
-ghost use Rattle.site_start.specs.Starts.{start_site_refusal, StartSitesSays, StartSiteSays};
+ghost use Rattle.site_start.specs.Starts.{start_site_refusal, sites_start, StartSitesSays, site_start_of, StartSiteSays};
 
-use model::{NO_REFUSAL, Refusal, SITE_RECORDS, Settings, SiteRecord, Sites, Word, refusal_number};
-
-// All sites started: why that was refused, if it was, and fresh records in every case.
-#[derive(Clone, Copy)]
-pub struct StartedSites {
-    pub refusal: u32,
-    pub sites: Sites,
-}
-
-// One site started: why that was refused, if it was, and a fresh record in every case.
-#[derive(Clone, Copy)]
-pub struct StartedSite {
-    pub refusal: u32,
-    pub site: SiteRecord,
-}
+use model::{Refusal, SITE_RECORDS, Settings, SiteRecord, Sites, Word};
 
 // The record of a site started fresh.
 fn fresh_site() -> SiteRecord
@@ -51,29 +37,16 @@ fn fresh_sites() -> Sites
 }
 
 // All sites started fresh, their memory one after another.
-pub fn start_sites(settings: Settings, memory: &mut [Word]) -> StartedSites
-    ensures { StartSitesSays settings memory.old memory.new result }
+pub fn start_sites(settings: Settings, memory: &mut [Word]) -> Result<Sites, Refusal>
+    ensures { StartSitesSays settings memory.old memory.new (sites_start result) }
 {
-    let fresh = fresh_sites();
-    let refusal = refusal_number(settings::test_settings(settings));
-    if refusal != NO_REFUSAL {
-        return StartedSites {
-            refusal,
-            sites: fresh,
-        };
-    }
+    settings::test_settings(settings)?;
     let words = (settings.sites as usize) * site_memory::site_words(settings);
     if memory.len() < words {
-        return StartedSites {
-            refusal: Refusal::MemoryTooShort.number(),
-            sites: fresh,
-        };
+        return Err(Refusal::MemoryTooShort);
     }
     memory[..words].fill(0);
-    StartedSites {
-        refusal: NO_REFUSAL,
-        sites: fresh,
-    }
+    Ok(fresh_sites())
 }
 
 // Whether one site can be started, with memory of so many numbers: 1, 2, 3, 4; then 5 for its own
@@ -93,20 +66,14 @@ fn test_start_site(settings: Settings, which: u32, words: usize) -> Result<(), R
 
 // Site `which` alone started fresh, for a caller that holds one. The memory is the site's own, and
 // may be longer.
-pub fn start_site(settings: Settings, which: u32, memory: &mut [Word]) -> StartedSite
-    ensures { StartSiteSays settings which memory.old memory.new result }
+pub fn start_site(
+    settings: Settings,
+    which: u32,
+    memory: &mut [Word],
+) -> Result<SiteRecord, Refusal>
+    ensures { StartSiteSays settings which memory.old memory.new (site_start_of result) }
 {
-    let fresh = fresh_site();
-    let refusal = refusal_number(test_start_site(settings, which, memory.len()));
-    if refusal != NO_REFUSAL {
-        return StartedSite {
-            refusal,
-            site: fresh,
-        };
-    }
+    test_start_site(settings, which, memory.len())?;
     memory[..site_memory::site_words(settings)].fill(0);
-    StartedSite {
-        refusal,
-        site: fresh,
-    }
+    Ok(fresh_site())
 }

@@ -108,10 +108,11 @@ fn store_arrival(
     let counted = site_counting::count_item(memory, capacity, used, arrival.item);
     let due = report_counter(memory, counted.place, counted.counter, site.threshold);
     count_value(memory, 4 * capacity + (arrival.value as usize));
+    let gone = gone_with(counted.leaving);
     StoredArrival {
         used: counted.used,
         due,
-        gone: gone_with(counted.leaving),
+        gone,
     }
 }
 

@@ -12,7 +12,7 @@ ghost use Rattle.snapshot_file.specs.Reading.{held_in};
 ghost use Rattle.snapshot_header.specs.Header.{WholeFile};
 ghost use Rattle.snapshot_decks.specs.Decks.{deck_record, deck_memory, DeckLies, DeckAsks, DecksAsk};
 
-use little_endian::read_number;
+use little_endian::read_fixed;
 use model::{MOST_SITE_WORDS, Settings, SiteRecord, Word};
 use number_runs::read_words;
 use snapshot_file::{DECK_BYTES, deck_size, decks_place};
@@ -23,17 +23,12 @@ pub fn deck_record(settings: Settings, file: &[u8], place: usize) -> SiteRecord
     ensures { result ≡ deck_record settings (drop place file.now) }
 {
     let at = place + DECK_BYTES * site_memory::site_words(settings);
-    let arrivals = read_number(file, at, DECK_BYTES);
-    let pending = read_number(file, at + DECK_BYTES, DECK_BYTES);
-    let threshold = read_number(file, at + 2 * DECK_BYTES, DECK_BYTES);
-    let used = read_number(file, at + 3 * DECK_BYTES, DECK_BYTES);
-    let dropped = read_number(file, at + 4 * DECK_BYTES, DECK_BYTES);
     SiteRecord {
-        arrivals: arrivals,
-        pending: pending,
-        threshold: threshold,
-        used: used,
-        dropped: dropped,
+        arrivals: read_fixed::<DECK_BYTES>(file, at),
+        pending: read_fixed::<DECK_BYTES>(file, at + DECK_BYTES),
+        threshold: read_fixed::<DECK_BYTES>(file, at + 2 * DECK_BYTES),
+        used: read_fixed::<DECK_BYTES>(file, at + 3 * DECK_BYTES),
+        dropped: read_fixed::<DECK_BYTES>(file, at + 4 * DECK_BYTES),
     }
 }
 
@@ -60,11 +55,8 @@ fn test_decks(settings: Settings, file: &[u8], scratch: &mut [Word]) -> bool
     let count = settings.sites as usize;
     let size = deck_size(settings);
     let first = decks_place(settings);
-    let mut j = 0;
-    while j < count {
-        if test_deck(settings, file, first + j * size, scratch) {
-            j += 1;
-        } else {
+    for j in 0..count {
+        if !test_deck(settings, file, first + j * size, scratch) {
             return false;
         }
     }

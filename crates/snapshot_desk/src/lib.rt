@@ -18,7 +18,7 @@ ghost use Rattle.snapshot_desk.specs.Desk.{desk_memory, numbers_from, NumbersLie
 use coordinator_kinds::threshold_of;
 use coordinator_memory::record_consistent;
 use coordinator_numbers::coordinator_from;
-use little_endian::read_eight;
+use little_endian::read_fixed;
 use model::{COORDINATOR_LIMIT, CoordinatorRecord, Settings, VALUE_COUNT};
 use snapshot_file::{DESK_BYTES, DESK_PLACE};
 use snapshot_header::desk_row;
@@ -28,12 +28,10 @@ fn numbers_within(file: &[u8], from: usize, count: usize) -> bool
     requires { NumbersLie file.now from count }
     ensures { result ≡ all_within coordinator_limit (numbers_from file.now from count) }
 {
-    let mut i = 0;
-    while i < count {
-        if COORDINATOR_LIMIT < read_eight(file, from + DESK_BYTES * i) {
+    for i in 0..count {
+        if COORDINATOR_LIMIT < read_fixed::<DESK_BYTES>(file, from + DESK_BYTES * i) {
             return false;
         }
-        i += 1;
     }
     true
 }
@@ -44,10 +42,8 @@ fn numbers_sum(file: &[u8], from: usize, count: usize) -> u64
     ensures { result ≡ sum (numbers_from file.now from count) }
 {
     let mut total: u64 = 0;
-    let mut i = 0;
-    while i < count {
-        total += read_eight(file, from + DESK_BYTES * i);
-        i += 1;
+    for i in 0..count {
+        total += read_fixed::<DESK_BYTES>(file, from + DESK_BYTES * i);
     }
     total
 }

@@ -2,5 +2,6 @@
 pub mod Layout
 pub mod File
 pub mod Reading
+pub mod Answers
 pub mod Calls
 pub mod Claims

@@ -39,18 +39,9 @@ const DESK_BESIDE: usize = 10;
 // The numbers of a deck beside its memory: a record of five.
 const DECK_BESIDE: usize = 5;
 
-// Why saving is refused, or 0, and then how many bytes the file has.
-#[derive(Clone, Copy)]
-pub struct Saved {
-    pub refusal: u32,
-    pub length: usize,
-}
-
-// Why reading is refused, or 0, and then the settings and both records that the file has; refused,
-// zero settings and fresh records.
+// The settings and both records that an accepted file has.
 #[derive(Clone, Copy)]
 pub struct Loaded {
-    pub refusal: u32,
     pub settings: Settings,
     pub sites: Sites,
     pub coordinator: CoordinatorRecord,

@@ -5,7 +5,7 @@
 #![tactic(auto)]
 
 ghost use Rattle.std.specs.Prelude.{◌≡◌, not, eqb, take};
-ghost use Rattle.record_numbers.specs.Numbers.{coordinator_width};
+ghost use Rattle.record_numbers.specs.Numbers.{coordinator_width, phase_well_in};
 ghost use Rattle.checksum.specs.Sums.{byte_sum};
 ghost use Rattle.snapshot_file.specs.Reading.{settings_in, desk_record, unsummed, sum_in, shape_wrong, layout_wrong};
 ghost use Rattle.snapshot_header.specs.Header.{narrowed_settings, LongFile, WholeFile, SettledFile};
@@ -13,10 +13,10 @@ ghost use Rattle.snapshot_header.specs.Header.{narrowed_settings, LongFile, Whol
 use checksum::byte_sum;
 use coordinator_numbers::COORDINATOR_NUMBERS;
 use coordinator_phase::phase_well;
-use little_endian::{read_eight, read_number};
+use little_endian::read_number;
 use model::{Settings, VALUE_COUNT};
 use number_runs::read_numbers;
-use record_numbers::narrow;
+use record_numbers::{SETTINGS_NUMBERS, narrow};
 use snapshot_file::{
     DECK_BYTES, DESK_BYTES, DESK_PLACE, LEAST_LENGTH, POINTER_BYTES, SUM_BYTES, TRAILER_LENGTH,
     WIDTH_BYTES, decks_place, file_length,
@@ -26,11 +26,9 @@ use snapshot_file::{
 pub fn shape_wrong(file: &[u8]) -> bool
     ensures { result ≡ shape_wrong file.now }
 {
-    if file.len() < LEAST_LENGTH {
-        return true;
-    }
-    let place = file.len() - (WIDTH_BYTES + SUM_BYTES);
-    read_number(file, place, WIDTH_BYTES) != DECK_BYTES as u64
+    file.len() < LEAST_LENGTH
+        || read_number(file, file.len() - (WIDTH_BYTES + SUM_BYTES), WIDTH_BYTES)
+            != DECK_BYTES as u64
 }
 
 // Whether the sum differs.
@@ -39,10 +37,7 @@ pub fn sum_wrong(file: &[u8]) -> bool
     ensures { result ≡ not (eqb (byte_sum (unsummed file.now)) (sum_in file.now)) }
 {
     let last = file.len() - SUM_BYTES;
-    if byte_sum(&file[..last]) == read_number(file, last, SUM_BYTES) {
-        return false;
-    }
-    true
+    byte_sum(&file[..last]) != read_number(file, last, SUM_BYTES)
 }
 
 // The settings, each number narrowed.
@@ -50,19 +45,15 @@ pub fn settings_in(file: &[u8]) -> Settings
     requires { LongFile file.now }
     ensures { result ≡ narrowed_settings (settings_in file.now) }
 {
-    let sites = narrow(read_eight(file, 0));
-    let epsilon = narrow(read_eight(file, 8));
-    let phi = narrow(read_eight(file, 16));
-    let rank = narrow(read_eight(file, 24));
-    let capacity = narrow(read_eight(file, 32));
-    let universe = narrow(read_eight(file, 40));
+    let mut row = [0u64; SETTINGS_NUMBERS];
+    read_numbers(file, 0, &mut row);
     Settings {
-        sites: sites,
-        epsilon: epsilon,
-        phi: phi,
-        rank: rank,
-        capacity: capacity,
-        universe: universe,
+        sites: narrow(row[0]),
+        epsilon: narrow(row[1]),
+        phi: narrow(row[2]),
+        rank: narrow(row[3]),
+        capacity: narrow(row[4]),
+        universe: narrow(row[5]),
     }
 }
 
@@ -77,30 +68,27 @@ pub fn desk_row(settings: Settings, file: &[u8]) -> [u64; COORDINATOR_NUMBERS]
     row
 }
 
+// Whether the numbers of the file's phase are those of none.
+fn phase_wrong(settings: Settings, file: &[u8]) -> bool
+    requires { WholeFile settings file.now }
+    ensures { result ≡ not (phase_well_in (desk_record settings file.now)) }
+{
+    let row = desk_row(settings, file);
+    !phase_well(row[5], row[6], row[7], row[8], row[9])
+}
+
 // Whether an offset or the length is another than these settings give, or the phase is none.
 pub fn layout_wrong(settings: Settings, file: &[u8]) -> bool
     requires { SettledFile settings file.now }
     ensures { result ≡ layout_wrong settings file.now }
 {
     let length = file.len();
-    if length != file_length(settings) {
-        return true;
-    }
-    if read_number(file, length - TRAILER_LENGTH, POINTER_BYTES) != DESK_PLACE as u64 {
-        return true;
-    }
-    let decks = decks_place(settings) as u64;
-    if read_number(
-        file,
-        length - (TRAILER_LENGTH - POINTER_BYTES),
-        POINTER_BYTES,
-    ) != decks
-    {
-        return true;
-    }
-    let row = desk_row(settings, file);
-    if !phase_well(row[5], row[6], row[7], row[8], row[9]) {
-        return true;
-    }
-    false
+    read_number(file, length - TRAILER_LENGTH, POINTER_BYTES) != DESK_PLACE as u64
+        || read_number(
+            file,
+            length - (TRAILER_LENGTH - POINTER_BYTES),
+            POINTER_BYTES,
+        ) != decks_place(settings) as u64
+        || length != file_length(settings)
+        || phase_wrong(settings, file)
 }

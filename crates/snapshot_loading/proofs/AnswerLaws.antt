@@ -23,7 +23,6 @@ use Rattle.model.specs.Held.{Held}
 use Rattle.model.proofs.Thresholds.SettingsLaws.{settled}
 use Rattle.model.proofs.Soundness.ConsistentNetwork.{bench_rows}
 use Rattle.record_numbers.specs.Numbers.{coordinator_width, no_coordinator, coordinator_from, coordinator_read}
-use Rattle.snapshot_file.specs.declared.Loaded.{Loaded}
 use Rattle.snapshot_file.specs.Reading.{settings_in, desk_record, held_in, load_refusal}
 use Rattle.snapshot_file.specs.Calls.{refused_by, bench_in, LoadSays}
 use Rattle.snapshot_file.proofs.ReadLaws.{Accepted, accepted_of}
@@ -35,22 +34,21 @@ use Rattle.snapshot_refusal.proofs.BenchLaws.{record_narrow}
 module _ (file site_memory coordinator_memory : List ℕ) where
   -- ---- Refused
 
-  pub refused_says : (refusal : ℕ) (answer : Loaded)
+  pub refused_says : (refusal : ℕ)
       → refusal ≡ load_refusal file (length site_memory) (length coordinator_memory)
       → (refusal ≡ no_refusal → ⊥)
-      → answer ≡ refused_by refusal
-      → LoadSays file site_memory coordinator_memory site_memory coordinator_memory answer
-  refused_says refusal answer is some says =
+      → LoadSays file site_memory coordinator_memory site_memory coordinator_memory
+      (refused_by refusal)
+  refused_says refusal is some =
       let none : is_zero refusal ≡ false = ne_eqb refusal 0 some in
-      subst⁻¹ (LoadSays file site_memory coordinator_memory site_memory coordinator_memory) says
-      (record {
+      record {
         refusal = is;
         settings = rw none;
         sites = rw none;
         coordinator = rw none;
         site_memory = rw none;
         coordinator_memory = rw none;
-      })
+      }
 
   -- ---- Accepted
 

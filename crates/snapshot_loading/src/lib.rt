@@ -7,19 +7,25 @@ ghost use Rattle.std.specs.Prelude.{◌≡◌};
 ghost use Rattle.model.specs.SiteMemory.{overwrite};
 ghost use Rattle.snapshot_file.specs.Reading.{held_in};
 ghost use Rattle.snapshot_header.specs.Header.{WholeFile};
-ghost use Rattle.snapshot_file.specs.Calls.{LoadSays, refused_by};
+ghost use Rattle.snapshot_file.specs.Calls.{LoadSays, load_answer};
 ghost use Rattle.snapshot_loading.specs.Loading.{StoreAsks, DeskAsks};
 
 use coordinator_numbers::coordinator_from;
-use model::{
-    CoordinatorRecord, NO_REFUSAL, Phase, SITE_RECORDS, Settings, SiteRecord, Sites, VALUE_COUNT,
-    Word,
-};
+use model::{Refusal, SITE_RECORDS, Settings, SiteRecord, Sites, VALUE_COUNT, Word};
 use number_runs::{read_numbers, read_words};
 use snapshot_decks::deck_record;
 use snapshot_file::{DESK_PLACE, Loaded, deck_size, decks_place};
 use snapshot_header::{desk_row, settings_in};
-use snapshot_refusal::{load_refusal, messages_in};
+use snapshot_refusal::{messages_in, test_file};
+
+// The record of a site that is started fresh.
+const FRESH: SiteRecord = SiteRecord {
+    arrivals: 0,
+    pending: 0,
+    threshold: 1,
+    used: 0,
+    dropped: 0,
+};
 
 // The records of the decks and their counts of messages; records k to 31 are fresh, their counts 0.
 fn sites_in(settings: Settings, file: &[u8]) -> Sites
@@ -29,23 +35,14 @@ fn sites_in(settings: Settings, file: &[u8]) -> Sites
     let count = settings.sites as usize;
     let size = deck_size(settings);
     let first = decks_place(settings);
-    let fresh = SiteRecord {
-        arrivals: 0,
-        pending: 0,
-        threshold: 1,
-        used: 0,
-        dropped: 0,
-    };
-    let mut records = [fresh; SITE_RECORDS];
+    let mut records = [FRESH; SITE_RECORDS];
     let mut counts = [0u64; SITE_RECORDS];
-    let mut j = 0;
-    while j < count {
+    for j in 0..count {
         records[j] = deck_record(settings, file, first + j * size);
         counts[j] = messages_in(settings, file, j);
-        j += 1;
     }
     Sites {
-        records: records,
+        records,
         messages: counts,
     }
 }
@@ -60,12 +57,10 @@ fn store_decks(settings: Settings, file: &[u8], memory: &mut [Word])
     let words = site_memory::site_words(settings);
     let size = deck_size(settings);
     let first = decks_place(settings);
-    let mut j = 0;
-    while j < count {
+    for j in 0..count {
         let start = j * words;
         let end = start + words;
         read_words(file, first + j * size, &mut memory[start..end]);
-        j += 1;
     }
 }
 
@@ -79,66 +74,24 @@ fn store_desk(settings: Settings, file: &[u8], memory: &mut [u64])
     read_numbers(file, DESK_PLACE, &mut memory[..words]);
 }
 
-// The answer of a refused reading.
-fn refused(refusal: u32) -> Loaded
-    ensures { result ≡ refused_by refusal }
-{
-    let settings = Settings {
-        sites: 0,
-        epsilon: 0,
-        phi: 0,
-        rank: 0,
-        capacity: 0,
-        universe: 0,
-    };
-    let fresh = SiteRecord {
-        arrivals: 0,
-        pending: 0,
-        threshold: 1,
-        used: 0,
-        dropped: 0,
-    };
-    let sites = Sites {
-        records: [fresh; SITE_RECORDS],
-        messages: [0u64; SITE_RECORDS],
-    };
-    let coordinator = CoordinatorRecord {
-        total: 0,
-        base: 0,
-        threshold: 1,
-        signals: 0,
-        quantile: 0,
-        phase: Phase::Idle,
-    };
-    Loaded {
-        refusal: refusal,
-        settings: settings,
-        sites: sites,
-        coordinator: coordinator,
-    }
-}
-
 // Reads a bench from a file into lent memory, and hands back the file's settings and both records.
 // What lies behind is left as it was. Refused, it changes nothing: 15, 16; 1, 2, 3; 15; 4; 11.
-pub fn load_bench(file: &[u8], site_memory: &mut [Word], coordinator_memory: &mut [u64]) -> Loaded
+pub fn load_bench(
+    file: &[u8],
+    site_memory: &mut [Word],
+    coordinator_memory: &mut [u64],
+) -> Result<Loaded, Refusal>
     ensures { LoadSays file.now
         site_memory.old coordinator_memory.old
-        site_memory.new coordinator_memory.new result }
+        site_memory.new coordinator_memory.new (load_answer result) }
 {
-    let refusal = load_refusal(file, site_memory.len(), coordinator_memory.len());
-    if refusal != NO_REFUSAL {
-        return refused(refusal);
-    }
+    test_file(file, site_memory.len(), coordinator_memory.len())?;
     let settings = settings_in(file);
     store_decks(settings, file, site_memory);
     store_desk(settings, file, coordinator_memory);
-    let sites = sites_in(settings, file);
-    let row = desk_row(settings, file);
-    let coordinator = coordinator_from(&row);
-    Loaded {
-        refusal: NO_REFUSAL,
-        settings: settings,
-        sites: sites,
-        coordinator: coordinator,
-    }
+    Ok(Loaded {
+        settings,
+        sites: sites_in(settings, file),
+        coordinator: coordinator_from(&desk_row(settings, file)),
+    })
 }

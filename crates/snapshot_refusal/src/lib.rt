@@ -4,19 +4,20 @@
 #![tactic(auto)]
 
 ghost use Rattle.std.specs.Prelude.{◌≡◌};
+ghost use Rattle.model.specs.Refusals.{refusal_in};
 ghost use Rattle.model.specs.MessageCounts.{count_at, counts_within};
 ghost use Rattle.model.specs.Held.{held_consistent};
 ghost use Rattle.snapshot_file.specs.Reading.{counts_in, held_in, load_refusal};
 ghost use Rattle.snapshot_header.specs.Header.{WholeFile};
 ghost use Rattle.snapshot_refusal.specs.Refusal.{CountLies, BenchLies};
 
+use bench_memory::memory_short;
 use coordinator_numbers::COORDINATOR_NUMBERS;
-use little_endian::read_eight;
-use model::{
-    CHECKSUM_WRONG, FILE_UNREADABLE, MEMORY_INCONSISTENT, MEMORY_TOO_SHORT, MESSAGE_LIMIT,
-    NO_REFUSAL, Settings, VALUE_COUNT,
-};
+use little_endian::read_fixed;
+use model::{MESSAGE_LIMIT, Refusal, Settings, VALUE_COUNT};
+use settings::test_settings;
 use snapshot_file::{DESK_BYTES, DESK_PLACE};
+use snapshot_header::{layout_wrong, settings_in, shape_wrong, sum_wrong};
 
 // The count of messages of one deck; those of all are the last numbers of the desk part.
 pub fn messages_in(settings: Settings, file: &[u8], which: usize) -> u64
@@ -25,7 +26,7 @@ pub fn messages_in(settings: Settings, file: &[u8], which: usize) -> u64
 {
     let words = (settings.universe as usize) + VALUE_COUNT;
     let first = DESK_PLACE + DESK_BYTES * (words + COORDINATOR_NUMBERS);
-    read_eight(file, first + DESK_BYTES * which)
+    read_fixed::<DESK_BYTES>(file, first + DESK_BYTES * which)
 }
 
 // Whether the messages counted of each deck are within their limit; the sum has none.
@@ -34,13 +35,10 @@ fn counts_within(settings: Settings, file: &[u8]) -> bool
     ensures { result
         ≡ counts_within settings.sites (held_in settings file.now).sites.messages }
 {
-    let decks = settings.sites as usize;
-    let mut j = 0;
-    while j < decks {
+    for j in 0..settings.sites as usize {
         if MESSAGE_LIMIT < messages_in(settings, file, j) {
             return false;
         }
-        j += 1;
     }
     true
 }
@@ -59,28 +57,25 @@ fn bench_consistent(settings: Settings, file: &[u8]) -> bool
 }
 
 // Why the file is refused, for memories of these lengths.
-pub fn load_refusal(file: &[u8], site_count: usize, coordinator_count: usize) -> u32
-    ensures { result ≡ load_refusal file.now site_count coordinator_count }
+pub fn test_file(file: &[u8], site_count: usize, coordinator_count: usize) -> Result<(), Refusal>
+    ensures { refusal_in result ≡ load_refusal file.now site_count coordinator_count }
 {
-    if snapshot_header::shape_wrong(file) {
-        return FILE_UNREADABLE;
+    if shape_wrong(file) {
+        return Err(Refusal::FileUnreadable);
     }
-    if snapshot_header::sum_wrong(file) {
-        return CHECKSUM_WRONG;
+    if sum_wrong(file) {
+        return Err(Refusal::ChecksumWrong);
     }
-    let settings = snapshot_header::settings_in(file);
-    let refusal = settings::test_settings(settings);
-    if refusal != NO_REFUSAL {
-        return refusal;
+    let settings = settings_in(file);
+    test_settings(settings)?;
+    if layout_wrong(settings, file) {
+        return Err(Refusal::FileUnreadable);
     }
-    if snapshot_header::layout_wrong(settings, file) {
-        return FILE_UNREADABLE;
+    if memory_short(settings, site_count, coordinator_count) {
+        return Err(Refusal::MemoryTooShort);
     }
-    if bench_memory::memory_short(settings, site_count, coordinator_count) {
-        return MEMORY_TOO_SHORT;
+    if !bench_consistent(settings, file) {
+        return Err(Refusal::MemoryInconsistent);
     }
-    if bench_consistent(settings, file) {
-        return NO_REFUSAL;
-    }
-    MEMORY_INCONSISTENT
+    Ok(())
 }

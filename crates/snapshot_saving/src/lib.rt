@@ -4,49 +4,47 @@
 #![tactic(auto)]
 
 ghost use Rattle.std.specs.Prelude.{◌≡◌};
+ghost use Rattle.model.specs.Refusals.{refusal_in};
 ghost use Rattle.model.specs.Held.{held_by};
 ghost use Rattle.snapshot_file.specs.File.{save_refusal};
-ghost use Rattle.snapshot_file.specs.Calls.{SaveSays};
+ghost use Rattle.snapshot_file.specs.Calls.{SaveSays, save_answer};
 
-use model::{
-    CoordinatorRecord, MEMORY_INCONSISTENT, MEMORY_TOO_SHORT, NO_REFUSAL, Settings, Sites, Word,
-};
-use snapshot_file::{Saved, file_length};
+use bench_memory::{bench_consistent, memory_short};
+use model::{CoordinatorRecord, Refusal, Settings, Sites, Word};
+use settings::test_settings;
+use snapshot_file::file_length;
 use snapshot_writing::{write_decks, write_desk, write_settings, write_trailer};
 
 // Why saving is refused: 1, 2, 3; 4, of the bytes too; 11.
-fn save_refusal(
+fn test_save(
     settings: Settings,
     sites: Sites,
     coordinator: CoordinatorRecord,
     site_memory: &[Word],
     coordinator_memory: &[u64],
     room: usize,
-) -> u32
-    ensures { result
+) -> Result<(), Refusal>
+    ensures { refusal_in result
         ≡ save_refusal settings
         (held_by sites coordinator site_memory.now coordinator_memory.now) room }
 {
-    let refusal = settings::test_settings(settings);
-    if refusal != NO_REFUSAL {
-        return refusal;
-    }
-    if bench_memory::memory_short(settings, site_memory.len(), coordinator_memory.len()) {
-        return MEMORY_TOO_SHORT;
+    test_settings(settings)?;
+    if memory_short(settings, site_memory.len(), coordinator_memory.len()) {
+        return Err(Refusal::MemoryTooShort);
     }
     if room < file_length(settings) {
-        return MEMORY_TOO_SHORT;
+        return Err(Refusal::MemoryTooShort);
     }
-    if bench_memory::bench_consistent(
+    if !bench_consistent(
         settings,
         sites,
         coordinator,
         site_memory,
         coordinator_memory,
     ) {
-        return NO_REFUSAL;
+        return Err(Refusal::MemoryInconsistent);
     }
-    MEMORY_INCONSISTENT
+    Ok(())
 }
 
 // Saves a bench to lent bytes, in mid-delivery too, and answers how many bytes the file has; bytes
@@ -59,33 +57,28 @@ pub fn save_bench(
     site_memory: &[Word],
     coordinator_memory: &[u64],
     bytes: &mut [u8],
-) -> Saved
+) -> Result<usize, Refusal>
     ensures { SaveSays settings
         (held_by sites coordinator site_memory.now coordinator_memory.now)
-        bytes.old bytes.new result }
+        bytes.old bytes.new (save_answer result) }
 {
-    let refusal = save_refusal(
+    test_save(
         settings,
         sites,
         coordinator,
         site_memory,
         coordinator_memory,
         bytes.len(),
-    );
-    if refusal != NO_REFUSAL {
-        return Saved {
-            refusal: refusal,
-            length: 0,
-        };
-    }
+    )?;
     write_settings(settings, bytes);
-    let counts = sites.messages;
-    write_desk(settings, coordinator, counts, coordinator_memory, bytes);
+    write_desk(
+        settings,
+        coordinator,
+        sites.messages,
+        coordinator_memory,
+        bytes,
+    );
     write_decks(settings, sites, site_memory, bytes);
     write_trailer(settings, bytes);
-    let length = file_length(settings);
-    Saved {
-        refusal: NO_REFUSAL,
-        length: length,
-    }
+    Ok(file_length(settings))
 }

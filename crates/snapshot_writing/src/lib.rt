@@ -17,7 +17,7 @@ use checksum::byte_sum;
 use coordinator_numbers::{COORDINATOR_NUMBERS, coordinator_row};
 use little_endian::write_number;
 use model::{CoordinatorRecord, SITE_RECORDS, Settings, SiteRecord, Sites, VALUE_COUNT, Word};
-use number_runs::{write_narrow, write_numbers, write_words};
+use number_runs::{write_numbers, write_words};
 use site_numbers::site_row;
 use snapshot_file::{
     DECK_BYTES, DESK_BYTES, DESK_PLACE, POINTER_BYTES, SUM_BYTES, WIDTH_BYTES, deck_size,
@@ -38,7 +38,7 @@ pub fn write_settings(settings: Settings, bytes: &mut [u8])
         settings.capacity as u64,
         settings.universe as u64,
     ];
-    write_numbers(&row, bytes, 0);
+    write_numbers::<DESK_BYTES>(&row, bytes, 0);
 }
 
 // The desk part: the coordinator's memory, its record, and last the counts of messages of k decks.
@@ -56,13 +56,11 @@ pub fn write_desk(
         bytes.old }
 {
     let words = (settings.universe as usize) + VALUE_COUNT;
-    write_numbers(&memory[..words], bytes, DESK_PLACE);
-    let row = coordinator_row(coordinator);
+    write_numbers::<DESK_BYTES>(&memory[..words], bytes, DESK_PLACE);
     let place = DESK_PLACE + DESK_BYTES * words;
-    write_numbers(&row, bytes, place);
-    let decks = settings.sites as usize;
-    write_numbers(
-        &counts[..decks],
+    write_numbers::<DESK_BYTES>(&coordinator_row(coordinator), bytes, place);
+    write_numbers::<DESK_BYTES>(
+        &counts[..settings.sites as usize],
         bytes,
         place + DESK_BYTES * COORDINATOR_NUMBERS,
     );
@@ -77,8 +75,7 @@ fn write_deck(settings: Settings, site: SiteRecord, memory: &[Word], bytes: &mut
 {
     let words = site_memory::site_words(settings);
     write_words(&memory[..words], bytes, place);
-    let row = site_row(site);
-    write_narrow(&row, bytes, place + DECK_BYTES * words);
+    write_numbers::<DECK_BYTES>(&site_row(site), bytes, place + DECK_BYTES * words);
 }
 
 // The decks, one after another.
@@ -93,12 +90,15 @@ pub fn write_decks(settings: Settings, sites: Sites, memory: &[Word], bytes: &mu
     let words = site_memory::site_words(settings);
     let size = deck_size(settings);
     let first = decks_place(settings);
-    let mut j = 0;
-    while j < count {
+    for j in 0..count {
         let start = j * words;
-        let site = sites.records[j];
-        write_deck(settings, site, &memory[start..], bytes, first + j * size);
-        j += 1;
+        write_deck(
+            settings,
+            sites.records[j],
+            &memory[start..],
+            bytes,
+            first + j * size,
+        );
     }
 }
 

@@ -1,5 +1,5 @@
 -- The lanes so far have the sum of the bytes passed, 255 at most in each for each word.
-use mathlib.Core.Path.{◌≡◌}
+use mathlib.Core.Path.{◌≡◌, refl}
 use Prim.Native.Nat.{◌+◌, ◌*◌, ◌/◌, ◌<◌}
 use native.Mathlib.Omega.{arith}
 use lib.ListN.{take, drop}
@@ -22,7 +22,7 @@ room c =
 lanes_after : (c : After-lower_bytes-lower)
     → Lanes 4 (c.loop-round.lower + c.lower_bytes-lower.result)
     (c.loop-round.upper
-    + lower_halves 8 4 (c.read_eight-word.result / byte_range))
+    + lower_halves 8 4 (c.read_fixed-word.result / byte_range))
     (most_added * (c.loop-round.round + 1))
     (sum_of
     (take (word_bytes * (c.loop-round.round + 1))
@@ -35,12 +35,12 @@ lanes_after c =
     let now = c.loop-round in
     let bytes = c.args.bytes.now in
     let place = start.first + word_bytes * now.round in
-    one_word_more bytes start.first now.round (room c) now.invariant.0
-    (rw (c.lower_bytes-lower.ensures, c.read_eight-word.ensures)
+    one_word_more bytes start.first now.round (room c) now.invariant
+    (rw (c.lower_bytes-lower.ensures, c.read_fixed-word.ensures.0)
     (lanes_at bytes place (omega (arith, asked.inside)) (λ i inside. omega (arith, lent i))))
 
 pub loop-round-init : goal.loop-round-init
-loop-round-init c = (no_lanes 4, omega arith)
+loop-round-init c = no_lanes 4
 
 pub overflow_add-lower : goal.overflow_add-lower
 overflow_add-lower c = record { fits = fields_fit _ _ (room c) (lanes_after c).lower_within }
@@ -55,15 +55,13 @@ overflow_add-upper c =
     }
 
 pub loop-round-preserved : goal.loop-round-preserved
-loop-round-preserved c = (
-  rw c.upper_bytes-upper.ensures
-      (lanes_after (goal.at.loop-round-preserved c).After-lower_bytes-lower),
-  omega arith,
-)
+loop-round-preserved c =
+    rw c.upper_bytes-upper.ensures
+    (lanes_after (goal.at.loop-round-preserved c).After-lower_bytes-lower)
 
 -- Each of eight lanes is below 65,536.
-pub overflow_add-sum : goal.overflow_add-sum
-overflow_add-sum c = record { fits = omega (arith, c.lane_sum.ensures, c.lane_sum-2.ensures) }
+pub overflow_add-result : goal.overflow_add-result
+overflow_add-result c = record { fits = omega (arith, c.lane_sum.ensures, c.lane_sum-2.ensures) }
 
 pub returns : goal.returns
 returns c =
@@ -73,6 +71,6 @@ returns c =
     record {
       sum =
           rw (c.lane_sum.ensures, c.lane_sum-2.ensures, ← all)
-          now.invariant.0.total_is;
-      turns = all;
+          now.invariant.total_is;
+      turns = refl;
     }

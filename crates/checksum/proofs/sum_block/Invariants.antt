@@ -1,5 +1,5 @@
 -- The lanes so far have the sum of the bytes passed, 255 at most in each for each word.
-use Prim.Native.Nat.{◌-◌, ◌*◌, ◌≤◌}
+use Prim.Native.Nat.{◌*◌}
 use lib.ListN.{take, drop}
 use Rattle.checksum.specs.Sums.{sum_of}
 use Rattle.checksum.specs.Rounds.{word_bytes, most_added}
@@ -10,7 +10,3 @@ abbrev pub invariant-loop-round : goal.invariant-loop-round
 invariant-loop-round l =
     Lanes 4 l.lower l.upper (most_added * l.round)
     (sum_of (take (word_bytes * l.round) (drop l.first l.bytes)))
-    × (l.round ≤ l.rounds)
-
-abbrev pub decreases-loop-round : goal.decreases-loop-round
-decreases-loop-round l = l.rounds - l.round

@@ -13,8 +13,8 @@ pub sum_rest-rest-requires : goal.sum_rest-rest-requires
 sum_rest-rest-requires c = record { inside = omega arith; few = omega arith }
 
 -- A sum modulo 65,536, and 255 at most for each of seven bytes.
-pub overflow_add-sum : goal.overflow_add-sum
-overflow_add-sum c =
+pub overflow_add-result : goal.overflow_add-result
+overflow_add-result c =
     let bytes = c.args.bytes.now in
     let lent = c.shared_slice_known-1.given in
     let place = word_bytes * (length bytes / word_bytes) in

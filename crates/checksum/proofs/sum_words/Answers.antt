@@ -16,7 +16,7 @@ turns_within : (c : After-sum_block-block)
     ≤ c.args.rounds)
 turns_within c =
     let turns = c.sum_block-block.ensures.turns in
-    let block = c.block_of.ensures in (
+    let block = c.min.ensures in (
       omega (arith, turns, block),
       omega (arith, turns, block),
     )
@@ -27,13 +27,13 @@ block_within c =
     let bytes = c.args.bytes.now in
     let lent = c.shared_slice_known-1.given in
     let asked = c.requires in
-    let block = c.block_of.ensures in
+    let block = c.min.ensures in
     let place = word_bytes * c.loop-passed.passed in
     omega (
       arith,
       c.sum_block-block.ensures.sum,
       block,
-      part_within (word_bytes * c.block_of.result) place bytes
+      part_within (word_bytes * c.min.result) place bytes
           (λ i inside. omega (arith, lent i))
           (omega (arith, block, asked)),
     )
@@ -45,8 +45,8 @@ pub sum_block-block-requires : goal.sum_block-block-requires
 sum_block-block-requires c =
     let asked = c.requires in
     record {
-      inside = omega (arith, c.block_of.ensures, asked);
-      lanes_hold = omega (arith, c.block_of.ensures);
+      inside = omega (arith, c.min.ensures, asked);
+      lanes_hold = omega (arith, c.min.ensures);
     }
 
 pub overflow_add-sum : goal.overflow_add-sum

@@ -35,16 +35,6 @@ past_value c memory =
     (told (c.names_large_value.ensures (given c.before.before.before.before) memory)
     c.if-names_large_value.false)
 
-pub returns-then-not_due : goal.returns-then-not_due
-returns-then-not_due c memory =
-    refuse _ _ _ (begin _) refl
-    (told c.not_due.ensures c.if-not_due.true)
-
-pub returns-then-names_unknown_item : goal.returns-then-names_unknown_item
-returns-then-names_unknown_item c memory =
-    refuse _ _ _ (past_due (goal.at.returns-then-names_unknown_item c).Else-not_due memory) refl
-    (told c.names_unknown_item.ensures c.if-names_unknown_item.true)
-
 pub returns-then-names_large_value : goal.returns-then-names_large_value
 returns-then-names_large_value c memory =
     refuse _ _ _ (past_item (goal.at.returns-then-names_large_value c).Else-names_unknown_item

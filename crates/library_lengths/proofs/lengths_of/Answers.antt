@@ -1,7 +1,6 @@
 -- Length by length.
-use Prim.Native.Nat.{◌+◌, ◌*◌, ◌≤◌}
+use Prim.Native.Nat.{◌+◌, ◌≤◌}
 use mathlib.Core.Path.{◌≡◌}
-use mathlib.Core.List.{[], ◌∷◌}
 use native.Mathlib.Nat.{mul-le-mul}
 use native.Mathlib.Omega.{arith}
 use Rattle.model.specs.Limits.{most_site_words}
@@ -22,9 +21,4 @@ returns c =
     let settings = c.args.settings in
     let desk : settings.universe + 1024 ≡ coordinator_words settings = omega (arith, value_count_is)
     in
-    λ i.
-    c.site_words-site.ensures i
-    ∷ (settings.sites * c.site_words-site.ensures i
-    ∷ (desk i
-    ∷ (c.most_listed-listed.ensures i
-    ∷ (4 * c.most_messages-messages.ensures i ∷ []))))
+    cc

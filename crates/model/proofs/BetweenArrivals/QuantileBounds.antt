@@ -4,6 +4,7 @@
 --
 --   quantile_of_ok          the whole promise
 --   firm_quantile_of_ok     within 2e / 3, and exact while the threshold is 1
+use Rattle.std.specs.Prelude.{Option, None, Some}
 use mathlib.Core.Path.{◌≡◌, ap, subst}
 use Prim.Native.Nat.{ℕ, ◌+◌, ◌-◌, ◌*◌, ◌≤◌, ◌<◌}
 use native.Mathlib.Nat.{mul-le-mul_left, mul-le-mul_right, mul-le-mul}
@@ -12,8 +13,6 @@ use native.Mathlib.Decide.{dec_lt}
 use borrow.Author.Tests.{eq-eqb, ne_eqb}
 use Rattle.laws.proofs.Arithmetic.{mul_gap}
 use Rattle.model.specs.declared.Settings.{Settings}
-use Rattle.model.specs.declared.Quantile.{Quantile}
-use Rattle.model.specs.declared.Quantile.TheVariants.{Nothing, Value}
 use Rattle.model.specs.Limits.{top_value, least_drawn}
 use Rattle.model.specs.Reading.{quantile_of}
 use Rattle.model.specs.Runs.{Run}
@@ -24,10 +23,10 @@ use Rattle.model.proofs.BetweenArrivals.QuantileLaws.{QuantileIs, least_value_is
 use Rattle.model.proofs.BetweenArrivals.EstimateBounds.{RunOk, times_threshold, pending_few, all_counted, base_le_total, threshold_paid}
 
 -- A value is one, and the only one, that an answer gives.
-same_value : (answer : Quantile) (v w : ℕ) → answer ≡ Value v → answer ≡ Value w → v ≡ w
+same_value : (answer : Option ℕ) (v w : ℕ) → answer ≡ Some v → answer ≡ Some w → v ≡ w
 same_value answer v w is-v is-w = cc
 
-value_or_nothing : (answer : Quantile) (v : ℕ) → answer ≡ Value v → answer ≡ Nothing → ⊥
+value_or_nothing : (answer : Option ℕ) (v : ℕ) → answer ≡ Some v → answer ≡ None → ⊥
 value_or_nothing answer v is_value is-nothing =
     let impossible : ◌≡◌ {A = ℕ} 0 1 = cc in omega arith
 
@@ -50,7 +49,7 @@ module _ {settings : Settings} {run : Run} (fit : Settled settings) (ok : RunOk 
   abbrev base : ℕ
   base = run.network.coordinator.base
 
-  abbrev answer : Quantile
+  abbrev answer : Option ℕ
   answer = quantile_of settings run.network.coordinator
 
   base_le : base ≤ n
@@ -80,7 +79,7 @@ module _ {settings : Settings} {run : Run} (fit : Settled settings) (ok : RunOk 
 
   -- ---- Later
 
-  late_answer : 2 ≤ t → answer ≡ Value run.network.coordinator.quantile
+  late_answer : 2 ≤ t → answer ≡ Some run.network.coordinator.quantile
   late_answer two = rw (ne_eqb t 1 (λ one. omega arith))
 
   -- Few arrivals came since the close: n - base < 2 × k × t, and 3000 × k × t ≤ e × base.
@@ -127,7 +126,7 @@ module _ {settings : Settings} {run : Run} (fit : Settled settings) (ok : RunOk 
   -- The value that the answer gives.
   record AnswerOk : Type 0 where
     value : ℕ
-    is_value : answer ≡ Value value
+    is_value : answer ≡ Some value
     value_ok : ValueOk value
 
   complement : (1000 - q) * n + q * n ≡ 1000 * n
@@ -241,7 +240,7 @@ module _ {settings : Settings} {run : Run} (fit : Settled settings) (ok : RunOk 
           early (early_answer (omega (arith, ok.account.threshold_positive)) some)
       by_threshold (no more) = late (omega arith) (ok.late_quantile (omega arith))
 
-  no_answer : n ≡ 0 → answer ≡ Nothing
+  no_answer : n ≡ 0 → answer ≡ None
   no_answer none = rw (eq-eqb t 1 one, total_is_all one, none)
     where
       one : t ≡ 1
@@ -252,7 +251,7 @@ module _ {settings : Settings} {run : Run} (fit : Settled settings) (ok : RunOk 
           by_threshold (no more) = absurd (omega (arith, some_arrival (omega arith)))
 
   -- An answer, or none, by whether there is an arrival.
-  answered : (value : ℕ) → answer ≡ Value value → ValueOk value
+  answered : (value : ℕ) → answer ≡ Some value → ValueOk value
   answered value is_value = by_count (dec_lt 0 n)
     where
       by_count : Dec (0 < n) → ValueOk value
@@ -284,7 +283,7 @@ module _ {settings : Settings} {run : Run} (fit : Settled settings) (ok : RunOk 
         omega (arith, (answered value is_value).few_above, thrice_complement);
   }
     where
-      by_count : answer ≡ Nothing → Dec (0 < n) → n ≡ 0
+      by_count : answer ≡ None → Dec (0 < n) → n ≡ 0
       by_count is-nothing (yes some) =
           let found : AnswerOk = answer_ok some in
           absurd (value_or_nothing answer found.value found.is_value is-nothing)

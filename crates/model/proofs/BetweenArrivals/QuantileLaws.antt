@@ -5,6 +5,7 @@
 --   least_value_is                            the least value of a true histogram
 --   LateQuantile, late_arrival                a value that was right at the base
 --   late_of_halving                           what halving finds is right, for a free number h
+use Rattle.std.specs.Prelude.{Option, Some}
 use mathlib.Core.Path.{◌≡◌, refl, sym, ap, ◌∙◌}
 use mathlib.Core.Bool.{Bool, true, false, false≢true}
 use mathlib.Core.List.{List, [], ◌∷◌, ◌++◌}
@@ -16,8 +17,6 @@ use lib.Dec.{ltb}
 use lib.ListN.{length, length-set, replicate, length-replicate}
 use borrow.Author.Tests.{leb-true, leb-false, le-leb}
 use Rattle.model.specs.declared.Arrival.{Arrival}
-use Rattle.model.specs.declared.Quantile.{Quantile}
-use Rattle.model.specs.declared.Quantile.TheVariants.{Value}
 use Rattle.model.specs.Limits.{top_value, value_count}
 use Rattle.model.specs.Site.{one_more_at, up_to}
 use Rattle.model.specs.Coordinator.{enough}
@@ -57,9 +56,9 @@ early_arrival histogram accepted arrival value_known early = record {
 }
 
 -- An answer that is the least value with enough arrivals at or below it.
-pub record QuantileIs (goal : ℕ) (accepted : List Arrival) (answer : Quantile) : Type 0 where
+pub record QuantileIs (goal : ℕ) (accepted : List Arrival) (answer : Option ℕ) : Type 0 where
   pub value : ℕ
-  pub is_value : answer ≡ Value value
+  pub is_value : answer ≡ Some value
   pub below_low : 1000 * below value accepted < goal
   pub up_to_high : goal ≤ 1000 * below (value + 1) accepted
 

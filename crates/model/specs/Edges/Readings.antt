@@ -1,9 +1,8 @@
 -- Reading the coordinator: how long a list gets, the margin above, at and below 0, and the class.
-use Rattle.std.specs.Prelude.{◌≡◌, false, List, [], ◌∷◌, ◌++◌, pos, negsuc}
+use Rattle.std.specs.Prelude.{◌≡◌, false, List, [], ◌∷◌, ◌++◌, pos, negsuc, None, Some}
 use Rattle.model.specs.declared.Settings.{Settings}
 use Rattle.model.specs.declared.Arrival.{Arrival}
 use Rattle.model.specs.declared.Phase.TheVariants.{Idle}
-use Rattle.model.specs.declared.Quantile.TheVariants.{Nothing, Value}
 use Rattle.model.specs.Settings.{settings_with}
 use Rattle.model.specs.Reading.{is_listed, heavy_hitters, most_listed, margin, quantile_of}
 use Rattle.model.specs.Instances.{settings_a, settings_p6, arrival_with, draws, coordinator_after}
@@ -54,18 +53,18 @@ pub record ReadingEdges : Type 0 where
   pub listed_first : heavy_hitters settings_two (coordinator_after settings_two (draw_at 0 ∷ []))
       ≡ 7 ∷ []
   pub class_first : quantile_of settings_two (coordinator_after settings_two (draw_at 0 ∷ [])) ≡
-      Value 3
+      Some 3
   pub listed_since : heavy_hitters settings_two (coordinator_after settings_two since_close) ≡ 7 ∷
       []
   pub margin_since : margin settings_two (coordinator_after settings_two since_close) 8 ≡ negsuc 999
-  pub class_since : quantile_of settings_two (coordinator_after settings_two since_close) ≡ Value 9
+  pub class_since : quantile_of settings_two (coordinator_after settings_two since_close) ≡ Some 9
   -- "later the record's class, which is set when a halving ends"
-  pub later_class : quantile_of settings_a (coordinator_after settings_a (draws 6)) ≡ Value 3
-  pub later_record : quantile_of settings_p6 (coordinator_at 2 Idle) ≡ Value 0
-  pub none_at_0 : quantile_of settings_p6 (coordinator_at 1 Idle) ≡ Nothing
+  pub later_class : quantile_of settings_a (coordinator_after settings_a (draws 6)) ≡ Some 3
+  pub later_record : quantile_of settings_p6 (coordinator_at 2 Idle) ≡ Some 0
+  pub none_at_0 : quantile_of settings_p6 (coordinator_at 1 Idle) ≡ None
   -- class 1, and class 1023
   pub class_1 : quantile_of settings_a (coordinator_after settings_a (arrival_with 0 7 1 ∷ [])) ≡
-      Value 1
+      Some 1
   pub class_1023 :
-      quantile_of settings_a (coordinator_after settings_a (arrival_with 0 7 1023 ∷ [])) ≡ Value
+      quantile_of settings_a (coordinator_after settings_a (arrival_with 0 7 1023 ∷ [])) ≡ Some
       1023

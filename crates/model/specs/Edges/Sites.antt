@@ -1,11 +1,10 @@
 -- A site: what its memory must hold (4 and 11), the refusals of a draw and of a message and their
 -- order, and which counter a draw takes.
-use Rattle.std.specs.Prelude.{◌≡◌, List, [], ◌∷◌, ◌++◌, ℕ, replicate}
+use Rattle.std.specs.Prelude.{◌≡◌, Some, None, List, [], ◌∷◌, ◌++◌, ℕ, replicate}
 use Rattle.model.specs.declared.SiteRecord.{SiteRecord}
 use Rattle.model.specs.Settings.{settings_with}
 use Rattle.model.specs.Messages.{poll_kind, probe_kind, message, item_report, count_report, poll, poll_answer, probe, probe_answer, announcement}
-use Rattle.model.specs.declared.Leaving.TheVariants.{Nobody, Left}
-use Rattle.model.specs.Counters.{Counter, unreported, unreported_in, find, least_place, placement_for, own, unused, replaced, counters_after, leaving_by, gone_with, after_report}
+use Rattle.model.specs.Counters.{Counter, unreported, unreported_in, find, least_place, placement_for, own, unused, replaced, counters_after, left_with, leaving_by, gone_with, after_report}
 use Rattle.model.specs.Site.{Site, fresh_site, arrival_refusal, site_message_refusal, site_receives}
 use Rattle.model.specs.SiteMemory.{site_memory_refusal}
 use Rattle.model.specs.Instances.{settings_a, settings_p6, arrival_with, counter_with}
@@ -177,11 +176,11 @@ pub record CounterEdges : Type 0 where
   pub sent : after_report 2 (held 4 7) ≡ counter_with 4 7 2 5
   pub all_unsent : unreported_in (held 4 7 ∷ held 3 6 ∷ held 1 6 ∷ []) ≡ 4
   -- request N1: "which code left and how many unsent draws went"
-  pub nobody_own : leaving_by (own 1) (held 4 7 ∷ held 3 6 ∷ held 1 6 ∷ []) ≡ Nobody
-  pub nobody_unused : leaving_by unused (held 4 7 ∷ []) ≡ Nobody
-  pub leaves : leaving_by (replaced 1) (held 4 9 ∷ held 3 7 ∷ held 1 8 ∷ []) ≡ Left 3 2
-  pub leaves_with_none : leaving_by (replaced 0) (held 4 5 ∷ held 3 7 ∷ []) ≡ Left 4 0
+  pub nobody_own : leaving_by (own 1) (held 4 7 ∷ held 3 6 ∷ held 1 6 ∷ []) ≡ None
+  pub nobody_unused : leaving_by unused (held 4 7 ∷ []) ≡ None
+  pub leaves : leaving_by (replaced 1) (held 4 9 ∷ held 3 7 ∷ held 1 8 ∷ []) ≡ Some (left_with 3 2)
+  pub leaves_with_none : leaving_by (replaced 0) (held 4 5 ∷ held 3 7 ∷ []) ≡ Some (left_with 4 0)
   -- a code held twice: by the slot that leaves
-  pub leaves_twice : leaving_by (replaced 1) (held 3 9 ∷ held 3 7 ∷ []) ≡ Left 3 2
-  pub gone_with_nobody : gone_with Nobody ≡ 0
-  pub gone_with : gone_with (Left 3 2) ≡ 2
+  pub leaves_twice : leaving_by (replaced 1) (held 3 9 ∷ held 3 7 ∷ []) ≡ Some (left_with 3 2)
+  pub gone_with_nobody : gone_with None ≡ 0
+  pub gone_with : gone_with (Some (left_with 3 2)) ≡ 2

@@ -14,15 +14,14 @@ loop-i-init c =
 
 pub loop-i-preserved : goal.loop-i-preserved
 loop-i-preserved c =
-    let start =
-    c.args in
+    let start = c.args in
     let now = c.loop-i in
-    let written = c.write_four in
+    let written = c.write_fixed in
     written_next 4 start.place start.numbers.now start.bytes.now now.i _ _
     now.invariant (omega arith) (omega arith) written.auto.bytes
     (written.ensures
     ∙ ap (λ (n : ℕ). written_at (start.place + 4 * now.i) (little_endian 4 n) now.bytes)
-    c.widened.ensures)
+    c.from.ensures)
 
 pub returns : goal.returns
 returns c =

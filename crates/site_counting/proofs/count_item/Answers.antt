@@ -1,10 +1,10 @@
 -- `site_counting::count_item` meets its contract: each way of counting by its law in CountLaws.
-use Prim.Native.Nat.{◌<◌}
+use Rattle.std.specs.Prelude.{Some}
+use Prim.Native.Nat.{ℕ, ◌<◌}
 use mathlib.Core.Path.{refl, ap, subst⁻¹}
 use native.Mathlib.Omega.{arith}
 use borrow.Author.Rules.{rules}
-use Rattle.model.specs.declared.Leaving.TheVariants.{Left}
-use Rattle.model.specs.Counters.{Counter}
+use Rattle.model.specs.Counters.{Counter, left_with}
 use Rattle.site_counters.specs.Stored.{counter_of, PartsWithin}
 use Rattle.site_counting.proofs.CountLaws.{counted_own, counted_unused, counted_replaced, small_at, parts_at, least_within}
 use Rattle.site_counting.proofs.count_item.Goals as goal
@@ -100,4 +100,4 @@ returns c =
     old.ensures c.if-found-used.false
     c.if-used-capacity.false
     refl refl refl
-    (ap (Left old.result.item) c.unreported_of-gone.ensures) put.ensures
+    (ap (λ (gone : ℕ). Some (left_with old.result.item gone)) c.unreported_of-gone.ensures) put.ensures

@@ -1,5 +1,5 @@
 -- The records one by one, then the counts of messages. The loop's invariant: the first i records
--- are those of the row. The measure is the count of the records left.
+-- are those of the row.
 use mathlib.Core.Path.{refl}
 use borrow.Author.Rules.{rules}
 use Rattle.laws.proofs.Fronts.{growing_begins}

@@ -1,11 +1,7 @@
 -- The records one by one, then the counts of messages. The loop's invariant: the first i records
--- are those of the row. The measure is the count of the records left.
-use Prim.Native.Nat.{◌-◌}
+-- are those of the row.
 use Rattle.site_numbers.proofs.Records.{Reading}
 use Rattle.site_numbers.proofs.sites_from.Given as goal
 
 abbrev pub invariant-loop-i : goal.invariant-loop-i
 invariant-loop-i l = Reading l.row l.records l.i
-
-abbrev pub decreases-loop-i : goal.decreases-loop-i
-decreases-loop-i l = 32 - l.i

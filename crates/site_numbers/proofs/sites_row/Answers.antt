@@ -1,5 +1,5 @@
 -- The records one by one, then the counts of messages. The loop's invariant: the numbers of the
--- first i records stand at the front. The measure is the count of the records left.
+-- first i records stand at the front.
 use mathlib.Core.Path.{refl}
 use borrow.Author.Rules.{rules}
 use Rattle.laws.proofs.Fronts.{growing_begins}

@@ -45,4 +45,4 @@ returns c =
     counted.new.memory
     counted.result counted.ensures (search rules) report.new.memory report.result
     report.ensures (search rules) value.new.memory value.ensures
-    c.gone_with.result c.gone_with.ensures
+    c.gone_with-gone.result c.gone_with-gone.ensures

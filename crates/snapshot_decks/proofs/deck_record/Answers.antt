@@ -14,15 +14,15 @@ returns c =
     let at-is = ap (λ (n : ℕ). a.place + 4 * n) c.site_words.ensures in
     λ i. record {
       arrivals = record_number a.settings a.file.now a.place 0 at _ (omega arith) at-is
-          (c.read_number-arrivals.ensures
+          (c.read_fixed.ensures.0
           ∙ ap (λ (n : ℕ). number_at 4 n a.file.now) (sym (add-zero at)))
           i;
       pending = record_number a.settings a.file.now a.place 1 at _ (omega arith) at-is
-          c.read_number-pending.ensures i;
+          c.read_fixed-2.ensures.0 i;
       threshold = record_number a.settings a.file.now a.place 2 at _ (omega arith) at-is
-          c.read_number-threshold.ensures i;
+          c.read_fixed-3.ensures.0 i;
       used = record_number a.settings a.file.now a.place 3 at _ (omega arith) at-is
-          c.read_number-used.ensures i;
+          c.read_fixed-4.ensures.0 i;
       dropped = record_number a.settings a.file.now a.place 4 at _ (omega arith) at-is
-          c.read_number-dropped.ensures i;
+          c.read_fixed-5.ensures.0 i;
     }

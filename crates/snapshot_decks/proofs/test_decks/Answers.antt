@@ -1,5 +1,5 @@
 -- The decks before j are consistent, and those that are left decide.
-use mathlib.Core.Path.{◌≡◌, refl, sym, ap, ◌∙◌, subst⁻¹}
+use mathlib.Core.Path.{◌≡◌, sym, ap, ◌∙◌, subst⁻¹}
 use mathlib.Core.List.{List}
 use Prim.Native.Nat.{ℕ, ◌+◌, ◌*◌, ◌≤◌}
 use native.Mathlib.Omega.{arith}
@@ -50,7 +50,7 @@ told c =
     ap (λ (bytes : List ℕ).
     site_consistent a.settings (deck_record a.settings bytes) (deck_memory a.settings bytes))
     (sym (here_is a.settings a.file.now (others a.settings) c.loop-j.j
-    c.loop-j.invariant.1 c.loop-j-test.true
+    c.loop-j.invariant c.loop-j-test.true
     c.decks_place-first.result c.deck_size-size.result c.decks_place-first.ensures
     c.deck_size-size.ensures))
     ∙ sym c.test_deck.ensures
@@ -58,7 +58,7 @@ told c =
 pub loop-j-init : goal.loop-j-init
 loop-j-init c =
     let a = c.args in
-    (refl, walked_start a.settings a.file.now (others a.settings))
+    walked_start a.settings a.file.now (others a.settings)
 
 pub overflow_mul-j : goal.overflow_mul-j
 overflow_mul-j c =
@@ -72,27 +72,25 @@ pub test_deck-requires : goal.test_deck-requires
 test_deck-requires c =
     record {
       lies = lies (goal.at.test_deck-requires c).In-loop-j;
-      room = omega (arith, c.loop-j.invariant.0, c.requires.room);
+      room = omega (arith, c.requires.room);
     }
 
 pub loop-j-preserved : goal.loop-j-preserved
 loop-j-preserved c =
-    let a = c.args in (
-      omega (arith, c.test_deck.auto.scratch, c.loop-j.invariant.0),
-      walked_on a.settings a.file.now (others a.settings) c.loop-j.j
-          c.loop-j.invariant.1 c.loop-j-test.true
-          (told (goal.at.loop-j-preserved c).After-test_deck ∙ c.if-test_deck.true),
-    )
+    let a = c.args in
+    walked_on a.settings a.file.now (others a.settings) c.loop-j.j
+    c.loop-j.invariant c.loop-j-test.true
+    (told (goal.at.loop-j-preserved c).After-test_deck ∙ c.if-not-test_deck.false)
 
-pub returns-else-test_deck : goal.returns-else-test_deck
-returns-else-test_deck c =
+pub returns-then-not-test_deck : goal.returns-then-not-test_deck
+returns-then-not-test_deck c =
     let a = c.args in
     sym (walked_off a.settings a.file.now (others a.settings) c.loop-j.j
-    c.loop-j.invariant.1 c.loop-j-test.true
-    (told (goal.at.returns-else-test_deck c).After-test_deck ∙ c.if-test_deck.false))
+    c.loop-j.invariant c.loop-j-test.true
+    (told (goal.at.returns-then-not-test_deck c).After-test_deck ∙ c.if-not-test_deck.true))
 
 pub returns : goal.returns
 returns c =
     let a = c.args in
     sym (walked_end a.settings a.file.now (others a.settings) c.loop-j.j
-    c.loop-j.invariant.1 c.loop-j-test.false)
+    c.loop-j.invariant c.loop-j-test.false)

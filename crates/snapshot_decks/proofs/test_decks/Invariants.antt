@@ -1,8 +1,7 @@
 -- The decks before j are consistent, and those that are left decide.
-use mathlib.Core.Path.{◌≡◌}
 use mathlib.Core.List.{List}
 use Prim.Native.Nat.{◌-◌}
-use lib.ListN.{length, replicate}
+use lib.ListN.{replicate}
 use Rattle.model.specs.declared.Settings.{Settings}
 use Rattle.model.specs.declared.SiteRecord.{SiteRecord}
 use Rattle.model.specs.Limits.{most_sites}
@@ -16,8 +15,4 @@ abbrev pub others : Settings → List SiteRecord
 others settings = replicate (most_sites - settings.sites) (site_record fresh_site)
 
 abbrev pub invariant-loop-j : goal.invariant-loop-j
-invariant-loop-j l = (length l.scratch ≡ length l.initial.scratch) × Walked l.settings l.file
-    (others l.settings) l.j
-
-abbrev pub decreases-loop-j : goal.decreases-loop-j
-decreases-loop-j l = l.count - l.j
+invariant-loop-j l = Walked l.settings l.file (others l.settings) l.j

@@ -1,17 +1,15 @@
 -- The memory of the decks before j stands where it belongs, and what lies behind is as it was.
-use mathlib.Core.Path.{◌≡◌, refl, ap, ◌∙◌}
+use mathlib.Core.Path.{◌≡◌, ap, ◌∙◌}
 use mathlib.Core.List.{List, [], ◌++◌}
 use Prim.Native.Nat.{ℕ, suc, ◌+◌, ◌-◌, ◌*◌, ◌≤◌}
 use native.Mathlib.Nat.{mul-le-mul, mul-le-mul_right}
 use native.Mathlib.Omega.{arith}
 use lib.ListN.{length, take, drop, length-drop}
 use lib.Seq.{drop-drop, length-take-le}
-use borrow.Rule.Slice.PartMut.{same_len_mid}
 use Rattle.model.specs.SiteMemory.{site_words}
 use Rattle.model.proofs.Thresholds.SettingsLaws.{settled}
 use Rattle.model.proofs.BetweenArrivals.ReportLaws.{value_count_is}
 use Rattle.little_endian.specs.Numbers.{numbers_in}
-use Rattle.little_endian.proofs.NumberLaws.{length_numbers_in}
 use Rattle.snapshot_file.specs.Layout.{decks_place_of}
 use Rattle.snapshot_file.specs.Reading.{deck_size}
 use Rattle.snapshot_file.proofs.LayoutLaws.{file_small}
@@ -59,7 +57,7 @@ places c =
     ≡ decks_place_of a.settings + j * deck_size a.settings =
     λ i. c.decks_place-first.ensures i + j * c.deck_size-size.ensures i in
     record {
-      part_within = omega (arith, own, most, c.requires.memory_long, c.loop-j.invariant.1);
+      part_within = omega (arith, own, most, c.requires.memory_long);
       part_small = omega (arith, own, most, all);
       deck_within = omega (arith, place, lies.within, words_are);
       deck_small =
@@ -85,7 +83,7 @@ part_count words start memory within =
 pub loop-j-init : goal.loop-j-init
 loop-j-init c =
     let none : 0 * c.site_words-words.result ≡ 0 = omega arith in
-    (omega arith, refl, rw none)
+    rw none
 
 pub overflow_mul-start : goal.overflow_mul-start
 overflow_mul-start c =
@@ -147,17 +145,9 @@ loop-j-preserved c =
     let width : start + words - start ≡ words = omega arith in
     let behind : drop (start + words - start) (drop start memory) ≡ drop (start + words) memory =
     ap (λ (n : ℕ). drop n (drop start memory)) width ∙ drop-drop words start memory in
-    let stored = ap (λ (l : List ℕ). take start memory ++ (part ++ l)) behind
+    ap (λ (l : List ℕ). take start memory ++ (part ++ l)) behind
     ∙ words_stored words c.deck_size-size.result c.loop-j.j c.decks_place-first.result
-    file a.memory.now memory part c.loop-j.invariant.2 part_is in (
-      omega (arith, c.loop-j-test.true),
-      same_len_mid start (start + words - start) memory part
-          (ap length c.read_words.ensures
-          ∙ length_numbers_in 4 (length (take (start + words - start) (drop start memory)))
-          (drop place file))
-          ∙ c.loop-j.invariant.1,
-      stored,
-    )
+    file a.memory.now memory part c.loop-j.invariant part_is
 
 pub returns : goal.returns
 returns c =
@@ -165,5 +155,5 @@ returns c =
     words_end a.settings a.file.now a.memory.now c.loop-j.memory
     c.site_words-words.result c.deck_size-size.result c.decks_place-first.result
     c.loop-j.j c.site_words-words.ensures c.deck_size-size.ensures
-    c.decks_place-first.ensures (omega (arith, c.loop-j-test.false, c.loop-j.invariant.0))
-    c.loop-j.invariant.2
+    c.decks_place-first.ensures (omega (arith, c.loop-j-test.false))
+    c.loop-j.invariant

@@ -1,17 +1,12 @@
 -- The memory of the decks before j stands where it belongs, and what lies behind is as it was.
 use mathlib.Core.Path.{◌≡◌}
 use mathlib.Core.List.{◌++◌}
-use Prim.Native.Nat.{◌-◌, ◌*◌, ◌≤◌}
-use lib.ListN.{length, drop}
+use Prim.Native.Nat.{◌*◌}
+use lib.ListN.{drop}
 use Rattle.snapshot_loading.proofs.LoadingLaws.{words_from}
 use Rattle.snapshot_loading.proofs.store_decks.Given as goal
 
 abbrev pub invariant-loop-j : goal.invariant-loop-j
 invariant-loop-j l =
-    (l.j ≤ l.count)
-    × (length l.memory ≡ length l.initial.memory)
-    × (l.memory ≡ words_from l.words l.size l.j (drop l.first l.file) ++ drop (l.j * l.words)
-    l.initial.memory)
-
-abbrev pub decreases-loop-j : goal.decreases-loop-j
-decreases-loop-j l = l.count - l.j
+    l.memory
+    ≡ words_from l.words l.size l.j (drop l.first l.file) ++ drop (l.j * l.words) l.initial.memory

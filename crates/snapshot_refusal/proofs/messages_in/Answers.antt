@@ -26,8 +26,8 @@ overflow_add-first-3 c =
       (settled c.args.settings c.requires.whole.settings_accepted).sites.at_most,
     )
 
-pub read_eight-requires : goal.read_eight-requires
-read_eight-requires c =
+pub read_fixed-requires : goal.read_fixed-requires
+read_fixed-requires c =
     omega (
       arith,
       c.requires.known,
@@ -42,4 +42,4 @@ returns c =
     let words = a.settings.universe + 1024 in
     let are : words ≡ coordinator_words a.settings = omega (arith, value_count_is) in
     count_there a.settings a.file.now words a.which _ are c.requires.known
-    c.read_eight.ensures
+    c.read_fixed.ensures.0

@@ -34,8 +34,8 @@ write_words-requires c =
 
 pub returns : goal.returns
 returns c =
-    let narrow = c.write_narrow in
-    let row = c.site_row-row in
+    let narrow = c.write_numbers in
+    let row = c.site_row in
     let a = c.args in
     let words = c.site_words-words.result in
     let record_numbers = site_numbers a.site in

@@ -1,8 +1,8 @@
 -- The decks before j are written, at each turn.
-use mathlib.Core.Path.{◌≡◌, sym, ◌∙◌}
+use mathlib.Core.Path.{◌≡◌, ◌∙◌}
 use Prim.Native.Nat.{◌+◌, ◌*◌, ◌≤◌}
 use native.Mathlib.Omega.{arith}
-use lib.ListN.{length, get_or, length-map}
+use lib.ListN.{length, get_or}
 use Rattle.laws.specs.Writing.{written_at}
 use Rattle.model.specs.Held.{no_record}
 use Rattle.model.proofs.Thresholds.SettingsLaws.{settled}

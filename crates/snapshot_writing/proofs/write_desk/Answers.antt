@@ -93,7 +93,7 @@ returns c =
     c.write_numbers-3.ensures
     ∙ (λ i. written_at (desk_place + 8 * words + 80) own (c.write_numbers-2.ensures i))
     ∙ (λ i. written_at (desk_place + 8 * words + 80) own
-    (written_at (desk_place + 8 * words) (numbers_bytes 8 (c.coordinator_row-row.ensures i))
+    (written_at (desk_place + 8 * words) (numbers_bytes 8 (c.coordinator_row.ensures i))
     (c.write_numbers.ensures i)))
     ∙ desk_written a.settings a.coordinator words a.counts a.memory.now a.bytes.now
     (words_are (goal.at.returns c).Start) (enough (goal.at.returns c).Start) c.requires.memory_long

@@ -1,0 +1,2 @@
+-- What a refused call leaves as it was.
+pub mod Refused

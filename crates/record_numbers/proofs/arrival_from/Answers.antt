@@ -1,6 +1,0 @@
--- Number by number.
-use mathlib.Core.Path.{refl}
-use Rattle.record_numbers.proofs.arrival_from.Goals as goal
-
-pub returns : goal.returns
-returns c = refl

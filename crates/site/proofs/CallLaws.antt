@@ -3,7 +3,7 @@
 --
 --   draw_taken, touch_not_taken, refused_not_taken      which arrivals are taken
 --   observe_asks, observe_refused, observing            an arrival
---   receive_asks, receive_accepted                      a message
+--   receive_asks                                        a message
 use Rattle.std.specs.Prelude.{Result, Ok, Err, IsErrAnd}
 use Prim.Native.Nat.{ℕ}
 use mathlib.Core.Path.{◌≡◌, ap, sym, ◌∙◌}
@@ -11,7 +11,6 @@ use mathlib.Core.Bool.{true, false}
 use mathlib.Core.List.{List}
 use native.Mathlib.Omega.{arith}
 use lib.Dec.{leb}
-use borrow.Author.Tests.{eq-eqb}
 use Rattle.model.specs.declared.Settings.{Settings}
 use Rattle.model.specs.declared.Arrival.{Arrival}
 use Rattle.model.specs.declared.Message.{Message}
@@ -24,11 +23,10 @@ use Rattle.model.proofs.Thresholds.RefusalLaws.{both_accepted, passed, some_numb
 use Rattle.model.proofs.Touches.DrawLaws.{line_draw, takes, not_taken, touch_left}
 use Rattle.site_memory.proofs.ReadyLaws.{step_ready}
 use Rattle.site_steps.specs.declared.Observed.{Observed}
-use Rattle.site_receiving.specs.declared.Replied.{Replied}
 use Rattle.site_steps.specs.Steps.{ObserveAsks}
-use Rattle.site_receiving.specs.Receiving.{ReceiveAsks, ReceiveStepSays}
+use Rattle.site_receiving.specs.Receiving.{ReceiveAsks}
 use Rattle.site_receiving.proofs.ReceiveLaws.{message_due}
-use Rattle.site.specs.Calls.{observation, observe_refusal, ObserveSays, site_reply, receive_refusal, SiteReceiveSays}
+use Rattle.site.specs.Calls.{observation, observe_refusal, ObserveSays, receive_refusal}
 
 -- ---- An arrival
 
@@ -102,17 +100,4 @@ module _
       record {
         ready = step_ready settings numbers memory parts.first_accepted;
         value_known = due.value_known;
-      }
-
-  pub receive_accepted : (answer : Replied)
-      → no_refusal ≡ receive_refusal settings numbers which m memory
-      → ReceiveStepSays settings numbers m memory answer
-      → SiteReceiveSays settings numbers which m memory (site_reply numbers (Ok answer))
-  receive_accepted answer none says =
-      let test = eq-eqb (receive_refusal settings numbers which m memory) 0 (sym none) in
-      record {
-        refusal = none;
-        site = rw test says.site;
-        count = rw test says.count;
-        reply = rw test says.reply;
       }

@@ -19,8 +19,7 @@ use Rattle.model.specs.Network.{Network}
 use Rattle.model.specs.NetworkMemory.{sites_words}
 use Rattle.model.specs.Held.{held_consistent}
 use Rattle.model.proofs.Soundness.ConsistentNetwork.{SitesRead, bench_consistent_of}
-use Rattle.snapshot_file.specs.declared.Saved.{Saved}
-use Rattle.snapshot_file.specs.declared.Loaded.{Loaded}
+use Rattle.snapshot_file.specs.Answers.{LoadAnswer, SaveAnswer}
 use Rattle.snapshot_file.specs.Layout.{file_length}
 use Rattle.snapshot_file.specs.File.{save_refusal}
 use Rattle.snapshot_file.specs.Calls.{SaveSays, LoadSays}
@@ -94,9 +93,9 @@ module _ {settings : Settings} (passes : settings_refusal settings ≡ no_refusa
 
   -- ---- The claim
 
-  -- Saved from fronts of both memories, and read into others.
-  module _ (site_count coordinator_count : ℕ) (bytes written : List ℕ) (saved : Saved)
-      (site_memory coordinator_memory site_after coordinator_after : List ℕ) (loaded : Loaded)
+  -- SaveAnswer from fronts of both memories, and read into others.
+  module _ (site_count coordinator_count : ℕ) (bytes written : List ℕ) (saved : SaveAnswer)
+      (site_memory coordinator_memory site_after coordinator_after : List ℕ) (loaded : LoadAnswer)
       (save_says : SaveSays settings
       (lending state.held (fronts site_count coordinator_count)) bytes written saved)
       (save_accepted : saved.refusal ≡ no_refusal)

@@ -20,8 +20,7 @@ use Rattle.model.specs.Settings.{settings_refusal}
 use Rattle.model.specs.Draws.{is_draw, draws_of}
 use Rattle.model.specs.Runs.{Run, run_from, run_of}
 use Rattle.model.proofs.Runs.RunLaws.{run_from_append, run_from_draws}
-use Rattle.site_steps.specs.declared.Observed.{Observed}
-use Rattle.site.specs.Calls.{ObserveSays}
+use Rattle.site.specs.Calls.{Observation, ObserveSays}
 use Rattle.tracker.specs.Batch.{BatchHeld, BatchSays}
 use Rattle.history.specs.State.{Held, State, record_at, part_of, site_start, Slices, fronts, lending}
 use Rattle.history.specs.Steps.{batch_call, batch, single, to_coordinator_lem, to_site, next_announcement, Refuses, arrival_left, site_message_refused, coordinator_message_refused, announcement_refused, batch_takes_none, Step, arrives, delivers, refuses}
@@ -91,7 +90,7 @@ module _ {settings : Settings} (passes : settings_refusal settings ≡ no_refusa
 
   -- A refused draw, if it is one of the list.
   refused_draw_given : (given : Settings) (which : ℕ) (arrival : Arrival) (start words : ℕ)
-      (part : List ℕ) (answer : Observed)
+      (part : List ℕ) (answer : Observation)
       → ObserveSays given (record_at held which) arrival (part_of held start words) part answer
       → own_draw settings given which arrival start ≡ true
       → of_arrival answer.refusal ≡ true
@@ -115,7 +114,7 @@ module _ {settings : Settings} (passes : settings_refusal settings ≡ no_refusa
 
   -- The same, or a touch.
   draw_given : (given : Settings) (which : ℕ) (arrival : Arrival) (start words : ℕ)
-      (part : List ℕ) (answer : Observed)
+      (part : List ℕ) (answer : Observation)
       → ObserveSays given (record_at held which) arrival (part_of held start words) part answer
       → (answer.refusal ≡ no_refusal → is_draw arrival ≡ false)
       → own_draw settings given which arrival start ≡ true

@@ -27,8 +27,7 @@ use Rattle.model.specs.Network.{Network}
 use Rattle.model.specs.Runs.{Run, run_of}
 use Rattle.model.specs.Claims.{counted, count_of, contains, Tracks, ListLaw, ListSize, BeforeDraws}
 use Rattle.model.proofs.Runs.Theorem.{demands_over_runs}
-use Rattle.coordinator_list.specs.declared.Listed.{Listed}
-use Rattle.coordinator_list.specs.Promises.{ListSays, list_refusal}
+use Rattle.coordinator_list.specs.Promises.{ListAnswer, ListSays, list_refusal}
 use Rattle.history.specs.State.{State, network_of, coordinator_part}
 use Rattle.history.proofs.Invariant.{StateOk, Resting}
 use Rattle.history.proofs.Accepted.{coordinator_front}
@@ -80,7 +79,7 @@ module _ {settings : Settings} (passes : settings_refusal settings ≡ no_refusa
 
   -- ---- The list
 
-  module _ (words : ℕ) (before after : List ℕ) (answer : Listed)
+  module _ (words : ℕ) (before after : List ℕ) (answer : ListAnswer)
       (enough : coordinator_words settings ≤ words)
       (says : ListSays settings state.held.coordinator (coordinator_part state.held 0 words)
       before after answer) where

@@ -9,8 +9,7 @@ use Prim.Native.Nat.{ℕ}
 use Rattle.model.specs.declared.Settings.{Settings}
 use Rattle.model.specs.declared.Arrival.{Arrival}
 use Rattle.model.specs.Draws.{is_draw}
-use Rattle.site_steps.specs.declared.Observed.{Observed}
-use Rattle.site.specs.Calls.{ObserveSays}
+use Rattle.site.specs.Calls.{Observation, ObserveSays}
 use Rattle.history.specs.State.{State, record_at, site_start, site_part}
 use Rattle.history.specs.Steps.{after_single, arrival_left}
 use Rattle.history.specs.Frame.{OthersKept}
@@ -18,7 +17,7 @@ use Rattle.history.proofs.Refused.{refused_same}
 
 -- It leaves the other sites too as they were.
 pub others_left : (settings : Settings) (state : State) (arrival : Arrival) (words : ℕ)
-    (part : List ℕ) (answer : Observed)
+    (part : List ℕ) (answer : Observation)
     → ObserveSays settings (record_at state.held arrival.site) arrival
     (site_part settings state.held arrival.site words) part answer
     → is_draw arrival ≡ false

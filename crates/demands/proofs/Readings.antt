@@ -16,9 +16,7 @@ use Rattle.model.specs.Reading.{margin, quantile_of}
 use Rattle.model.specs.Runs.{Run, run_of}
 use Rattle.model.specs.Claims.{counted, below, above, QuantilePromise, FirmQuantile}
 use Rattle.model.proofs.Runs.Theorem.{demands_over_runs}
-use Rattle.coordinator_reading.specs.declared.Margin.{Margin}
-use Rattle.coordinator_reading.specs.declared.QuantileRead.{QuantileRead}
-use Rattle.coordinator_reading.specs.Promises.{MarginSays, QuantileSays}
+use Rattle.coordinator_reading.specs.Promises.{QuantileAnswer, MarginAnswer, MarginSays, QuantileSays}
 use Rattle.history.specs.State.{State, coordinator_part}
 use Rattle.history.proofs.Invariant.{StateOk, Resting}
 use Rattle.history.proofs.Answers.{accepted_choice}
@@ -37,7 +35,7 @@ module _ {settings : Settings} (passes : settings_refusal settings ≡ no_refusa
 
   -- ---- The margin
 
-  module _ (words item : ℕ) (answer : Margin)
+  module _ (words item : ℕ) (answer : MarginAnswer)
       (enough : coordinator_words settings ≤ words)
       (says : MarginSays settings state.held.coordinator item
       (coordinator_part state.held 0 words) answer) where
@@ -64,7 +62,7 @@ module _ {settings : Settings} (passes : settings_refusal settings ≡ no_refusa
 
   -- ---- The quantile
 
-  module _ (words : ℕ) (answer : QuantileRead)
+  module _ (words : ℕ) (answer : QuantileAnswer)
       (enough : coordinator_words settings ≤ words)
       (says : QuantileSays settings state.held.coordinator
       (coordinator_part state.held 0 words) answer) where

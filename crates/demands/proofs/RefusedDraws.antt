@@ -29,7 +29,7 @@ use Rattle.model.proofs.Runs.RunLaws.{run_from_draws}
 use Rattle.model.proofs.Touches.DrawLaws.{line_known, touch_left, refused_left}
 use Rattle.model.proofs.Touches.DrawLists.{draws_of_draw, draws_of_touch}
 use Rattle.model.proofs.Soundness.ConsistentNetwork.{passes_of}
-use Rattle.site_steps.specs.declared.Observed.{Observed}
+use Rattle.site.specs.Calls.{Observation}
 use Rattle.site.specs.Calls as SiteCalls
 use Rattle.tracker.specs.Batch.{BatchCall, BatchHeld, BatchSays, start_refusal, batch_in, log_room}
 use Rattle.history.specs.State.{Held, State, AtRest, network_of, record_at, site_start, site_part, fronts, lending}
@@ -80,7 +80,7 @@ module _ {settings : Settings} (passes : settings_refusal settings ≡ no_refusa
   touch_no_trace arrival no_draw =
       no_trace arrival (touch_left arrival _ no_draw)
 
-  module _ (which : ℕ) (arrival : Arrival) (words : ℕ) (part : List ℕ) (answer : Observed)
+  module _ (which : ℕ) (arrival : Arrival) (words : ℕ) (part : List ℕ) (answer : Observation)
       (known : which < settings.sites)
       (own : (eqb which arrival.site || leb settings.sites arrival.site) ≡ true)
       (says : SiteCalls.ObserveSays settings (record_at held which) arrival

@@ -9,8 +9,7 @@ use Rattle.model.specs.declared.Settings.{Settings}
 use Rattle.model.specs.Refusals.{no_refusal}
 use Rattle.model.specs.CoordinatorMemory.{coordinator_words}
 use Rattle.model.specs.NetworkMemory.{sites_words}
-use Rattle.snapshot_file.specs.declared.Saved.{Saved}
-use Rattle.snapshot_file.specs.declared.Loaded.{Loaded}
+use Rattle.snapshot_file.specs.Answers.{LoadAnswer, SaveAnswer}
 use Rattle.snapshot_file.specs.Layout.{file_length}
 use Rattle.snapshot_file.specs.File.{file_of, save_refusal}
 use Rattle.snapshot_file.specs.Reading.{load_refusal}
@@ -22,7 +21,7 @@ pub record Again
     (settings : Settings)
     (held : Held)
     (site_memory coordinator_memory site_after coordinator_after : List ℕ)
-    (loaded : Loaded) : Type 0 where
+    (loaded : LoadAnswer) : Type 0 where
   pub settings_are : loaded.settings ≡ settings
   -- both records, those of sites k to 31 too, and the network's own numbers of both memories; what
   -- lies behind these is untouched
@@ -48,8 +47,8 @@ pub record Closing (settings : Settings) (state : State) : Type 0 where
       site_room coordinator_room
       ≡ no_refusal
   -- whatever the two calls answer and leave, if they accept and keep their promise
-  pub goes_on : (site_count coordinator_count : ℕ) (bytes written : List ℕ) (saved : Saved)
-      (site_memory coordinator_memory site_after coordinator_after : List ℕ) (loaded : Loaded)
+  pub goes_on : (site_count coordinator_count : ℕ) (bytes written : List ℕ) (saved : SaveAnswer)
+      (site_memory coordinator_memory site_after coordinator_after : List ℕ) (loaded : LoadAnswer)
       → SaveSays settings (lending state.held (fronts site_count coordinator_count)) bytes
       written saved
       → saved.refusal ≡ no_refusal

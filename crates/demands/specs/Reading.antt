@@ -17,11 +17,8 @@ use Rattle.model.specs.Limits.{top_value, least_drawn}
 use Rattle.model.specs.Reading.{needed_side, heavy_hitters, most_listed, margin, quantile_of}
 use Rattle.model.specs.Runs.{run_of}
 use Rattle.model.specs.Claims.{counted, count_of, below, above, contains}
-use Rattle.coordinator_reading.specs.declared.Margin.{Margin}
-use Rattle.coordinator_reading.specs.declared.QuantileRead.{QuantileRead}
-use Rattle.coordinator_reading.specs.Promises.{MarginSays, QuantileSays}
-use Rattle.coordinator_list.specs.declared.Listed.{Listed}
-use Rattle.coordinator_list.specs.Promises.{ListSays}
+use Rattle.coordinator_reading.specs.Promises.{QuantileAnswer, MarginAnswer, MarginSays, QuantileSays}
+use Rattle.coordinator_list.specs.Promises.{ListAnswer, ListSays}
 use Rattle.history.specs.State.{State, coordinator_part}
 
 -- The coordinator that document 01's rules give for the arrivals accepted so far.
@@ -31,7 +28,7 @@ rules_coordinator settings state = (run_of settings state.accepted).network.coor
 -- ---- The list
 
 -- The items that a list call hands back: the first of the lent list, as many as it answers.
-abbrev pub listed_in : Listed → List ℕ → List ℕ
+abbrev pub listed_in : ListAnswer → List ℕ → List ℕ
 listed_in answer after = take answer.count after
 
 -- Request N10: "6000 × its draws ≥ (6p - 5e) × all draws". The leeway stands on the side of the
@@ -42,7 +39,7 @@ FirmShare settings item arrivals =
     ≤ 6000 * count_of item arrivals + 5 * settings.epsilon * counted arrivals
 
 -- The list call, with a list of so many places before and after it.
-pub record ListRight (settings : Settings) (state : State) (before after : List ℕ) (answer : Listed)
+pub record ListRight (settings : Settings) (state : State) (before after : List ℕ) (answer : ListAnswer)
     : Type 0 where
   -- with places enough it is accepted, and otherwise refused by 12
   pub enough_places : length (heavy_hitters settings (rules_coordinator settings state))
@@ -98,7 +95,7 @@ pub record ListRight (settings : Settings) (state : State) (before after : List 
 -- ---- The margin
 
 -- The margin of an item, or 6.
-pub record MarginRight (settings : Settings) (state : State) (item : ℕ) (answer : Margin)
+pub record MarginRight (settings : Settings) (state : State) (item : ℕ) (answer : MarginAnswer)
     : Type 0 where
   pub item_known : item < settings.universe
       → answer.refusal ≡ no_refusal
@@ -115,7 +112,7 @@ pub record MarginRight (settings : Settings) (state : State) (item : ℕ) (answe
 -- ---- The quantile
 
 -- The quantile, which is never refused, and "within e".
-pub record QuantileRight (settings : Settings) (state : State) (answer : QuantileRead)
+pub record QuantileRight (settings : Settings) (state : State) (answer : QuantileAnswer)
     : Type 0 where
   pub never_refused : answer.refusal ≡ no_refusal
   pub quantile_is : answer.quantile ≡ quantile_of settings (rules_coordinator settings state)
@@ -167,17 +164,17 @@ pub record QuantileRight (settings : Settings) (state : State) (answer : Quantil
 -- Whatever the calls answer, if they keep their contracts. They are lent the first so many numbers
 -- of the coordinator's memory: as many as its own, or more.
 pub record ReadsRight (settings : Settings) (state : State) : Type 0 where
-  pub list : (words : ℕ) (before after : List ℕ) (answer : Listed)
+  pub list : (words : ℕ) (before after : List ℕ) (answer : ListAnswer)
       → coordinator_words settings ≤ words
       → ListSays settings state.held.coordinator (coordinator_part state.held 0 words) before
       after answer
       → ListRight settings state before after answer
-  pub margins : (words item : ℕ) (answer : Margin)
+  pub margins : (words item : ℕ) (answer : MarginAnswer)
       → coordinator_words settings ≤ words
       → MarginSays settings state.held.coordinator item
       (coordinator_part state.held 0 words) answer
       → MarginRight settings state item answer
-  pub quantile : (words : ℕ) (answer : QuantileRead)
+  pub quantile : (words : ℕ) (answer : QuantileAnswer)
       → coordinator_words settings ≤ words
       → QuantileSays settings state.held.coordinator (coordinator_part state.held 0 words)
       answer

@@ -11,8 +11,7 @@ use Rattle.model.specs.Refusals.{no_refusal}
 use Rattle.model.specs.Reading.{heavy_hitters}
 use Rattle.model.specs.Runs.{Run, run_of}
 use Rattle.model.specs.Claims.{contains, Tracks, Estimates}
-use Rattle.site_steps.specs.declared.Observed.{Observed}
-use Rattle.site.specs.Calls.{ObserveSays}
+use Rattle.site.specs.Calls.{Observation, ObserveSays}
 use Rattle.history.specs.State.{State, AtRest, network_of, record_at, site_part}
 use Rattle.history.specs.Frame.{TailsKept, OthersKept}
 use Rattle.history.specs.Steps.{after_single, Step}
@@ -64,7 +63,7 @@ pub record Second (settings : Settings) (state : State) : Type 0 where
       → Step settings state after
       → TailsKept settings state.held after.held
   -- a single arrival leaves the coordinator and all other sites as they were
-  pub others_kept : (arrival : Arrival) (words : ℕ) (part : List ℕ) (answer : Observed)
+  pub others_kept : (arrival : Arrival) (words : ℕ) (part : List ℕ) (answer : Observation)
       → AtRest state
       → ObserveSays settings (record_at state.held arrival.site) arrival
       (site_part settings state.held arrival.site words) part answer

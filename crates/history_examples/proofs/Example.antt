@@ -20,7 +20,7 @@ use Rattle.model.specs.Messages.{no_message, item_report, count_report, poll, po
 use Rattle.model.specs.NetworkMemory.{fresh_sites}
 use Rattle.model.specs.Instances.{settings_a, arrival_with, draw}
 use Rattle.model.specs.TouchInstances.{touch}
-use Rattle.site_steps.specs.declared.Observed.{Observed}
+use Rattle.site.specs.Calls.{Observation}
 use Rattle.tracker.specs.Batch.{message_numbers}
 use Rattle.history.specs.Steps.{Arrives, batch, single, Delivers, to_coordinator_lem, to_site, next_announcement, Refuses, arrival_left, coordinator_message_refused, batch_takes_none}
 use Rattle.history.specs.Histories.{Reachable, started}
@@ -32,7 +32,7 @@ pub refused_number : (n : ℕ) → suc n ≡ 0 → ⊥
 refused_number n impossible = omega arith
 
 -- What a draw is answered that is refused, after so many accepted ones.
-abbrev pub draw_answer : ℕ → ℕ → Observed
+abbrev pub draw_answer : ℕ → ℕ → Observation
 draw_answer refusal draws = record {
   refusal = refusal;
   site = site_after draws;

@@ -16,8 +16,7 @@ use Rattle.model.specs.Messages.{item_report, count_report, poll, poll_answer, p
 use Rattle.model.specs.Reading.{heavy_hitters}
 use Rattle.model.specs.Claims.{counted, count_of}
 use Rattle.model.specs.Instances.{settings_a, arrival_with, coordinator_after}
-use Rattle.coordinator_list.specs.declared.Listed.{Listed}
-use Rattle.coordinator_list.specs.Promises.{ListSays}
+use Rattle.coordinator_list.specs.Promises.{ListAnswer, ListSays}
 use Rattle.history.specs.State.{State, coordinator_part}
 use Rattle.history.specs.Histories.{Reachable}
 use Rattle.history_examples.specs.OneBatch.{batched_state}
@@ -86,7 +85,7 @@ three_before = 8 ∷ (8 ∷ (8 ∷ []))
 abbrev pub three_after : List ℕ
 three_after = 0 ∷ (1 ∷ (8 ∷ []))
 
-abbrev pub answer_of_two : Listed
+abbrev pub answer_of_two : ListAnswer
 answer_of_two = record { refusal = 0; count = 2 }
 
 -- ---- Forty-four draws that use the leeway

@@ -6,7 +6,7 @@ use mathlib.Core.Path.{subst}
 use mathlib.Core.List.{List}
 use Rattle.model.specs.declared.Arrival.{Arrival}
 use Rattle.library_rows.specs.Rows.{Row}
-use Rattle.tracker_steps.specs.declared.BatchAnswer.{BatchAnswer}
+use Rattle.tracker_steps.specs.Steps.{BatchOutcome}
 use Rattle.tracker.specs.Batch.{batch_held, BatchSays}
 use Rattle.library_batch.specs.declared.Opening.{Opening}
 use Rattle.library_batch.specs.Batch.{OpenRowsSays, CloseRowsSays, call_of, RunExported}
@@ -17,7 +17,7 @@ change first last = record { before = first; after = last }
 
 pub run_exported : (settings decks desk : Row) (draws : List Arrival)
     (deck_memory desk_memory log counts : Row)
-    (decks' desk' : List ℕ) (opening : Opening) (done : BatchAnswer) (answer : ℕ)
+    (decks' desk' : List ℕ) (opening : Opening) (done : BatchOutcome) (answer : ℕ)
     → OpenRowsSays settings.before (change decks.before decks')
     (change desk.before desk') opening
     → BatchSays

@@ -14,7 +14,7 @@ use Rattle.model.specs.Choice.{is_zero}
 use Rattle.model.specs.Held.{held_by}
 use Rattle.record_numbers.specs.Numbers.{settings_from, sites_from, sites_numbers, coordinator_read, coordinator_numbers}
 use Rattle.library_rows.specs.Rows.{Row}
-use Rattle.tracker_steps.specs.declared.BatchAnswer.{BatchAnswer}
+use Rattle.tracker_steps.specs.Steps.{BatchOutcome}
 use Rattle.tracker.specs.Batch.{BatchCall, batch_held, BatchSays}
 use Rattle.library_batch.specs.declared.Opening.{Opening}
 
@@ -43,11 +43,11 @@ abbrev pub row_after : ℕ → List ℕ → List ℕ → List ℕ
 row_after accepted numbers row = if is_zero accepted then row else numbers
 
 -- How many draws were accepted, and how many messages were written.
-abbrev pub counts_numbers : BatchAnswer → List ℕ
+abbrev pub counts_numbers : BatchOutcome → List ℕ
 counts_numbers done = done.accepted ∷ (done.written ∷ [])
 
 -- "`counts` is always written" (tracker.h).
-pub record CloseRowsSays (done : BatchAnswer) (decks desk counts : Row) (answer : ℕ)
+pub record CloseRowsSays (done : BatchOutcome) (decks desk counts : Row) (answer : ℕ)
     : Type 0 where
   pub refusal : answer ≡ done.refusal
   pub decks_are : decks.after
@@ -71,7 +71,7 @@ call_of opening draws deck_memory desk_memory log = record {
 -- draws, and both memories and the log before and after. It is handed back.
 pub record RunExported (settings decks desk : Row) (draws : List Arrival)
     (deck_memory desk_memory log counts : Row) (answer : ℕ) : Type 0 where
-  pub done : BatchAnswer
+  pub done : BatchOutcome
   pub says : BatchSays
       (call_of (opening_of settings.before decks.before desk.before) draws
       deck_memory.before desk_memory.before log.before)

@@ -1,13 +1,15 @@
 // `tracker_run` of tracker.h: the batch call on records that cross as rows of numbers. Before the
 // tracker's call the records are made from their rows, and after it they are written back.
+// As it is: the call answers with the number of its refusal, or 0, since the C interface needs it.
 
 #![tactic(auto)]
 
 ghost use Rattle.library_rows.specs.Rows.{lent};
+ghost use Rattle.tracker_steps.specs.Steps.{batch_outcome};
 ghost use Rattle.library_batch.specs.Batch.{OpenRowsSays, CloseRowsSays, RunExported};
 
 use coordinator_numbers::{COORDINATOR_NUMBERS, coordinator_from, coordinator_row};
-use model::{Arrival, CoordinatorRecord, Settings, Sites, Word};
+use model::{Arrival, CoordinatorRecord, NO_REFUSAL, Settings, Sites, Word};
 use record_numbers::{SETTINGS_NUMBERS, settings_from};
 use site_numbers::{SITES_NUMBERS, sites_from, sites_row};
 use tracker_steps::BatchAnswer;
@@ -26,11 +28,11 @@ pub struct Opening {
 // The records of the rows, which are only read.
 fn open_rows(
     settings: &[u32; SETTINGS_NUMBERS],
-    sites: &mut [u64; SITES_NUMBERS],
-    coordinator: &mut [u64; COORDINATOR_NUMBERS],
+    sites: &[u64; SITES_NUMBERS],
+    coordinator: &[u64; COORDINATOR_NUMBERS],
 ) -> Opening
-    ensures { OpenRowsSays settings.now (lent sites.old sites.new)
-        (lent coordinator.old coordinator.new) result }
+    ensures { OpenRowsSays settings.now (lent sites.now sites.now)
+        (lent coordinator.now coordinator.now) result }
 {
     Opening {
         settings: settings_from(settings),
@@ -47,17 +49,18 @@ fn close_rows(
     coordinator: &mut [u64; COORDINATOR_NUMBERS],
     counts: &mut [u64; COUNTS_NUMBERS],
 ) -> u32
-    ensures { CloseRowsSays done (lent sites.old sites.new) (lent coordinator.old coordinator.new)
+    ensures { CloseRowsSays (batch_outcome done) (lent sites.old sites.new) (lent coordinator.old coordinator.new)
         (lent counts.old counts.new) result }
 {
     *counts = [done.accepted, done.written];
     if 0 < done.accepted {
-        let records = done.sites;
-        let next = done.coordinator;
-        *sites = sites_row(records);
-        *coordinator = coordinator_row(next);
+        *sites = sites_row(done.sites);
+        *coordinator = coordinator_row(done.coordinator);
     }
-    done.refusal
+    match done.refusal {
+        Some(refusal) => refusal.number(),
+        None => NO_REFUSAL,
+    }
 }
 
 // `tracker::run_batch`, with the records made from their rows before it and written back after it.

@@ -1,5 +1,6 @@
 -- The three calls in a row: the rows are read, the tracker's call is made, and what it answers is
 -- handed back.
+use Rattle.tracker_steps.specs.Steps.{batch_outcome}
 use Rattle.library_batch.proofs.Batching.{run_exported}
 use Rattle.library_batch.proofs.tracker_run.Goals as goal
 
@@ -8,5 +9,5 @@ returns c =
     let opens = c.open_rows-opening in
     let runs = c.run_batch-done in
     let closes = c.close_rows in
-    run_exported _ _ _ c.args.draws.now _ _ _ _ opens.new.sites opens.new.coordinator
-    opens.result runs.result closes.result opens.ensures runs.ensures closes.ensures
+    run_exported _ _ _ c.args.draws.now _ _ _ _ c.args.decks.now c.args.desk.now
+    opens.result (batch_outcome runs.result) closes.result opens.ensures runs.ensures closes.ensures

@@ -24,10 +24,9 @@ use Rattle.model.specs.NetworkMemory.{sites_words}
 use Rattle.model.proofs.Thresholds.RefusalLaws.{both_accepted}
 use Rattle.model.proofs.Thresholds.TestedMemory.{length_tested}
 use Rattle.coordinator_kinds.proofs.MemoryLaws.{estimates_long, histogram_long}
-use Rattle.site_start.specs.declared.StartedSites.{StartedSites}
+use Rattle.site_start.specs.Starts.{SitesStart}
 use Rattle.site_start.specs.Starts as SiteStarts
-use Rattle.coordinator.specs.declared.StartedCoordinator.{StartedCoordinator}
-use Rattle.coordinator.specs.declared.Received.{Received}
+use Rattle.coordinator.specs.Calls.{Reception, CoordinatorStart}
 use Rattle.coordinator.specs.Calls as CoordinatorCalls
 use Rattle.history.specs.State.{with_part}
 use Rattle.history.proofs.Answers.{accepted_choice}
@@ -56,7 +55,7 @@ started_same settings words n memory long =
     ∙ sym (le-ltb (length memory) words (whole_long words n memory long)) in
     λ i. settings_refusal settings or_else when (short i) memory_too_short or_else no_refusal
 
-module _ (settings : Settings) (n : ℕ) (memory part : List ℕ) (answer : StartedSites)
+module _ (settings : Settings) (n : ℕ) (memory part : List ℕ) (answer : SitesStart)
     (says : SiteStarts.StartSitesSays settings (take n memory) part answer)
     (accepts : answer.refusal ≡ no_refusal) where
   -- The contract of the whole memory lent.
@@ -80,7 +79,7 @@ module _ (settings : Settings) (n : ℕ) (memory part : List ℕ) (answer : Star
             ∙ sym (accepted_choice _ _ _ (sym same ∙ none));
       }
 
-module _ (settings : Settings) (n : ℕ) (memory part : List ℕ) (answer : StartedCoordinator)
+module _ (settings : Settings) (n : ℕ) (memory part : List ℕ) (answer : CoordinatorStart)
     (says : CoordinatorCalls.StartCoordinatorSays settings (take n memory) part answer)
     (accepts : answer.refusal ≡ no_refusal) where
   -- The contract of the whole memory lent.
@@ -116,7 +115,7 @@ module _ (settings : Settings) (n : ℕ) (memory part : List ℕ) (answer : Star
 
 -- What is handed back, of equal refusals and equal steps.
 hands_same : {one two : ℕ} {given done : CoordinatorStep} {numbers : CoordinatorRecord}
-    {answer : Received}
+    {answer : Reception}
     → one ≡ two
     → given ≡ done
     → CoordinatorCalls.ReceivedSays (is_zero one) given numbers answer
@@ -129,7 +128,7 @@ hands_same {one} {two} {given} {done} {numbers} {answer} refusals steps hands =
     refusals hands)
 
 module _ (settings : Settings) (numbers : CoordinatorRecord) (m : Message) (n : ℕ)
-    (memory part : List ℕ) (answer : Received)
+    (memory part : List ℕ) (answer : Reception)
     (says : CoordinatorCalls.CoordinatorReceiveSays settings numbers m (take n memory) part answer)
     (accepts : answer.refusal ≡ no_refusal) where
   none : CoordinatorCalls.receive_refusal settings numbers m (take n memory) ≡ no_refusal
@@ -193,7 +192,7 @@ module _ (settings : Settings) (numbers : CoordinatorRecord) (m : Message) (n : 
 -- ---- The next kind 7 on a front
 
 module _ (settings : Settings) (numbers : CoordinatorRecord) (n : ℕ) (memory : List ℕ)
-    (answer : Received)
+    (answer : Reception)
     (says : CoordinatorCalls.AnnounceSays settings numbers (take n memory) answer)
     (accepts : answer.refusal ≡ no_refusal) where
   -- The contract of the whole memory lent.

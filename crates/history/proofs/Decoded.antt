@@ -21,7 +21,7 @@ use Rattle.model.specs.Limits.{most_sites}
 use Rattle.model.specs.Settings.{settings_refusal}
 use Rattle.model.specs.Site.{Site, site_receives}
 use Rattle.model.specs.SiteMemory.{site_words, site_in, site_record, site_memory, site_memory_refusal}
-use Rattle.model.specs.CoordinatorMemory.{coordinator_words, coordinator_in, coordinator_memory}
+use Rattle.model.specs.CoordinatorMemory.{coordinator_words, coordinator_in}
 use Rattle.model.specs.Network.{site_at, with_site}
 use Rattle.model.specs.NetworkMemory.{sites_words, sites_in}
 use Rattle.model.specs.SoundNetwork.{SoundSite, DroppedWithin}

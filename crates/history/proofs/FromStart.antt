@@ -8,7 +8,7 @@
 use mathlib.Core.Path.{◌≡◌, sym, ap, ◌∙◌, subst}
 use mathlib.Core.Bool.{true}
 use mathlib.Core.List.{List, ◌++◌}
-use Prim.Native.Nat.{ℕ, ◌+◌, ◌*◌, ◌≤◌}
+use Prim.Native.Nat.{ℕ, ◌*◌, ◌≤◌}
 use native.Mathlib.Omega.{arith}
 use lib.ListN.{length, take, drop}
 use Rattle.model.specs.declared.Settings.{Settings}
@@ -30,8 +30,7 @@ use Rattle.model.proofs.Soundness.NeverFewer.{counters_kept, values_kept, NoFewe
 use Rattle.site_memory.proofs.SitesMemoryLaws.{all_storable, sites_memory_set, sites_memory_kept}
 use Rattle.site_memory.proofs.SitesReading.{sites_memory_sites_in}
 use Rattle.site_memory.proofs.SitesFronts.{sites_memory_again}
-use Rattle.site_steps.specs.declared.Observed.{Observed}
-use Rattle.site.specs.Calls.{ObserveSays}
+use Rattle.site.specs.Calls.{Observation, ObserveSays}
 use Rattle.tracker.specs.Batch.{BatchHeld, BatchSays, batch_in}
 use Rattle.history.specs.State.{Held, State, AtRest, network_of, network_written, record_at, site_start, site_part, after_site_call, no_record}
 use Rattle.history.specs.Steps.{batch_call, after_batch, after_single, batch, single, Delivers, to_coordinator_lem, to_site, next_announcement, Step, arrives, delivers, refuses}
@@ -138,7 +137,7 @@ module _ {settings : Settings} (passes : settings_refusal settings ≡ no_refusa
   Over then = WrittenOver settings start.site_memory then
 
   module _ (rest : SoundRest settings state)
-      (arrival : Arrival) (words : ℕ) (part : List ℕ) (answer : Observed)
+      (arrival : Arrival) (words : ℕ) (part : List ℕ) (answer : Observation)
       (says : ObserveSays settings (record_at held arrival.site) arrival
       (site_part settings held arrival.site words) part answer)
       (is_draw_lem : is_draw arrival ≡ true)

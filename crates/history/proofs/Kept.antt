@@ -25,8 +25,7 @@ use Rattle.model.specs.Network.{Network}
 use Rattle.model.specs.NetworkMemory.{sites_words, site_records, sites_memory}
 use Rattle.model.specs.SoundNetwork.{Sound}
 use Rattle.site_memory.proofs.SitesMemoryLaws.{all_storable}
-use Rattle.site_steps.specs.declared.Observed.{Observed}
-use Rattle.site.specs.Calls.{ObserveSays}
+use Rattle.site.specs.Calls.{Observation, ObserveSays}
 use Rattle.tracker.specs.Batch.{BatchHeld, BatchSays, batch_in}
 use Rattle.history.specs.State.{Held, State, AtRest, network_of, network_written, record_at, site_start, site_part, with_part, no_record}
 use Rattle.history.specs.Steps.{batch_call, after_batch, after_single, batch, single, Delivers, to_coordinator_lem, to_site, next_announcement, Step, arrives, delivers, refuses}
@@ -91,7 +90,7 @@ module _ {settings : Settings} (passes : settings_refusal settings ≡ no_refusa
     -- ---- A single arrival
 
     module _ (rest : SoundRest settings state)
-        (arrival : Arrival) (words : ℕ) (part : List ℕ) (answer : Observed)
+        (arrival : Arrival) (words : ℕ) (part : List ℕ) (answer : Observation)
         (says : ObserveSays settings (record_at state.held arrival.site) arrival
         (site_part settings state.held arrival.site words) part answer)
         (is_draw_lem : is_draw arrival ≡ true)

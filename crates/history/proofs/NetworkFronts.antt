@@ -9,7 +9,7 @@ use Rattle.model.specs.Refusals.{no_refusal}
 use Rattle.model.specs.Settings.{settings_refusal}
 use Rattle.model.specs.CoordinatorMemory.{coordinator_words}
 use Rattle.model.specs.NetworkMemory.{sites_words, sites_in}
-use Rattle.history.specs.State.{Held, network_of, fronts, lending, held_refusal, no_record}
+use Rattle.history.specs.State.{Held, network_of, fronts, lending, no_record}
 use Rattle.history.proofs.CoordinatorFronts.{coordinator_in_front}
 use Rattle.site_memory.proofs.SitesFronts.{sites_in_front}
 use Rattle.history.proofs.Decoded.{Lengths, SitesSound, used_at}

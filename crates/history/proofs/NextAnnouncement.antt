@@ -15,11 +15,11 @@ use Rattle.model.specs.declared.CoordinatorRecord.{CoordinatorRecord}
 use Rattle.model.specs.Refusals.{no_refusal, message_not_due}
 use Rattle.model.specs.Messages.{no_message}
 use Rattle.model.specs.Coordinator.{CoordinatorStep, announced, is_announcing}
-use Rattle.model.specs.CoordinatorMemory.{coordinator_record, coordinator_memory, coordinator_memory_refusal}
+use Rattle.model.specs.CoordinatorMemory.{coordinator_record, coordinator_memory_refusal}
 use Rattle.model.specs.Network.{Network, ask_announcement}
 use Rattle.mid_delivery.specs.SoundClaims.{asked}
 use Rattle.model.proofs.Thresholds.RefusalLaws.{both_accepted}
-use Rattle.coordinator.specs.declared.Received.{Received}
+use Rattle.coordinator.specs.Calls.{Reception}
 use Rattle.coordinator.specs.Calls as CoordinatorCalls
 use Rattle.history.specs.State.{Held, State, network_of, after_coordinator_call, sending}
 use Rattle.history.specs.Steps.{received_out}
@@ -36,7 +36,7 @@ module _ (settings : Settings) (before : State) where
   abbrev network : Network
   network = network_of settings held
 
-  module _ (answer : Received)
+  module _ (answer : Reception)
       (says : CoordinatorCalls.AnnounceSays settings held.coordinator held.coordinator_memory
       answer)
       (accepts : answer.refusal ≡ no_refusal) where

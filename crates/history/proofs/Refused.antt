@@ -7,7 +7,7 @@
 use mathlib.Core.Path.{◌≡◌, refl, sym, ap, ◌∙◌}
 use mathlib.Core.Bool.{false}
 use mathlib.Core.List.{List, ◌++◌}
-use Prim.Native.Nat.{ℕ, ◌+◌}
+use Prim.Native.Nat.{ℕ}
 use lib.ListN.{set, take, drop, take-append-drop}
 use lib.Seq.{set-get_or, drop-drop}
 use Rattle.model.specs.declared.SiteRecord.{SiteRecord}

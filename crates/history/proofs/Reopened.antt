@@ -23,8 +23,7 @@ use Rattle.model.specs.SiteMemory.{site_record, overwrite}
 use Rattle.model.specs.CoordinatorMemory.{coordinator_words}
 use Rattle.model.specs.NetworkMemory.{sites_words}
 use Rattle.model.proofs.Thresholds.SettingsLaws.{settled}
-use Rattle.snapshot_file.specs.declared.Saved.{Saved}
-use Rattle.snapshot_file.specs.declared.Loaded.{Loaded}
+use Rattle.snapshot_file.specs.Answers.{LoadAnswer, SaveAnswer}
 use Rattle.snapshot_file.specs.Layout.{file_length}
 use Rattle.snapshot_file.specs.File.{file_of, save_refusal}
 use Rattle.snapshot_file.specs.Reading.{settings_in, held_in}
@@ -44,7 +43,7 @@ pub record ReadBack
     (settings : Settings)
     (held : Held)
     (site_before coordinator_before site_after coordinator_after : List ℕ)
-    (loaded : Loaded) : Type 0 where
+    (loaded : LoadAnswer) : Type 0 where
   pub settings_are : loaded.settings ≡ settings
   pub sites_are : loaded.sites ≡ (closed settings held).sites
   pub coordinator_is : loaded.coordinator ≡ held.coordinator
@@ -59,7 +58,7 @@ overwrite_is : (words : ℕ) (numbers memory : List ℕ)
 overwrite_is words numbers memory long =
     ap (λ (n : ℕ). take words numbers ++ drop n memory) (length-take-le words numbers long)
 
-module _ (settings : Settings) (held : Held) (bytes written : List ℕ) (saved : Saved)
+module _ (settings : Settings) (held : Held) (bytes written : List ℕ) (saved : SaveAnswer)
     (save_says : SaveSays settings held bytes written saved)
     (save_accepted : saved.refusal ≡ no_refusal) where
   none : save_refusal settings held (length bytes) ≡ no_refusal
@@ -93,7 +92,7 @@ module _ (settings : Settings) (held : Held) (bytes written : List ℕ) (saved :
         ∙ file_claims.saved_bench settings held (length bytes) none machine
 
     pub read_back : (site_memory coordinator_memory site_after coordinator_after : List ℕ)
-        (loaded : Loaded)
+        (loaded : LoadAnswer)
         → LoadSays (take saved.length written) site_memory coordinator_memory site_after
         coordinator_after loaded
         → loaded.refusal ≡ no_refusal
@@ -187,8 +186,8 @@ module _ {settings : Settings} (passes : settings_refusal settings ≡ no_refusa
       λ i. record { records = same i; messages = same_counts i }
 
   -- The law: saved from fronts of both memories, and read into others.
-  module _ (site_count coordinator_count : ℕ) (bytes written : List ℕ) (saved : Saved)
-      (site_memory coordinator_memory site_after coordinator_after : List ℕ) (loaded : Loaded)
+  module _ (site_count coordinator_count : ℕ) (bytes written : List ℕ) (saved : SaveAnswer)
+      (site_memory coordinator_memory site_after coordinator_after : List ℕ) (loaded : LoadAnswer)
       (save_says : SaveSays settings
       (lending state.held (fronts site_count coordinator_count)) bytes written saved)
       (save_accepted : saved.refusal ≡ no_refusal)

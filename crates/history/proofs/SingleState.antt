@@ -6,7 +6,7 @@
 use mathlib.Core.Path.{◌≡◌, refl, sym, ap, ◌∙◌, subst}
 use mathlib.Core.Bool.{true}
 use mathlib.Core.List.{List, [], ◌∷◌, ◌++◌}
-use Prim.Native.Nat.{ℕ, ◌+◌, ◌≤◌, ◌<◌}
+use Prim.Native.Nat.{ℕ, ◌≤◌, ◌<◌}
 use native.Mathlib.Omega.{arith}
 use lib.ListN.{length, get_or, take, drop, length-append}
 use Rattle.model.specs.declared.Settings.{Settings}
@@ -29,7 +29,7 @@ use Rattle.model.proofs.Thresholds.RefusalLaws.{BothAccepted, both_accepted}
 use Rattle.model.proofs.Thresholds.SettingsLaws.{settled}
 use Rattle.model.proofs.Soundness.SoundSites.{ArrivalTaken, taken_of_no_refusal, sound_observed}
 use Rattle.site_memory.proofs.OneSite.{Storable, storable}
-use Rattle.site_steps.specs.declared.Observed.{Observed}
+use Rattle.site.specs.Calls.{Observation}
 use Rattle.site.specs.Calls as SiteCalls
 use Rattle.history.specs.State.{Held, State, AtRest, network_of, record_at, site_start, site_part, with_part, after_site_call}
 use Rattle.history.specs.Steps.{observed_out, after_single}
@@ -44,7 +44,7 @@ use Rattle.history.proofs.Answers.{taken_choice, accepted_long, words_enough}
 
 module _ {settings : Settings} (passes : settings_refusal settings ≡ no_refusal)
     (before : State) (rest : SoundRest settings before)
-    (arrival : Arrival) (words : ℕ) (part : List ℕ) (answer : Observed)
+    (arrival : Arrival) (words : ℕ) (part : List ℕ) (answer : Observation)
     (says : SiteCalls.ObserveSays settings (record_at before.held arrival.site) arrival
     (site_part settings before.held arrival.site words) part answer)
     (is_draw_lem : is_draw arrival ≡ true)
@@ -200,7 +200,7 @@ module _ {settings : Settings} (passes : settings_refusal settings ≡ no_refusa
 -- The invariant when a delivery begins.
 pub single_ok : {settings : Settings} (passes : settings_refusal settings ≡ no_refusal)
     {n : ℕ} (before : State) (ok : StateOk settings n before) (at_rest : AtRest before)
-    (arrival : Arrival) (words : ℕ) (part : List ℕ) (answer : Observed)
+    (arrival : Arrival) (words : ℕ) (part : List ℕ) (answer : Observation)
     → SiteCalls.ObserveSays settings (record_at before.held arrival.site) arrival
     (site_part settings before.held arrival.site words) part answer
     → is_draw arrival ≡ true

@@ -22,9 +22,9 @@ use Rattle.model.proofs.Thresholds.TestedMemory.{length_tested}
 use Rattle.model.proofs.Thresholds.SettingsLaws.{Settled, settled}
 use Rattle.model.proofs.MessageCount.CountLaws.{names_none}
 use Rattle.coordinator_kinds.proofs.MemoryLaws.{written_coordinator}
-use Rattle.site_start.specs.declared.StartedSites.{StartedSites}
+use Rattle.site_start.specs.Starts.{SitesStart}
 use Rattle.site_start.specs.Starts as SiteStarts
-use Rattle.coordinator.specs.declared.StartedCoordinator.{StartedCoordinator}
+use Rattle.coordinator.specs.Calls.{CoordinatorStart}
 use Rattle.coordinator.specs.Calls as CoordinatorCalls
 use Rattle.history.specs.State.{State, network_of}
 use Rattle.history.specs.Histories.{start_state}
@@ -129,7 +129,7 @@ module _ (settings : Settings) (passes : settings_refusal settings ≡ no_refusa
 
 module _ (settings : Settings) (sitesBefore sites_after coordinatorBefore coordinator_after : List
     ℕ)
-    (sites : StartedSites) (coordinator : StartedCoordinator)
+    (sites : SitesStart) (coordinator : CoordinatorStart)
     (sites-say : SiteStarts.StartSitesSays settings sitesBefore sites_after sites)
     (sites_accepted : sites.refusal ≡ no_refusal)
     (coordinator-says : CoordinatorCalls.StartCoordinatorSays settings coordinatorBefore

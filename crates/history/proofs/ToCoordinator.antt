@@ -20,7 +20,7 @@ use Rattle.model.specs.Network.{Network, Delivered, hand_to_coordinator, hand_ov
 use Rattle.model.specs.SoundNetwork.{SoundCoordinator}
 use Rattle.model.specs.DeliveryClaims.{joining, delivery_of}
 use Rattle.mid_delivery.specs.SoundClaims.{Reached}
-use Rattle.coordinator.specs.declared.Received.{Received}
+use Rattle.coordinator.specs.Calls.{Reception}
 use Rattle.coordinator.specs.Calls as CoordinatorCalls
 use Rattle.history.specs.State.{Held, State, network_of, after_coordinator_call, sending}
 use Rattle.history.specs.Steps.{received_out}
@@ -44,7 +44,7 @@ module _ {settings : Settings} (passes : settings_refusal settings ≡ no_refusa
   After after = Underway settings origin arrival past (suc n) after
 
   module _ (m : Message) (later : List Message)
-      (memory : List ℕ) (answer : Received)
+      (memory : List ℕ) (answer : Reception)
       (waits : before.waiting ≡ m ∷ later)
       (way : to_coordinator m ≡ true)
       (says : CoordinatorCalls.CoordinatorReceiveSays settings held.coordinator m

@@ -22,7 +22,7 @@ use Rattle.model.specs.DeliveryClaims.{joining, delivery_of}
 use Rattle.mid_delivery.specs.SoundClaims.{Reached}
 use Rattle.model.proofs.Thresholds.RefusalLaws.{BothAccepted, both_accepted}
 use Rattle.model.proofs.Thresholds.SettingsLaws.{site_known}
-use Rattle.site_receiving.specs.declared.Replied.{Replied}
+use Rattle.site.specs.Calls.{SiteReply}
 use Rattle.site.specs.Calls as SiteCalls
 use Rattle.history.specs.State.{Held, State, network_of, record_at, site_start, site_part, after_site_call, sending}
 use Rattle.history.specs.Steps.{answered_out}
@@ -48,7 +48,7 @@ module _ {settings : Settings} (passes : settings_refusal settings ≡ no_refusa
   sites_sound = (in_mid passes mid).sites_sound
 
   module _ (m : Message) (later : List Message)
-      (words : ℕ) (answer : Replied)
+      (words : ℕ) (answer : SiteReply)
       (waits : before.waiting ≡ m ∷ later)
       (way : to_coordinator m ≡ false)
       (says : SiteCalls.SiteReceiveSays settings (record_at held m.site) m.site m

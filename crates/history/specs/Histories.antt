@@ -12,12 +12,9 @@ use Rattle.model.specs.declared.Settings.{Settings}
 use Rattle.model.specs.declared.Sites.{Sites}
 use Rattle.model.specs.declared.CoordinatorRecord.{CoordinatorRecord}
 use Rattle.model.specs.Refusals.{no_refusal}
-use Rattle.site_start.specs.declared.StartedSites.{StartedSites}
-use Rattle.site_start.specs.Starts.{StartSitesSays}
-use Rattle.coordinator.specs.declared.StartedCoordinator.{StartedCoordinator}
-use Rattle.coordinator.specs.Calls.{StartCoordinatorSays}
-use Rattle.snapshot_file.specs.declared.Saved.{Saved}
-use Rattle.snapshot_file.specs.declared.Loaded.{Loaded}
+use Rattle.site_start.specs.Starts.{SitesStart, StartSitesSays}
+use Rattle.coordinator.specs.Calls.{CoordinatorStart, StartCoordinatorSays}
+use Rattle.snapshot_file.specs.Answers.{LoadAnswer, SaveAnswer}
 use Rattle.snapshot_file.specs.Calls.{SaveSays, LoadSays}
 use Rattle.history.specs.State.{Held, held_by, State, fronts, lending, with_part, carried_to, holding}
 use Rattle.history.specs.Steps.{Delivers, Refuses, Step, arrives, delivers, refuses}
@@ -37,9 +34,9 @@ start_state sites coordinator site_memory coordinator_memory = record {
 pub data Reachable (settings : Settings) : State → Type 0 where
   -- "The list starts at a bench started fresh": both start calls are accepted, on the first so
   -- many numbers of memories of any content and length
-  started : (site_memory : List ℕ) (site_count : ℕ) (site_part : List ℕ) (sites : StartedSites)
+  started : (site_memory : List ℕ) (site_count : ℕ) (site_part : List ℕ) (sites : SitesStart)
       (coordinator_memory : List ℕ) (coordinator_count : ℕ) (coordinator_part : List ℕ)
-      (coordinator : StartedCoordinator)
+      (coordinator : CoordinatorStart)
       → StartSitesSays settings (take site_count site_memory) site_part sites
       → sites.refusal ≡ no_refusal
       → StartCoordinatorSays settings (take coordinator_count coordinator_memory) coordinator_part
@@ -57,8 +54,8 @@ pub data Reachable (settings : Settings) : State → Type 0 where
   -- from the first so many numbers of both memories, and read from these bytes into whatever
   -- memory, in mid-delivery too; the messages on their way are the caller's to keep
   reopened : (before : State) (site_count coordinator_count : ℕ) (bytes written : List ℕ)
-      (saved : Saved) (site_memory coordinator_memory site_after coordinator_after : List ℕ)
-      (loaded : Loaded)
+      (saved : SaveAnswer) (site_memory coordinator_memory site_after coordinator_after : List ℕ)
+      (loaded : LoadAnswer)
       → Reachable settings before
       → SaveSays settings (lending before.held (fronts site_count coordinator_count)) bytes
       written saved

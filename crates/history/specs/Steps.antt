@@ -14,11 +14,8 @@ use Rattle.model.specs.declared.Message.{Message}
 use Rattle.model.specs.Refusals.{no_refusal}
 use Rattle.model.specs.Draws.{is_draw, draws_of}
 use Rattle.model.specs.Messages.{to_coordinator}
-use Rattle.site_steps.specs.declared.Observed.{Observed}
-use Rattle.site_receiving.specs.declared.Replied.{Replied}
-use Rattle.site.specs.Calls.{ObserveSays, SiteReceiveSays}
-use Rattle.coordinator.specs.declared.Received.{Received}
-use Rattle.coordinator.specs.Calls.{CoordinatorReceiveSays, AnnounceSays}
+use Rattle.site.specs.Calls.{SiteReply, Observation, ObserveSays, SiteReceiveSays}
+use Rattle.coordinator.specs.Calls.{Reception, CoordinatorReceiveSays, AnnounceSays}
 use Rattle.tracker.specs.Batch.{BatchCall, BatchHeld, BatchSays, messages_in}
 use Rattle.history.specs.State.{Held, State, AtRest, record_at, part_of, site_start, site_part, coordinator_part, Slices, fronts, lending, with_part, put_back, after_site_call, after_coordinator_call, holding, sending}
 
@@ -46,11 +43,11 @@ after_batch before arrivals answer = record {
 }
 
 -- The messages that an arrival's answer hands out: none, the first, or both.
-abbrev pub observed_out : Observed → List Message
+abbrev pub observed_out : Observation → List Message
 observed_out answer = take answer.count (answer.first ∷ (answer.second ∷ []))
 
 -- Record and part of its site as the call left them; its messages wait.
-abbrev pub after_single : Settings → State → Arrival → ℕ → List ℕ → Observed → State
+abbrev pub after_single : Settings → State → Arrival → ℕ → List ℕ → Observation → State
 after_single settings before arrival words part answer = record {
   held = after_site_call before.held arrival.site answer.site
       (with_part before.held.site_memory (site_start settings arrival.site) words part);
@@ -74,7 +71,7 @@ pub data Arrives (settings : Settings) (before : State) : State → Type 0 where
       (after_batch before arrivals
       (put_back before.held (fronts site_count coordinator_count) answer))
   -- a single draw that is accepted, at the site that it names
-  single : (arrival : Arrival) (words : ℕ) (part : List ℕ) (answer : Observed)
+  single : (arrival : Arrival) (words : ℕ) (part : List ℕ) (answer : Observation)
       → AtRest before
       → is_draw arrival ≡ true
       → ObserveSays settings (record_at before.held arrival.site) arrival
@@ -85,11 +82,11 @@ pub data Arrives (settings : Settings) (before : State) : State → Type 0 where
 -- ---- Delivery
 
 -- The message that an answer hands out, if its count is 1.
-abbrev pub answered_out : Replied → List Message
+abbrev pub answered_out : SiteReply → List Message
 answered_out answer = take answer.count (answer.reply ∷ [])
 
 -- The same for the coordinator's answer.
-abbrev pub received_out : Received → List Message
+abbrev pub received_out : Reception → List Message
 received_out answer = take answer.count (answer.out ∷ [])
 
 -- "each message that goes out is handed and accepted once, in the order of going out, to the deck
@@ -97,7 +94,7 @@ received_out answer = take answer.count (answer.out ∷ [])
 pub data Delivers (settings : Settings) (before : State) : State → Type 0 where
   -- the head of the queue is for the coordinator, which accepts it
   to_coordinator_lem : (m : Message) (later : List Message) (words : ℕ) (part : List ℕ)
-      (answer : Received)
+      (answer : Reception)
       → before.waiting ≡ m ∷ later
       → to_coordinator m ≡ true
       → CoordinatorReceiveSays settings before.held.coordinator m
@@ -110,7 +107,7 @@ pub data Delivers (settings : Settings) (before : State) : State → Type 0 wher
       (with_part before.held.coordinator_memory 0 words part)) later
       (received_out answer))
   -- the head of the queue is for the site that it names, which accepts it
-  to_site : (m : Message) (later : List Message) (words : ℕ) (answer : Replied)
+  to_site : (m : Message) (later : List Message) (words : ℕ) (answer : SiteReply)
       → before.waiting ≡ m ∷ later
       → to_coordinator m ≡ false
       → SiteReceiveSays settings (record_at before.held m.site) m.site m
@@ -121,7 +118,7 @@ pub data Delivers (settings : Settings) (before : State) : State → Type 0 wher
       (after_site_call before.held m.site answer.site before.held.site_memory) later
       (answered_out answer))
   -- the next kind 7 is asked for and handed out, whatever waits
-  next_announcement : (words : ℕ) (answer : Received)
+  next_announcement : (words : ℕ) (answer : Reception)
       → AnnounceSays settings before.held.coordinator (coordinator_part before.held 0 words)
       answer
       → answer.refusal ≡ no_refusal
@@ -138,7 +135,7 @@ pub data Delivers (settings : Settings) (before : State) : State → Type 0 wher
 -- arrivals, or touches alone.
 pub data Refuses (before : State) : State → Type 0 where
   arrival_left : (given : Settings) (which : ℕ) (arrival : Arrival) (start words : ℕ)
-      (part : List ℕ) (answer : Observed)
+      (part : List ℕ) (answer : Observation)
       → ObserveSays given (record_at before.held which) arrival
       (part_of before.held start words) part answer
       → (answer.refusal ≡ no_refusal → is_draw arrival ≡ false)
@@ -147,7 +144,7 @@ pub data Refuses (before : State) : State → Type 0 where
       (after_site_call before.held which answer.site
       (with_part before.held.site_memory start words part)))
   site_message_refused : (given : Settings) (which number : ℕ) (m : Message) (start words : ℕ)
-      (answer : Replied)
+      (answer : SiteReply)
       → SiteReceiveSays given (record_at before.held which) number m
       (part_of before.held start words) answer
       → (answer.refusal ≡ no_refusal → ⊥)
@@ -155,14 +152,14 @@ pub data Refuses (before : State) : State → Type 0 where
       (holding before
       (after_site_call before.held which answer.site before.held.site_memory))
   coordinator_message_refused : (given : Settings) (m : Message) (start words : ℕ)
-      (part : List ℕ) (answer : Received)
+      (part : List ℕ) (answer : Reception)
       → CoordinatorReceiveSays given before.held.coordinator m
       (coordinator_part before.held start words) part answer
       → (answer.refusal ≡ no_refusal → ⊥)
       → Refuses before
       (holding before (after_coordinator_call before.held answer.coordinator
       (with_part before.held.coordinator_memory start words part)))
-  announcement_refused : (given : Settings) (start words : ℕ) (answer : Received)
+  announcement_refused : (given : Settings) (start words : ℕ) (answer : Reception)
       → AnnounceSays given before.held.coordinator (coordinator_part before.held start words)
       answer
       → (answer.refusal ≡ no_refusal → ⊥)

@@ -16,43 +16,30 @@ use model::{
     Refusal, Settings,
 };
 
-// Whether x is none of the numbers from low to high.
-fn outside(low: u32, x: u32, high: u32) -> bool
-    ensures { result ≡ not (between low x high) }
+// Whether x is one of the numbers from low to high.
+fn within(low: u32, x: u32, high: u32) -> bool
+    ensures { result ≡ between low x high }
 {
-    if x < low {
-        return true;
-    }
-    high < x
+    low <= x && x <= high
 }
 
-// Whether some setting is outside its range.
-fn any_outside(settings: Settings) -> bool
-    ensures { result ≡ not (in_range settings) }
+// Whether every setting is in its range.
+fn all_within(settings: Settings) -> bool
+    ensures { result ≡ in_range settings }
 {
-    if outside(LEAST_SETTING, settings.sites, MOST_SITES) {
-        return true;
-    }
-    if outside(LEAST_EPSILON, settings.epsilon, MOST_EPSILON) {
-        return true;
-    }
-    if outside(LEAST_SETTING, settings.phi, MOST_PHI) {
-        return true;
-    }
-    if outside(LEAST_SETTING, settings.rank, MOST_RANK) {
-        return true;
-    }
-    if outside(LEAST_SETTING, settings.capacity, MOST_CAPACITY) {
-        return true;
-    }
-    outside(LEAST_SETTING, settings.universe, MOST_UNIVERSE)
+    within(LEAST_SETTING, settings.sites, MOST_SITES)
+        && within(LEAST_EPSILON, settings.epsilon, MOST_EPSILON)
+        && within(LEAST_SETTING, settings.phi, MOST_PHI)
+        && within(LEAST_SETTING, settings.rank, MOST_RANK)
+        && within(LEAST_SETTING, settings.capacity, MOST_CAPACITY)
+        && within(LEAST_SETTING, settings.universe, MOST_UNIVERSE)
 }
 
 // The settings test: refusal 1, 2 or 3, tested in this order.
 pub fn test_settings(settings: Settings) -> Result<(), Refusal>
     ensures { refusal_told result ≡ settings_refusal settings }
 {
-    if any_outside(settings) {
+    if !all_within(settings) {
         return Err(Refusal::SettingOutOfRange);
     }
     if settings.phi < settings.epsilon {

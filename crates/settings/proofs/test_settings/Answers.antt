@@ -1,6 +1,7 @@
 -- Each return of the settings test is the row of `settings_refusal` whose test was the first to
 -- hold.
-use mathlib.Core.Path.{refl}
+use mathlib.Core.Path.{refl, ap}
+use mathlib.Core.Bool.{not}
 use Prim.Native.Nat.{ℕ, ◌≤◌}
 use native.Mathlib.Omega.{arith}
 use native.Mathlib.Nat.{mul-le-mul}
@@ -9,20 +10,20 @@ use borrow.Author.Rules.{rules}
 use Rattle.model.specs.Settings.{settings_refusal}
 use Rattle.model.proofs.Thresholds.RefusalLaws.{Still, begin, pass, refuse, end, told}
 use Rattle.settings.proofs.test_settings.Goals as goal
-use Rattle.settings.proofs.test_settings.Goals.{Else-any_outside, Else-settings}
+use Rattle.settings.proofs.test_settings.Goals.{Else-not-all_within, Else-settings}
 
-abbrev answer : Else-any_outside → ℕ
+abbrev answer : Else-not-all_within → ℕ
 answer c = settings_refusal c.args.settings
 
-abbrev past_ranges : (c : Else-any_outside) → Still (answer c)
-past_ranges c = pass _ _ _ (begin _) refl (told c.any_outside.ensures c.if-any_outside.false)
+abbrev past_ranges : (c : Else-not-all_within) → Still (answer c)
+past_ranges c = pass _ _ _ (begin _) refl (ap not (told c.all_within.ensures c.if-not-all_within.false))
 
 abbrev past_phi : (c : Else-settings) → Still (answer c.before.before)
 past_phi c = pass _ _ _ (past_ranges c.before.before) refl (le-ltb _ _ c.if-settings.false)
 
-pub returns-then-any_outside : goal.returns-then-any_outside
-returns-then-any_outside c =
-    refuse _ _ _ (begin _) refl (told c.any_outside.ensures c.if-any_outside.true)
+pub returns-then-not-all_within : goal.returns-then-not-all_within
+returns-then-not-all_within c =
+    refuse _ _ _ (begin _) refl (ap not (told c.all_within.ensures c.if-not-all_within.true))
 
 pub returns-then-settings : goal.returns-then-settings
 returns-then-settings c =

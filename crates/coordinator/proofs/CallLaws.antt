@@ -29,13 +29,14 @@ use Rattle.coordinator_memory.proofs.ReadyLaws.{ready_of_consistent}
 
 -- ---- The fresh coordinator in memory
 
--- A front that was filled with zeros.
-pub front_filled : (front memory : List ℕ) (n : ℕ)
-    → n ≤ length memory
+-- A front of so many numbers that was filled with zeros.
+pub front_filled : (front memory : List ℕ) (n words : ℕ)
     → front ≡ replicate (length (take n memory)) 0
-    → front ++ drop n memory ≡ overwrite (replicate n 0) memory
-front_filled front memory n fits zeros =
-    rw (zeros, length-take-le n memory fits, length-replicate {A = ℕ} n 0)
+    → n ≡ words
+    → words ≤ length memory
+    → front ++ drop n memory ≡ overwrite (replicate words 0) memory
+front_filled front memory n words zeros is fits =
+    rw (zeros, is, length-take-le words memory fits, length-replicate {A = ℕ} words 0)
 
 -- The fresh coordinator is zeros alone.
 pub fresh_memory : (before : List ℕ) (settings : Settings)

@@ -70,6 +70,7 @@ fn test_receive(
 }
 
 // A message is handed to the coordinator.
+// As it is: the promise (`CoordinatorReceiveSays`) has settings, record and memory one by one.
 pub fn receive(
     settings: Settings,
     coordinator: CoordinatorRecord,

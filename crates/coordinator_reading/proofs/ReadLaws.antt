@@ -5,8 +5,8 @@
 --   sides_ask                       the sides of the list rule, by the number in memory
 --   values_ask                      the value counts, as the code cuts them out of the memory
 --   Searching, searching_fits, searching_found, searching_on, searching_end
---   quantile_none, quantile_counted, quantile_kept     the cases of `quantile_of`
-use Rattle.std.specs.Prelude.{None, Some}
+--   quantile_at_one, quantile_kept     the cases of `quantile_of`
+use Rattle.std.specs.Prelude.{None, Some, if◌then◌else◌}
 use mathlib.Core.Path.{◌≡◌, ap, ◌∙◌}
 use mathlib.Core.Bool.{Bool, true, false}
 use mathlib.Core.List.{List, ◌∷◌}
@@ -19,6 +19,7 @@ use lib.Dec.{leb}
 use borrow.Author.Tests.{le-leb, lt-leb, leb-false, eq-eqb, ne_eqb}
 use Rattle.model.specs.declared.Settings.{Settings}
 use Rattle.model.specs.declared.CoordinatorRecord.{CoordinatorRecord}
+use Rattle.model.specs.Choice.{is_zero}
 use Rattle.model.specs.Refusals.{no_refusal}
 use Rattle.model.specs.Limits.{coordinator_limit}
 use Rattle.model.specs.Coordinator.{Coordinator, enough}
@@ -164,13 +165,10 @@ module _ (rank total : ℕ) (counts : List ℕ) where
 -- ---- The quantile, by threshold and total
 
 module _ (settings : Settings) (c : Coordinator) where
-  pub quantile_none : c.threshold ≡ 1 → c.total ≡ 0 → quantile_of settings c ≡ None
-  quantile_none one none = rw (eq-eqb _ _ one, eq-eqb _ _ none)
-
-  pub quantile_counted : c.threshold ≡ 1
-      → (c.total ≡ 0 → ⊥)
-      → quantile_of settings c ≡ least_value settings.rank c.total c.histogram
-  quantile_counted one some = rw (eq-eqb _ _ one, ne_eqb _ _ some)
+  pub quantile_at_one : c.threshold ≡ 1
+      → quantile_of settings c
+      ≡ (if is_zero c.total then None else least_value settings.rank c.total c.histogram)
+  quantile_at_one one = rw (eq-eqb _ _ one)
 
   pub quantile_kept : (c.threshold ≡ 1 → ⊥) → quantile_of settings c ≡ Some c.quantile
   quantile_kept more = rw (ne_eqb _ _ more)

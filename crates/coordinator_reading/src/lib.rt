@@ -4,7 +4,8 @@
 
 #![tactic(auto)]
 
-ghost use Rattle.std.specs.Prelude.{◌≡◌, ◌*◌, ◌<◌};
+ghost use Rattle.std.specs.Prelude.{◌≡◌, ◌*◌, ◌<◌, if◌then◌else◌};
+ghost use Rattle.model.specs.Choice.{is_zero};
 ghost use Rattle.model.specs.CoordinatorMemory.{coordinator_in};
 ghost use Rattle.model.specs.Refusals.{refusal_in};
 ghost use Rattle.model.specs.Reading.{difference, least_value, quantile_of};
@@ -85,6 +86,17 @@ fn least_value(rank: u32, total: u64, counts: &[u64]) -> Option<u32>
     None
 }
 
+// The same, and none where nothing is counted.
+fn counted_value(rank: u32, total: u64, counts: &[u64]) -> Option<u32>
+    requires { ValuesAsk rank total counts.now }
+    ensures { result ≡ (if is_zero total then None else least_value rank total counts.now) }
+{
+    if total == 0 {
+        return None;
+    }
+    least_value(rank, total, counts)
+}
+
 // The quantile of a coordinator that passed its tests: from the value counts while the threshold is
 // 1, later from the record.
 fn quantile_value(settings: Settings, coordinator: CoordinatorRecord, memory: &[u64]) -> Option<u32>
@@ -93,12 +105,9 @@ fn quantile_value(settings: Settings, coordinator: CoordinatorRecord, memory: &[
         memory.now) }
 {
     if coordinator.threshold == 1 {
-        if coordinator.total == 0 {
-            return None;
-        }
         let items = settings.universe as usize;
         let words = items + VALUE_COUNT;
-        return least_value(settings.rank, coordinator.total, &memory[items..words]);
+        return counted_value(settings.rank, coordinator.total, &memory[items..words]);
     }
     Some(coordinator.quantile)
 }

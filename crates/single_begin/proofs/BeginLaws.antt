@@ -1,15 +1,16 @@
 -- The arrival at the site that it names: the state of a history after that call, if it is accepted,
 -- and records and memory as they were, if it is not.
 --
+--   same_record    a record put back in its place
 --   begin_says     what the call answers and leaves, as the code names it
 -- Letter: j the site that the arrival names.
-use mathlib.Core.Path.{◌≡◌, sym, ap, ◌∙◌, subst}
+use mathlib.Core.Path.{◌≡◌, refl, sym, ap, ◌∙◌, subst}
 use mathlib.Core.Bool.{false}
 use mathlib.Core.List.{List, ◌++◌}
 use Prim.Native.Nat.{ℕ, ◌+◌, ◌-◌, ◌*◌}
 use native.Mathlib.Omega.{arith}
 use lib.ListN.{length, take, drop, length-append}
-use lib.Seq.{drop-drop}
+use lib.Seq.{drop-drop, set-get_or}
 use Rattle.model.specs.declared.Settings.{Settings}
 use Rattle.model.specs.declared.Arrival.{Arrival}
 use Rattle.model.specs.declared.Message.{Message}
@@ -20,24 +21,30 @@ use Rattle.model.specs.Refusals.{no_refusal}
 use Rattle.model.specs.Draws.{is_draw}
 use Rattle.model.specs.SiteMemory.{site_words}
 use Rattle.tracker_queue.specs.declared.Queue.{Queue}
-use Rattle.site_steps.specs.declared.Observed.{Observed}
-use Rattle.site.specs.Calls.{ObserveSays}
+use Rattle.site.specs.Calls.{Observation, ObserveSays}
+use Rattle.model.specs.Held.{no_record}
 use Rattle.history.specs.State.{Held, State, record_at, site_start, site_part, with_part, with_record, after_site_call, record_in, held_by}
 use Rattle.history.specs.Steps.{observed_out}
 use Rattle.model.proofs.Touches.DrawLaws.{not_taken}
 use Rattle.history.proofs.Answers.{left_choice}
 use Rattle.history.proofs.Refused.{part_same}
-use Rattle.single_steps.specs.declared.Progress.{Progress}
-use Rattle.single_steps.specs.Progress.{QueueSays}
+use Rattle.single_steps.specs.Progress.{ProgressOutcome, QueueSays}
 use Rattle.single_begin.specs.Arriving.{rest_from, most_calls, BeginDeliverySays}
 use Rattle.single_steps.proofs.QueueLaws.{length_queued}
+
+-- A record put back in its place.
+pub same_record : (sites : Sites) (j : ℕ) (numbers : SiteRecord)
+    → numbers ≡ record_in sites j
+    → sites ≡ with_record sites j numbers
+same_record sites j numbers numbers_are =
+    rw (numbers_are, set-get_or sites.records j no_record) refl
 
 module _ {settings : Settings} (memory : List ℕ) (arrival : Arrival) (sites : Sites)
     (coordinator : CoordinatorRecord)
     (words : ℕ) (numbers : SiteRecord)
     (words_are : words ≡ site_words settings)
     (numbers_are : numbers ≡ record_in sites arrival.site)
-    (part : List ℕ) (answer : Observed)
+    (part : List ℕ) (answer : Observation)
     (says : ObserveSays settings numbers arrival
     (take (length memory - arrival.site * words) (drop (arrival.site * words) memory)) part
     answer) where
@@ -85,7 +92,7 @@ module _ {settings : Settings} (memory : List ℕ) (arrival : Arrival) (sites : 
       (waits : QueueSays answer.count answer.first answer.second waiting)
       (carried_is : carried ≡ waiting.count)
       (left_is : left ≡ most_calls settings) where
-    abbrev begun : Progress
+    abbrev begun : ProgressOutcome
     begun = record {
       sites = sites_then;
       coordinator = coordinator;

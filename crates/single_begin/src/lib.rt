@@ -3,12 +3,15 @@
 
 #![tactic(auto)]
 
-ghost use Rattle.std.specs.Prelude.{◌≡◌};
+ghost use Rattle.std.specs.Prelude.{◌≡◌, IfOk};
+ghost use Rattle.model.specs.Refusals.{no_refusal};
+ghost use Rattle.tracker_delivery.specs.Stops.{stop_number};
 ghost use Rattle.single_steps.specs.Progress.{QueueSays};
-ghost use Rattle.single_begin.specs.Arriving.{most_calls, BeginDeliveryAsks, BeginDeliverySays};
+ghost use Rattle.single_begin.specs.Arriving.{most_calls, begun_outcome, BeginDeliveryAsks, BeginDeliverySays};
 
-use model::{Arrival, CoordinatorRecord, Message, Settings, Sites, Word};
-use single_steps::{Progress, record_at};
+use model::{Arrival, CoordinatorRecord, Message, Refusal, Settings, Sites, Word};
+use single_steps::Progress;
+use tracker_delivery::{record_of, with_record};
 use tracker_queue::Queue;
 
 // How many calls a delivery may take: no delivery has more than its messages, each handed over, and
@@ -26,15 +29,15 @@ fn queue_of(count: u32, first: Message, second: Message) -> Queue
 {
     if count < 2 {
         return Queue {
-            count: count,
-            first: first,
-            second: second,
+            count,
+            first,
+            second,
         };
     }
     Queue {
         count: 2,
-        first: first,
-        second: second,
+        first,
+        second,
     }
 }
 
@@ -46,27 +49,23 @@ pub fn begin(
     coordinator: CoordinatorRecord,
     arrival: Arrival,
     site_memory: &mut [Word],
-) -> Progress
+) -> Result<Progress, Refusal>
     requires { BeginDeliveryAsks settings arrival site_memory.old }
-    ensures { BeginDeliverySays settings arrival sites coordinator site_memory.old
-        site_memory.new result }
+    ensures says { BeginDeliverySays settings arrival sites coordinator site_memory.old
+        site_memory.new (begun_outcome settings sites coordinator result) }
+    ensures goes_on { IfOk result (λ begun. stop_number begun.refusal ≡ no_refusal) }
 {
     let which = arrival.site as usize;
     let start = which * site_memory::site_words(settings);
-    let numbers = record_at(sites, which);
-    let observed = site::observe(settings, numbers, arrival, &mut site_memory[start..]);
-    let after = observed.site;
-    let first = observed.first;
-    let second = observed.second;
-    let sites_then = tracker_delivery::with_record(sites, which, after);
-    let waiting = queue_of(observed.count, first, second);
-    let carried = waiting.count as u64;
-    Progress {
-        sites: sites_then,
-        coordinator: coordinator,
-        waiting: waiting,
-        carried: carried,
-        refusal: observed.refusal,
+    let numbers = record_of(sites, which);
+    let observed = site::observe(settings, numbers, arrival, &mut site_memory[start..])?;
+    let waiting = queue_of(observed.count, observed.first, observed.second);
+    Ok(Progress {
+        sites: with_record(sites, which, observed.site),
+        coordinator,
+        waiting,
+        carried: waiting.count as u64,
+        refusal: None,
         left: most_calls(settings),
-    }
+    })
 }

@@ -6,7 +6,7 @@
 use mathlib.Core.Path.{◌≡◌, refl, sym, ap, ◌∙◌, subst}
 use mathlib.Core.Bool.{true, false, false≢true}
 use mathlib.Core.List.{List, [], ◌++◌}
-use Prim.Native.Nat.{ℕ, ◌+◌}
+use Prim.Native.Nat.{ℕ}
 use native.Mathlib.Omega.{arith}
 use lib.ListN.{length, length-append}
 use Rattle.model.specs.declared.Settings.{Settings}
@@ -25,11 +25,10 @@ use Rattle.history.proofs.Answers.{taken_choice, left_choice}
 use Rattle.history.proofs.SingleState.{begins}
 use Rattle.demands.proofs.Theorem.{demands}
 use Rattle.history.proofs.Underway.{SoundRest}
-use Rattle.single_steps.specs.declared.Progress.{Progress}
-use Rattle.single_outcome.specs.declared.DeliveryAnswer.{DeliveryAnswer}
+use Rattle.single_steps.specs.Progress.{ProgressOutcome}
 use Rattle.single_steps.specs.Steps.{Came, DeliverByCallsSays}
 use Rattle.single_begin.specs.Arriving.{DeliveryBegun, BeginDeliverySays}
-use Rattle.single_outcome.specs.Delivery.{delivery_refusal, delivery_in, HistoryGoesOn, ArrivalDelivered, DeliverySays}
+use Rattle.single_outcome.specs.Delivery.{DeliveryOutcome, delivery_refusal, delivery_in, HistoryGoesOn, ArrivalDelivered, DeliverySays}
 use Rattle.single_outcome.proofs.EndLaws.{AtEnd, at_end}
 use Rattle.single_outcome.proofs.RestLaws.{Ended}
 use Rattle.single_outcome.proofs.OutcomeLaws.{outcome_of}
@@ -58,7 +57,7 @@ by_rules_of {settings} arrival given refusal refusal_is before held_is at_rest r
 -- ---- Refused, or a touch
 
 pub left_says : {settings : Settings} {arrival : Arrival} (given left : Held)
-    (answer : DeliveryAnswer)
+    (answer : DeliveryOutcome)
     → answer.refusal ≡ delivery_refusal settings given arrival
     → (answer.refusal ≡ no_refusal → is_draw arrival ≡ false)
     → answer.carried ≡ 0
@@ -80,7 +79,7 @@ left_says {settings} {arrival} given left answer refusal_is touches nothing none
 
 module _ {settings : Settings} {arrival : Arrival} {sites : Sites}
     {coordinator : CoordinatorRecord} {site_before site_after before after : List ℕ}
-    {first ended : Progress}
+    {first ended : ProgressOutcome}
     (ok : Passed settings (held_by sites coordinator site_before before))
     (begin_says : BeginDeliverySays settings arrival sites coordinator site_before site_after first)
     (is_draw_lem : is_draw arrival ≡ true)
@@ -188,7 +187,7 @@ module _ {settings : Settings} {arrival : Arrival} {sites : Sites}
               tails_kept = kept.from.tails;
             }
 
-      delivered_it : (answer : DeliveryAnswer)
+      delivered_it : (answer : DeliveryOutcome)
           → answer.stopped ≡ ended.refusal
           → ArrivalDelivered settings state arrival answer left
       delivered_it answer stopped_is = record {
@@ -221,7 +220,7 @@ module _ {settings : Settings} {arrival : Arrival} {sites : Sites}
     logged = 0;
   }
 
-  pub taken_says : (answer : DeliveryAnswer)
+  pub taken_says : (answer : DeliveryOutcome)
       → answer.refusal ≡ no_refusal
       → no_refusal ≡ delivery_refusal settings given arrival
       → answer.carried ≡ ended.carried

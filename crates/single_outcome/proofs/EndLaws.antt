@@ -31,8 +31,7 @@ use Rattle.history.specs.State.{Held, State, network_of}
 use Rattle.history.specs.Histories.{Deliveries}
 use Rattle.history.proofs.Underway.{SoundParts, Underway, in_mid}
 use Rattle.history.proofs.GoesOn.{deliveries_on, coordinator_accepts, site_accepts, announcement_accepted}
-use Rattle.single_steps.specs.declared.Progress.{Progress}
-use Rattle.single_steps.specs.Progress.{goes_on, may_go_on, is_due}
+use Rattle.single_steps.specs.Progress.{ProgressOutcome, goes_on, may_go_on, is_due}
 use Rattle.single_steps.specs.Steps.{Blocked, coordinator_refuses, site_refuses, announcement_refused, Came}
 use Rattle.single_begin.specs.Arriving.{most_calls}
 use Rattle.single_steps.proofs.QueueLaws.{queued_none}
@@ -129,7 +128,7 @@ by_end (suc n) end quiet blocked =
 
 module _ {settings : Settings} (passes : settings_refusal settings ≡ no_refusal)
     {network : Network} {arrival : Arrival} {before : List Message}
-    {past : ℕ} {first : State} {begun ended : Progress} {site_memory memory : List ℕ}
+    {past : ℕ} {first : State} {begun ended : ProgressOutcome} {site_memory memory : List ℕ}
     (start : Underway settings network arrival before 0 first)
     (came : Came settings past first begun ended site_memory memory)
     (allowed : begun.left ≡ most_calls settings)

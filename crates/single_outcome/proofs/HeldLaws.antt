@@ -12,8 +12,7 @@ use Rattle.model.specs.declared.Arrival.{Arrival}
 use Rattle.model.specs.Refusals.{no_refusal}
 use Rattle.model.specs.Settings.{settings_refusal}
 use Rattle.model.specs.Draws.{is_draw}
-use Rattle.site_steps.specs.declared.Observed.{Observed}
-use Rattle.site.specs.Calls.{ObserveSays}
+use Rattle.site.specs.Calls.{Observation, ObserveSays}
 use Rattle.history.specs.State.{State, network_of, network_written, record_at, site_part}
 use Rattle.history.specs.Steps.{after_single, Delivers}
 use Rattle.history.specs.Histories.{Deliveries}
@@ -25,7 +24,7 @@ use Rattle.history.proofs.FromStart.{FromStart, from_self, from_single, from_del
 
 module _ {settings : Settings} (passes : settings_refusal settings ≡ no_refusal) (state : State)
     (rest : SoundRest settings state) (arrival : Arrival) (words : ℕ) (part : List ℕ)
-    (observed : Observed)
+    (observed : Observation)
     (says : ObserveSays settings (record_at state.held arrival.site) arrival
     (site_part settings state.held arrival.site words) part observed)
     (is_draw_lem : is_draw arrival ≡ true)

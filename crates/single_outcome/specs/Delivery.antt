@@ -8,16 +8,18 @@
 --   steps_before_poll, stop_of     memory that arose; after how many steps, and by what number
 --   delivery_in ..                 the network that it comes to, and the messages that went out
 --   held_after, carried_by, stopped_by  what is left, and what is answered, taken or not
+--   DeliveryOutcome, delivery_outcome   what the call comes to, refused or not
 --   left_by refusal ..             the answer that leaves all as it was
 --   HistoryGoesOn                  a history with one arrival more
 --   ArrivalDelivered               the arrival and its delivery, as steps of a history
 --   DeliverySays                   the promise
-use Rattle.std.specs.Prelude.{◌≡◌, Bool, true, ◌&&◌, ◌||◌, List, [], ◌∷◌, ◌++◌, ℕ, ◌+◌, ◌*◌, ltb, length, if◌then◌else◌}
+use Rattle.std.specs.Prelude.{◌≡◌, Bool, true, Result, Ok, Err, ◌&&◌, ◌||◌, List, [], ◌∷◌, ◌++◌, ℕ, ◌+◌, ◌*◌, ltb, length, if◌then◌else◌}
 use Rattle.model.specs.declared.Settings.{Settings}
 use Rattle.model.specs.declared.Arrival.{Arrival}
 use Rattle.model.specs.declared.Sites.{Sites}
 use Rattle.model.specs.declared.CoordinatorRecord.{CoordinatorRecord}
-use Rattle.model.specs.Refusals.{when, ◌or_else◌, no_refusal, memory_inconsistent}
+use Rattle.model.specs.declared.Refusal.{Refusal}
+use Rattle.model.specs.Refusals.{when, ◌or_else◌, no_refusal, memory_inconsistent, number_of}
 use Rattle.model.specs.Limits.{coordinator_limit}
 use Rattle.model.specs.Draws.{is_draw, is_taken}
 use Rattle.model.specs.Site.{reports_item, reports_count, observed}
@@ -27,8 +29,8 @@ use Rattle.model.specs.Runs.{line_refusal_in, run_of}
 use Rattle.model.specs.SoundNetwork.{estimate_of}
 use Rattle.model.specs.Claims.{one_if}
 use Rattle.model.specs.DeliveryClaims.{delivery_of, delivery_steps, outcome}
-use Rattle.site_steps.specs.declared.Observed.{Observed}
-use Rattle.site.specs.Calls.{ObserveSays}
+use Rattle.site.specs.Calls.{Observation, ObserveSays}
+use Rattle.tracker_delivery.specs.Stops.{stop_number}
 use Rattle.history.specs.State.{Held, State, AtRest, held_refusal, network_of, network_written, record_at, site_part}
 use Rattle.history.specs.Steps.{after_single}
 use Rattle.history.specs.Histories.{Reachable, Deliveries}
@@ -120,10 +122,21 @@ stopped_by settings given arrival =
     then stop_of settings (network_of settings given) arrival
     else no_refusal
 
+-- ---- The answer
+
+-- Why the arrival is refused, or 0; how many messages went out; the number of the call that stopped
+-- the delivery, or 0; and both records.
+pub record DeliveryOutcome : Type 0 where
+  pub refusal : ℕ
+  pub carried : ℕ
+  pub stopped : ℕ
+  pub sites : Sites
+  pub coordinator : CoordinatorRecord
+
 -- ---- Refused, or a touch
 
 -- Nothing went out, and the records are as they were.
-abbrev pub left_by : ℕ → Sites → CoordinatorRecord → DeliveryAnswer
+abbrev pub left_by : ℕ → Sites → CoordinatorRecord → DeliveryOutcome
 left_by refusal sites coordinator = record {
   refusal = refusal;
   carried = 0;
@@ -131,6 +144,18 @@ left_by refusal sites coordinator = record {
   sites = sites;
   coordinator = coordinator;
 }
+
+-- What the call comes to, as the table of refusals tells it: refused, all is as it was.
+abbrev pub delivery_outcome : Sites → CoordinatorRecord → Result DeliveryAnswer Refusal
+    → DeliveryOutcome
+delivery_outcome sites coordinator (Ok answer) = record {
+  refusal = no_refusal;
+  carried = answer.carried;
+  stopped = stop_number answer.stopped;
+  sites = answer.sites;
+  coordinator = answer.coordinator;
+}
+delivery_outcome sites coordinator (Err refusal) = left_by (number_of refusal) sites coordinator
 
 -- ---- As steps of a history
 
@@ -155,12 +180,12 @@ pub record ArrivalDelivered
     (settings : Settings)
     (before : State)
     (arrival : Arrival)
-    (answer : DeliveryAnswer)
+    (answer : DeliveryOutcome)
     (left : Held) : Type 0 where
   -- the call on the site is accepted
   pub words : ℕ
   pub part : List ℕ
-  pub observed : Observed
+  pub observed : Observation
   pub observe_says : ObserveSays settings (record_at before.held arrival.site) arrival
       (site_part settings before.held arrival.site words) part observed
   pub observe_accepts : observed.refusal ≡ no_refusal
@@ -188,7 +213,7 @@ pub record DeliverySays
     (settings : Settings)
     (arrival : Arrival)
     (given left : Held)
-    (answer : DeliveryAnswer) : Type 0 where
+    (answer : DeliveryOutcome) : Type 0 where
   pub refusal : answer.refusal ≡ delivery_refusal settings given arrival
   pub carried : answer.carried ≡ carried_by settings given arrival
   pub stopped : answer.stopped ≡ stopped_by settings given arrival

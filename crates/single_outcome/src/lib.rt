@@ -4,16 +4,15 @@
 
 #![tactic(auto)]
 
-use model::{CoordinatorRecord, Sites};
+use model::{CoordinatorRecord, Refusal, Sites};
 
-// Why the arrival is refused, or 0. If it is not: how many messages went out, each once; the number
-// of a call that was refused on the way and stopped the delivery, or 0 where it came to rest; and
+// What an arrival that is not refused comes to: how many messages went out, each once; why a call
+// was refused on the way and stopped the delivery, if one was, or none where it came to rest; and
 // both records as they are then. From records and memory that arose by the calls nothing stops it.
 #[derive(Clone, Copy)]
 pub struct DeliveryAnswer {
-    pub refusal: u32,
     pub carried: u64,
-    pub stopped: u32,
+    pub stopped: Option<Refusal>,
     pub sites: Sites,
     pub coordinator: CoordinatorRecord,
 }

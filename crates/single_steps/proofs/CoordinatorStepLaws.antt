@@ -15,22 +15,21 @@ use Rattle.model.specs.Refusals.{no_refusal}
 use Rattle.model.specs.Coordinator.{is_announcing}
 use Rattle.tracker_queue.specs.declared.Queue.{Queue}
 use Rattle.tracker_queue.specs.Sending.{without_head}
-use Rattle.coordinator.specs.declared.Received.{Received}
+use Rattle.coordinator.specs.Calls.{Reception}
 use Rattle.coordinator.specs.Calls as CoordinatorCalls
 use Rattle.history.specs.State.{Held, with_part, after_coordinator_call}
 use Rattle.history.specs.Steps.{to_coordinator_lem, next_announcement}
 use Rattle.history.proofs.Answers.{refused_choice}
 use Rattle.history.proofs.CoordinatorFronts.{front_then}
-use Rattle.single_steps.specs.declared.Progress.{Progress}
-use Rattle.single_steps.specs.Progress.{sent, refused_with, queued}
+use Rattle.single_steps.specs.Progress.{ProgressOutcome, sent, refused_with, queued}
 use Rattle.single_steps.specs.Steps.{coordinator_refuses, announcement_refused, AskAsks, HandByCallAsks, CallStepSays}
 use Rattle.single_steps.proofs.QueueLaws.{queued_head, few_without_head}
 use Rattle.single_steps.proofs.StepLaws.{moved_on, went, stopped}
 
 -- ---- The next kind 7
 
-module _ {settings : Settings} {memory : List ℕ} {progress : Progress} (asks : AskAsks progress)
-    (answer : Received)
+module _ {settings : Settings} {memory : List ℕ} {progress : ProgressOutcome} (asks : AskAsks progress)
+    (answer : Reception)
     (says : CoordinatorCalls.AnnounceSays settings progress.coordinator memory answer) where
   pub ask_stops : (answer.refusal ≡ no_refusal → ⊥)
       → (site_memory : List ℕ)
@@ -49,7 +48,7 @@ module _ {settings : Settings} {memory : List ℕ} {progress : Progress} (asks :
 
   -- All of the memory is lent.
   pub ask_goes : answer.refusal ≡ no_refusal
-      → (site_memory : List ℕ) (then : Progress)
+      → (site_memory : List ℕ) (then : ProgressOutcome)
       → then
       ≡ sent answer.count
       (moved_on progress progress.sites answer.coordinator progress.waiting) answer.out
@@ -87,9 +86,9 @@ whole_left memory after =
     ∙ ap (λ (behind : List ℕ). after ++ behind) (drop-length memory)
     ∙ append-nil after
 
-module _ {settings : Settings} {before after : List ℕ} {progress : Progress}
+module _ {settings : Settings} {before after : List ℕ} {progress : ProgressOutcome}
     (asks : HandByCallAsks true progress)
-    (answer : Received)
+    (answer : Reception)
     (says : CoordinatorCalls.CoordinatorReceiveSays settings progress.coordinator
     progress.waiting.first
     before after answer) where
@@ -122,7 +121,7 @@ module _ {settings : Settings} {before after : List ℕ} {progress : Progress}
 
   -- All of the memory is lent.
   pub coordinator_goes : answer.refusal ≡ no_refusal
-      → (site_memory : List ℕ) (queue : Queue) (then : Progress)
+      → (site_memory : List ℕ) (queue : Queue) (then : ProgressOutcome)
       → queue ≡ without_head progress.waiting
       → then
       ≡ sent answer.count

@@ -17,13 +17,12 @@ use Rattle.model.specs.Refusals.{no_refusal}
 use Rattle.model.specs.Coordinator.{is_announcing}
 use Rattle.history.specs.State.{State}
 use Rattle.history.specs.Histories.{no_step, delivered}
-use Rattle.single_steps.specs.declared.Progress.{Progress}
-use Rattle.single_steps.specs.Progress.{goes_on, may_go_on, is_due, Stands}
+use Rattle.single_steps.specs.Progress.{ProgressOutcome, goes_on, may_go_on, is_due, Stands}
 use Rattle.single_steps.specs.Steps.{Stepped, goes, stops, CallStepSays, Came}
 
 -- ---- What is due
 
-pub record Due (progress : Progress) : Type 0 where
+pub record Due (progress : ProgressOutcome) : Type 0 where
   pub not_refused : progress.refusal ≡ no_refusal
   pub some_left : progress.left ≡ 0 → ⊥
   pub announces : progress.waiting.count ≡ 0
@@ -37,7 +36,7 @@ pub positive : (n : ℕ) → (n ≡ 0 → ⊥) → 1 ≤ n
 positive zero some = absurd (some refl)
 positive (suc n) some = omega arith
 
-pub due_facts : (progress : Progress) → is_due progress ≡ true → Due progress
+pub due_facts : (progress : ProgressOutcome) → is_due progress ≡ true → Due progress
 due_facts progress due =
     let both = both_true (may_go_on progress) (goes_on progress) due in
     let may = both_true (is_zero progress.refusal) (not (is_zero progress.left))
@@ -53,7 +52,7 @@ due_facts progress due =
     }
 
 -- One call fewer may be made.
-abbrev pub counting : Progress → Progress
+abbrev pub counting : ProgressOutcome → ProgressOutcome
 counting progress = record {
   sites = progress.sites;
   coordinator = progress.coordinator;
@@ -69,9 +68,9 @@ pub record Going
     (settings : Settings)
     (site_memory : List ℕ)
     (before : List ℕ)
-    (begun : Progress)
+    (begun : ProgressOutcome)
     (after : List ℕ)
-    (now : Progress) : Type 0 where
+    (now : ProgressOutcome) : Type 0 where
   pub few : now.waiting.count ≤ 2
   pub few_carried : now.carried + now.left ≤ begun.carried + begun.left
   pub same_length : length after ≡ length before
@@ -79,7 +78,7 @@ pub record Going
       → Stands past first begun site_memory before
       → Came settings past first begun now site_memory after
 
-pub going_start : {settings : Settings} {site_memory before : List ℕ} {begun : Progress}
+pub going_start : {settings : Settings} {site_memory before : List ℕ} {begun : ProgressOutcome}
     → begun.waiting.count ≤ 2
     → begun.refusal ≡ no_refusal
     → Going settings site_memory before begun before begun
@@ -97,7 +96,7 @@ going_start few none = record {
   };
 }
 
-module _ {settings : Settings} {site_memory after next : List ℕ} {begun now then : Progress}
+module _ {settings : Settings} {site_memory after next : List ℕ} {begun now then : ProgressOutcome}
     (due : Due now) where
   -- A step, or a refusal.
   came_step : {past : ℕ} {first : State}

@@ -17,8 +17,7 @@ use Rattle.model.specs.declared.Message.{Message}
 use Rattle.model.specs.Choice.{is_zero}
 use Rattle.tracker_queue.specs.declared.Queue.{Queue}
 use Rattle.tracker_queue.specs.Sending.{joined, without_head}
-use Rattle.single_steps.specs.declared.Progress.{Progress}
-use Rattle.single_steps.specs.Progress.{queued, sent, QueueSays}
+use Rattle.single_steps.specs.Progress.{ProgressOutcome, queued, sent, QueueSays}
 
 pub get_d_within : {A : Type 0} (xs : List A) (i : ℕ) (one other : A)
     → i < length xs
@@ -88,7 +87,7 @@ module _ (waiting : Queue) where
 -- ---- A message that goes out
 
 -- It waits last and is counted, if there is one; records, refusal and calls left stay.
-pub record Sends (count : ℕ) (moved : Progress) (m : Message) (after : Progress) : Type 0 where
+pub record Sends (count : ℕ) (moved : ProgressOutcome) (m : Message) (after : ProgressOutcome) : Type 0 where
   pub same_sites : after.sites ≡ moved.sites
   pub same_coordinator : after.coordinator ≡ moved.coordinator
   pub same_refusal : after.refusal ≡ moved.refusal
@@ -98,7 +97,7 @@ pub record Sends (count : ℕ) (moved : Progress) (m : Message) (after : Progres
   pub counts : after.carried ≡ moved.carried + length (take count (m ∷ []))
   pub one_more : after.carried ≤ moved.carried + 1
 
-sends_by : (count : ℕ) (moved : Progress) (m : Message)
+sends_by : (count : ℕ) (moved : ProgressOutcome) (m : Message)
     → moved.waiting.count ≤ 1
     → Sends count moved m (sent count moved m)
 sends_by zero moved m few = record {
@@ -130,7 +129,7 @@ sends_by (suc count) moved m few =
     })
 
 -- The same of a progress that is known to be that.
-pub sends : (count : ℕ) (moved : Progress) (m : Message) (after : Progress)
+pub sends : (count : ℕ) (moved : ProgressOutcome) (m : Message) (after : ProgressOutcome)
     → after ≡ sent count moved m
     → moved.waiting.count ≤ 1
     → Sends count moved m after

@@ -20,17 +20,16 @@ use Rattle.tracker_queue.specs.Sending.{without_head}
 use Rattle.model.proofs.Thresholds.RefusalLaws.{both_accepted}
 use Rattle.model.proofs.Thresholds.SettingsLaws.{site_known}
 use Rattle.bench_memory.specs.Promises.{SitesFit}
-use Rattle.site_receiving.specs.declared.Replied.{Replied}
+use Rattle.site.specs.Calls.{SiteReply}
 use Rattle.site.specs.Calls as SiteCalls
 use Rattle.history.specs.State.{Held, State, record_at, site_part, with_record, after_site_call, record_in, held_by}
 use Rattle.history.specs.Steps.{to_site}
-use Rattle.single_steps.specs.declared.Progress.{Progress}
-use Rattle.single_steps.specs.Progress.{sent, refused_with, queued, Stands}
+use Rattle.single_steps.specs.Progress.{ProgressOutcome, sent, refused_with, queued, Stands}
 use Rattle.single_steps.specs.Steps.{site_refuses, HandByCallAsks, CallStepSays}
 use Rattle.single_steps.proofs.QueueLaws.{queued_head, few_without_head}
 use Rattle.single_steps.proofs.StepLaws.{moved_on, went, stopped}
 
-module _ {settings : Settings} {site_memory : List ℕ} {progress : Progress}
+module _ {settings : Settings} {site_memory : List ℕ} {progress : ProgressOutcome}
     (fits : SitesFit settings site_memory) (asks : HandByCallAsks false progress) where
   abbrev message : Message
   message = progress.waiting.first
@@ -69,7 +68,7 @@ module _ {settings : Settings} {site_memory : List ℕ} {progress : Progress}
   module _ (known : j < settings.sites) (numbers : SiteRecord) (words : ℕ)
       (numbers_are : numbers ≡ record_in progress.sites j)
       (words_are : words ≡ site_words settings)
-      (answer : Replied)
+      (answer : SiteReply)
       (says : SiteCalls.SiteReceiveSays settings numbers j message
       (take (length site_memory - j * words) (drop (j * words) site_memory)) answer) where
     abbrev rest : ℕ
@@ -120,7 +119,7 @@ module _ {settings : Settings} {site_memory : List ℕ} {progress : Progress}
         (λ _. sym (says_of state stands).refusal))
 
     pub site_goes : answer.refusal ≡ no_refusal
-        → (memory : List ℕ) (sites : Sites) (queue : Queue) (then : Progress)
+        → (memory : List ℕ) (sites : Sites) (queue : Queue) (then : ProgressOutcome)
         → sites ≡ with_record progress.sites j answer.site
         → queue ≡ without_head progress.waiting
         → then ≡ sent answer.count (moved_on progress sites progress.coordinator queue)

@@ -18,17 +18,16 @@ use Rattle.model.specs.Refusals.{no_refusal}
 use Rattle.tracker_queue.specs.declared.Queue.{Queue}
 use Rattle.history.specs.State.{Held, State, sending, held_by}
 use Rattle.history.specs.Steps.{Delivers}
-use Rattle.single_steps.specs.declared.Progress.{Progress}
-use Rattle.single_steps.specs.Progress.{sent, refused_with, queued, Stands}
+use Rattle.single_steps.specs.Progress.{ProgressOutcome, sent, refused_with, queued, Stands}
 use Rattle.single_steps.specs.Steps.{Blocked, goes, stops, CallStepSays}
 use Rattle.single_steps.proofs.QueueLaws.{sends}
 
 -- What is held by a progress.
-abbrev held_in : Progress → List ℕ → List ℕ → Held
+abbrev held_in : ProgressOutcome → List ℕ → List ℕ → Held
 held_in progress = held_by progress.sites progress.coordinator
 
 -- The progress after a call that is accepted, before what it hands out waits.
-abbrev pub moved_on : Progress → Sites → CoordinatorRecord → Queue → Progress
+abbrev pub moved_on : ProgressOutcome → Sites → CoordinatorRecord → Queue → ProgressOutcome
 moved_on progress sites coordinator queue = record {
   sites = sites;
   coordinator = coordinator;
@@ -44,7 +43,7 @@ moved_on progress sites coordinator queue = record {
 pub record Moves
     (settings : Settings)
     (state : State)
-    (moved : Progress)
+    (moved : ProgressOutcome)
     (site_memory memory : List ℕ)
     (out : List Message) : Type 0 where
   pub held : Held
@@ -54,11 +53,11 @@ pub record Moves
   pub delivers : Delivers settings state (sending state held waiting out)
 
 -- It went, from every state that the progress stands for.
-pub went : {settings : Settings} {site_memory before after : List ℕ} {progress : Progress}
+pub went : {settings : Settings} {site_memory before after : List ℕ} {progress : ProgressOutcome}
     → progress.refusal ≡ no_refusal
     → (sites : Sites) (coordinator : CoordinatorRecord) (queue : Queue)
     → queue.count ≤ 1
-    → (count : ℕ) (m : Message) (then : Progress)
+    → (count : ℕ) (m : Message) (then : ProgressOutcome)
     → then ≡ sent count (moved_on progress sites coordinator queue) m
     → ((past : ℕ) (state : State)
     → Stands past state progress site_memory before
@@ -98,7 +97,7 @@ went {site_memory = site_memory} {after = after} {progress = progress} not_refus
 -- ---- Refused
 
 -- A call is refused that every state says is due; it left the memory as it was.
-module _ {settings : Settings} {site_memory before : List ℕ} (progress : Progress) where
+module _ {settings : Settings} {site_memory before : List ℕ} (progress : ProgressOutcome) where
   pub stopped : (refusal : ℕ) (after : List ℕ)
       → progress.waiting.count ≤ 2
       → (refusal ≡ no_refusal → ⊥)

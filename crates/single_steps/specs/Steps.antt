@@ -21,8 +21,7 @@ use Rattle.coordinator.specs.Calls as CoordinatorCalls
 use Rattle.history.specs.State.{State, record_at, site_part}
 use Rattle.history.specs.Steps.{Delivers}
 use Rattle.history.specs.Histories.{Deliveries}
-use Rattle.single_steps.specs.declared.Progress.{Progress}
-use Rattle.single_steps.specs.Progress.{carried_limit, is_due, Stands}
+use Rattle.single_steps.specs.Progress.{ProgressOutcome, carried_limit, is_due, Stands}
 
 -- ---- One call
 
@@ -58,7 +57,7 @@ pub data Stepped
     (settings : Settings)
     (past : ℕ)
     (state : State)
-    (after : Progress)
+    (after : ProgressOutcome)
     (site_memory coordinator_memory : List ℕ) : Type 0 where
   -- the call is accepted: a step of a history
   goes : (next : State)
@@ -73,14 +72,14 @@ pub data Stepped
       → Stepped settings past state after site_memory coordinator_memory
 
 -- Nothing waits, and the coordinator announces.
-pub record AskAsks (progress : Progress) : Type 0 where
+pub record AskAsks (progress : ProgressOutcome) : Type 0 where
   pub not_refused : progress.refusal ≡ no_refusal
   pub few_carried : progress.carried < carried_limit
   pub nothing_waits : progress.waiting.count ≡ 0
   pub announces : is_announcing progress.coordinator.phase ≡ true
 
 -- A message waits, and it is for the coordinator, or for a site.
-pub record HandByCallAsks (way : Bool) (progress : Progress) : Type 0 where
+pub record HandByCallAsks (way : Bool) (progress : ProgressOutcome) : Type 0 where
   pub not_refused : progress.refusal ≡ no_refusal
   pub few_carried : progress.carried < carried_limit
   pub some : progress.waiting.count ≡ 0 → ⊥
@@ -88,7 +87,7 @@ pub record HandByCallAsks (way : Bool) (progress : Progress) : Type 0 where
   pub way_is : to_coordinator progress.waiting.first ≡ way
 
 -- One of them.
-pub record DueAsks (progress : Progress) : Type 0 where
+pub record DueAsks (progress : ProgressOutcome) : Type 0 where
   pub not_refused : progress.refusal ≡ no_refusal
   pub few_carried : progress.carried < carried_limit
   pub few : progress.waiting.count ≤ 2
@@ -98,7 +97,7 @@ pub record DueAsks (progress : Progress) : Type 0 where
 pub record CallStepSays
     (settings : Settings)
     (site_memory coordinatorBefore coordinator_after : List ℕ)
-    (before after : Progress) : Type 0 where
+    (before after : ProgressOutcome) : Type 0 where
   pub few : after.waiting.count ≤ 2
   pub one_more : after.carried ≤ before.carried + 1
   pub left_is : after.left ≡ before.left
@@ -114,7 +113,7 @@ pub record Came
     (settings : Settings)
     (past : ℕ)
     (first : State)
-    (begun now : Progress)
+    (begun now : ProgressOutcome)
     (site_memory coordinator_memory : List ℕ) : Type 0 where
   pub taken : ℕ
   pub after : State
@@ -123,7 +122,7 @@ pub record Came
   pub counted : now.refusal ≡ no_refusal → taken + now.left ≡ begun.left
   pub blocked : (now.refusal ≡ no_refusal → ⊥) → Blocked settings after now.refusal
 
-pub record DeliverByCallsAsks (settings : Settings) (site_memory : List ℕ) (begun : Progress)
+pub record DeliverByCallsAsks (settings : Settings) (site_memory : List ℕ) (begun : ProgressOutcome)
     : Type 0 where
   pub fits : SitesFit settings site_memory
   pub few : begun.waiting.count ≤ 2
@@ -134,7 +133,7 @@ pub record DeliverByCallsAsks (settings : Settings) (site_memory : List ℕ) (be
 pub record DeliverByCallsSays
     (settings : Settings)
     (site_memory coordinatorBefore coordinator_after : List ℕ)
-    (begun ended : Progress) : Type 0 where
+    (begun ended : ProgressOutcome) : Type 0 where
   pub none_due : is_due ended ≡ false
   pub comes : (past : ℕ) (first : State)
       → Stands past first begun site_memory coordinatorBefore

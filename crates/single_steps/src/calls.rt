@@ -2,63 +2,50 @@
 // handed to the coordinator or to its site. What the call hands out waits last. The functions are
 // internal: what they require follows from what `deliver` requires and from `call_due`.
 ghost use Rattle.std.specs.Prelude.{◌≡◌, true, false, List, ℕ, ◌<◌};
-ghost use Rattle.model.specs.Limits.{most_sites};
-ghost use Rattle.model.specs.Held.{record_in};
 ghost use Rattle.bench_memory.specs.Promises.{SitesFit};
-ghost use Rattle.single_steps.specs.Progress.{carried_limit, sent, refused_with};
+ghost use Rattle.single_steps.specs.Progress.{carried_limit, progress_outcome, sent};
 ghost use Rattle.single_steps.specs.Steps.{AskAsks, HandByCallAsks, DueAsks, CallStepSays};
 
 use crate::Progress;
-use model::{Message, NO_REFUSAL, Settings, SiteRecord, Sites, UNKNOWN_SITE, Word};
+use model::{Message, Refusal, Settings, Word};
+use tracker_delivery::{record_of, with_record};
+use tracker_queue::{join, take_head};
 
 // The message that a call handed out, if it handed out one: it waits last, and is counted.
 fn send(progress: Progress, count: u32, message: Message) -> Progress
     requires { progress.carried < carried_limit }
-    ensures { result ≡ sent count progress message }
+    ensures { progress_outcome result ≡ sent count (progress_outcome progress) message }
 {
     if count == 0 {
         return progress;
     }
-    let waiting = progress.waiting;
-    let mut next = progress;
-    next.waiting = tracker_queue::join(waiting, message);
-    next.carried = progress.carried + 1;
-    next
-}
-
-// A call was refused: its number is kept, and all else is as it was.
-fn stop(progress: Progress, refusal: u32) -> Progress
-    ensures { result ≡ refused_with progress refusal }
-{
-    let mut next = progress;
-    next.refusal = refusal;
-    next
-}
-
-// The record of one site. Internal: its callers test that there is such a site.
-pub fn record_at(sites: Sites, which: usize) -> SiteRecord
-    requires { which < most_sites }
-    ensures { result ≡ record_in sites which }
-{
-    sites.records[which]
-}
-
-// The next kind 7 is asked for.
-fn ask(settings: Settings, progress: Progress, coordinator_memory: &[u64]) -> Progress
-    requires { AskAsks progress }
-    ensures { (site_memory : List ℕ) → CallStepSays settings site_memory
-        coordinator_memory.now coordinator_memory.now progress result }
-{
-    let coordinator = progress.coordinator;
-    let answer = coordinator::next_announcement(settings, coordinator, coordinator_memory);
-    if answer.refusal != NO_REFUSAL {
-        return stop(progress, answer.refusal);
+    Progress {
+        waiting: join(progress.waiting, message),
+        carried: progress.carried + 1,
+        ..progress
     }
-    let after = answer.coordinator;
-    let announcement = answer.out;
-    let mut next = progress;
-    next.coordinator = after;
-    send(next, answer.count, announcement)
+}
+
+// The next kind 7 is asked for. Where a call is refused, why is kept, and all else is as it was.
+fn ask(settings: Settings, progress: Progress, coordinator_memory: &[u64]) -> Progress
+    requires { AskAsks (progress_outcome progress) }
+    ensures { (site_memory : List ℕ) → CallStepSays settings site_memory
+        coordinator_memory.now coordinator_memory.now (progress_outcome progress)
+        (progress_outcome result) }
+{
+    match coordinator::next_announcement(settings, progress.coordinator, coordinator_memory) {
+        Ok(announced) => {
+            let next = Progress {
+                coordinator: announced.coordinator,
+                ..progress
+            };
+            send(next, announced.count, announced.out)
+        }
+        Err(refusal) => Progress {
+            refusal: Some(refusal),
+            ..progress
+        },
+    }
 }
 
 // The message that waits first is handed to the coordinator.
@@ -67,52 +54,66 @@ fn hand_to_coordinator(
     progress: Progress,
     coordinator_memory: &mut [u64],
 ) -> Progress
-    requires { HandByCallAsks true progress }
+    requires { HandByCallAsks true (progress_outcome progress) }
     ensures { (site_memory : List ℕ) → CallStepSays settings site_memory
-        coordinator_memory.old coordinator_memory.new progress result }
+        coordinator_memory.old coordinator_memory.new (progress_outcome progress)
+        (progress_outcome result) }
 {
-    let coordinator = progress.coordinator;
-    let waiting = progress.waiting;
-    let message = waiting.first;
-    let answer = coordinator::receive(settings, coordinator, message, coordinator_memory);
-    if answer.refusal != NO_REFUSAL {
-        return stop(progress, answer.refusal);
+    let message = progress.waiting.first;
+    match coordinator::receive(settings, progress.coordinator, message, coordinator_memory) {
+        Ok(answered) => {
+            let next = Progress {
+                coordinator: answered.coordinator,
+                waiting: take_head(progress.waiting),
+                ..progress
+            };
+            send(next, answered.count, answered.out)
+        }
+        Err(refusal) => Progress {
+            refusal: Some(refusal),
+            ..progress
+        },
     }
-    let after = answer.coordinator;
-    let out = answer.out;
-    let mut next = progress;
-    next.coordinator = after;
-    next.waiting = tracker_queue::take_head(waiting);
-    send(next, answer.count, out)
 }
 
 // The message that waits first is handed to the site that it names, with that site's record and
 // the memory from the start of its part on.
 fn hand_to_site(settings: Settings, progress: Progress, site_memory: &[Word]) -> Progress
-    requires { SitesFit settings site_memory.now × HandByCallAsks false progress }
+    requires { SitesFit settings site_memory.now × HandByCallAsks false (progress_outcome progress) }
     ensures { (coordinator_memory : List ℕ) → CallStepSays settings
-        site_memory.now coordinator_memory coordinator_memory progress result }
+        site_memory.now coordinator_memory coordinator_memory (progress_outcome progress)
+        (progress_outcome result) }
 {
-    let sites = progress.sites;
-    let waiting = progress.waiting;
-    let message = waiting.first;
+    let message = progress.waiting.first;
     if settings.sites <= message.site {
-        return stop(progress, UNKNOWN_SITE);
+        return Progress {
+            refusal: Some(Refusal::UnknownSite),
+            ..progress
+        };
     }
     let which = message.site as usize;
     let start = which * site_memory::site_words(settings);
-    let part = &site_memory[start..];
-    let numbers = record_at(sites, which);
-    let answer = site::receive(settings, numbers, message.site, message, part);
-    if answer.refusal != NO_REFUSAL {
-        return stop(progress, answer.refusal);
+    let numbers = record_of(progress.sites, which);
+    match site::receive(
+        settings,
+        numbers,
+        message.site,
+        message,
+        &site_memory[start..],
+    ) {
+        Ok(replied) => {
+            let next = Progress {
+                sites: with_record(progress.sites, which, replied.site),
+                waiting: take_head(progress.waiting),
+                ..progress
+            };
+            send(next, replied.count, replied.reply)
+        }
+        Err(refusal) => Progress {
+            refusal: Some(refusal),
+            ..progress
+        },
     }
-    let after = answer.site;
-    let reply = answer.reply;
-    let mut next = progress;
-    next.sites = tracker_delivery::with_record(sites, which, after);
-    next.waiting = tracker_queue::take_head(waiting);
-    send(next, answer.count, reply)
 }
 
 // The call that is due: while messages wait, the first of them; else the next kind 7.
@@ -122,16 +123,15 @@ pub fn take_step(
     site_memory: &[Word],
     coordinator_memory: &mut [u64],
 ) -> Progress
-    requires { SitesFit settings site_memory.now × DueAsks progress }
+    requires { SitesFit settings site_memory.now × DueAsks (progress_outcome progress) }
     ensures { CallStepSays settings site_memory.now
-        coordinator_memory.old coordinator_memory.new progress result }
+        coordinator_memory.old coordinator_memory.new (progress_outcome progress)
+        (progress_outcome result) }
 {
-    let waiting = progress.waiting;
-    if waiting.count == 0 {
+    if progress.waiting.count == 0 {
         return ask(settings, progress, coordinator_memory);
     }
-    let message = waiting.first;
-    if messages::to_coordinator(message) {
+    if messages::to_coordinator(progress.waiting.first) {
         return hand_to_coordinator(settings, progress, coordinator_memory);
     }
     hand_to_site(settings, progress, site_memory)

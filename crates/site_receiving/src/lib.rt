@@ -9,6 +9,7 @@ use messages::{no_message, poll_answer_of, probe_answer_of};
 use model::{Message, POLL, PROBE, Settings, SiteRecord, Word};
 
 // What a message leads to: the site's record then, and the reply, if `count` is 1.
+// As it is: the clause `ReceiveStepSays` speaks of a count and of a message.
 #[derive(Clone, Copy)]
 pub struct Replied {
     pub site: SiteRecord,

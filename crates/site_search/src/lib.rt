@@ -28,6 +28,7 @@ pub fn find_counter(memory: &[Word], used: usize, item: Word) -> usize
 
 // Whether a counter comes before another: by count, and of equals by item. Both are compared as one
 // number, count first, so that the scan has no branch on equal counts, which nothing could foresee.
+// As it is: a comparison of two tuples makes that branch.
 pub fn is_before(count: Word, item: Word, least_count: Word, least_item: Word) -> bool
     ensures { result ≡ ordered count item least_count least_item }
 {

@@ -14,6 +14,7 @@ use site_counters::{StoredCounter, gone_with, unreported_of};
 
 // What an arrival leads to: the site's record then, and the messages that go out, of which there
 // are `count`; an absent one is all zeros.
+// As it is: the clause `ObserveStepSays` speaks of a count and of two messages.
 #[derive(Clone, Copy)]
 pub struct Observed {
     pub site: SiteRecord,

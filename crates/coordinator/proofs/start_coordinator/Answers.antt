@@ -1,16 +1,14 @@
 -- The fresh coordinator in memory is zeros alone.
-use lib.ListN.{length, replicate}
+use lib.ListN.{length, length-take}
 use native.Mathlib.Omega.{arith}
+use Prim.Native.Nat.{ℕ}
 use Rattle.std.proofs.lemmas.Result.{err_from_is_err_and}
-use mathlib.Core.Path.{◌≡◌, ap, sym, ◌∙◌, refl}
-use Prim.Native.Nat.{ℕ, ◌+◌, ◌≤◌}
-use lib.Seq.{length-take-le}
+use mathlib.Core.Path.{sym, ◌∙◌, refl}
 use Rattle.coordinator.proofs.CallLaws.{front_filled, fresh_memory, start_long}
 use Rattle.model.proofs.BetweenArrivals.ReportLaws.{value_count_is}
 use Rattle.model.proofs.Thresholds.RefusalLaws.{accepts, refuses, accepted_by, some_number}
 use Rattle.coordinator.specs.Calls.{start_refusal}
 use Rattle.model.specs.CoordinatorMemory.{coordinator_words}
-use Rattle.model.specs.SiteMemory.{overwrite}
 use Rattle.coordinator.proofs.start_coordinator.Goals as goal
 
 pub returns-in_err-test_start : goal.returns-in_err-test_start
@@ -36,9 +34,12 @@ pub slice_bounds-fill-end-2 : goal.slice_bounds-fill-end-2
 slice_bounds-fill-end-2 c =
     let start = c.args in
     let none = accepted_by c.test_start.ensures c.in_ok-test_start.was in
-    let long : start.settings.universe + 1024 ≤ length start.memory.now =
-    omega (arith, start_long start.settings (length start.memory.now) none, value_count_is) in
-    sym (length-take-le (start.settings.universe + 1024) start.memory.now long)
+    omega (
+      arith,
+      length-take {A = ℕ},
+      start_long start.settings (length start.memory.now) none,
+      value_count_is,
+    )
 
 pub returns : goal.returns
 returns c =
@@ -46,16 +47,13 @@ returns c =
     let settings = c.args.settings in
     let refusal = start_refusal settings (length start.memory.now) in
     let none = accepted_by c.test_start.ensures c.in_ok-test_start.was in
-    let words : settings.universe + 1024 ≡ coordinator_words settings = omega
-    (arith, value_count_is) in
     record {
       refusal = sym none;
       coordinator = c.fresh_record.ensures settings;
       memory =
-          front_filled _ start.memory.now (settings.universe + 1024)
-          (omega (arith, start_long settings (length start.memory.now) none, value_count_is))
-          (c.fill.ensures.after (λ y same. same))
-          ∙ ap (λ (n : ℕ). overwrite (replicate n 0) start.memory.now) words
+          front_filled _ start.memory.now _ (coordinator_words settings)
+          (c.fill.ensures.after (λ y same. same)) (omega (arith, value_count_is))
+          (start_long settings (length start.memory.now) none)
           ∙ fresh_memory start.memory.now settings
           ∙ accepts refusal _ _ none;
     }

@@ -1,9 +1,10 @@
 -- `single_begin::begin` meets its contract: the site that the arrival names takes it in its part
--- of the memory.
+-- of the memory, or refuses it.
 use mathlib.Core.Path.{refl}
 use native.Mathlib.Omega.{arith}
+use Rattle.std.proofs.lemmas.Result.{err_from_is_err_and}
 use Rattle.bench_memory.proofs.PartLaws.{site_few, PartStarts, starts_at}
-use Rattle.single_begin.proofs.BeginLaws.{begin_says}
+use Rattle.single_begin.proofs.BeginLaws.{begin_says, same_record}
 use Rattle.single_begin.proofs.begin.Goals as goal
 use Rattle.single_begin.proofs.begin.Goals.{After-site_words}
 
@@ -18,8 +19,8 @@ starts sized =
 pub overflow_mul-start : goal.overflow_mul-start
 overflow_mul-start c = omega (arith, (starts c).small)
 
-pub record_at-numbers-requires : goal.record_at-numbers-requires
-record_at-numbers-requires c =
+pub record_of-numbers-requires : goal.record_of-numbers-requires
+record_of-numbers-requires c =
     site_few c.requires.fits c.args.arrival.site c.requires.known
 
 pub offset_bounds-site_memory-start : goal.offset_bounds-site_memory-start
@@ -42,16 +43,30 @@ slice_bounds-observe-start c = omega (
       (goal.at.slice_bounds-observe-start c).After-site_words).within,
 )
 
-pub with_record-sites_then-requires : goal.with_record-sites_then-requires
-with_record-sites_then-requires c =
+pub with_record-requires : goal.with_record-requires
+with_record-requires c =
     site_few c.requires.fits c.args.arrival.site c.requires.known
 
-pub returns : goal.returns
-returns c =
+pub returns-in_err-observed-clause-says : goal.returns-in_err-observed-clause-says
+returns-in_err-observed-clause-says c =
+    let p = err_from_is_err_and c.from_residual.result c.from_residual.ensures.1 in
+    rw (p.1, p.2)
+    (begin_says c.args.site_memory.now c.args.arrival c.args.sites
+    c.args.coordinator
+    c.site_words.result c.record_of-numbers.result
+    c.site_words.ensures c.record_of-numbers.ensures
+    c.observe.new.memory _ c.in_err-observed.ensures
+    c.args.sites _ 0 _
+    (same_record c.args.sites c.args.arrival.site c.record_of-numbers.result
+    c.record_of-numbers.ensures)
+    (record { messages = refl; few = omega arith }) refl refl)
+
+pub returns-clause-says : goal.returns-clause-says
+returns-clause-says c =
     begin_says c.args.site_memory.now c.args.arrival c.args.sites
     c.args.coordinator
-    c.site_words.result c.record_at-numbers.result
-    c.site_words.ensures c.record_at-numbers.ensures
-    c.observe-observed.new.memory c.observe-observed.result c.observe-observed.ensures
-    c.with_record-sites_then.result c.queue_of-waiting.result _ c.most_calls.result
-    c.with_record-sites_then.ensures c.queue_of-waiting.ensures refl c.most_calls.ensures
+    c.site_words.result c.record_of-numbers.result
+    c.site_words.ensures c.record_of-numbers.ensures
+    c.observe.new.memory _ c.in_ok-observed.ensures
+    c.with_record.result c.queue_of-waiting.result _ c.most_calls.result
+    c.with_record.ensures c.queue_of-waiting.ensures refl c.most_calls.ensures

@@ -1,21 +1,16 @@
 -- `single_steps::ask` meets its contract: by whether the coordinator accepts.
+use mathlib.Core.Path.{refl}
+use Rattle.model.proofs.Thresholds.RefusalLaws.{some_number}
 use Rattle.single_steps.proofs.CoordinatorStepLaws.{ask_goes, ask_stops}
 use Rattle.single_steps.proofs.calls.ask.Goals as goal
 
-pub returns-then-answer-ne-NO_REFUSAL : goal.returns-then-answer-ne-NO_REFUSAL
-returns-then-answer-ne-NO_REFUSAL c =
-    let answer = c.next_announcement-answer in
-    λ site_memory.
-    rw c.stop.ensures
-    (ask_stops c.requires answer.result answer.ensures c.if-answer-ne-NO_REFUSAL.true site_memory)
+pub returns-in-Err : goal.returns-in-Err
+returns-in-Err c =
+    λ site_memory. ask_stops c.requires _ c.in-Err.ensures (some_number _) site_memory
 
 pub send-requires : goal.send-requires
-send-requires c =
-    c.requires.few_carried
+send-requires c = c.requires.few_carried
 
-pub returns : goal.returns
-returns c =
-    let answer = c.next_announcement-answer in
-    λ site_memory.
-    ask_goes c.requires answer.result answer.ensures c.if-answer-ne-NO_REFUSAL.false site_memory
-    c.send.result c.send.ensures
+pub returns-in-Ok : goal.returns-in-Ok
+returns-in-Ok c =
+    λ site_memory. ask_goes c.requires _ c.in-Ok.ensures refl site_memory _ c.send.ensures

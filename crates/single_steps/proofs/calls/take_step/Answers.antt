@@ -6,7 +6,7 @@ use Rattle.single_steps.proofs.calls.take_step.Goals as goal
 pub ask-requires : goal.ask-requires
 ask-requires c =
     let asks = c.requires.1 in
-    let none = c.if-waiting-eq0.true in
+    let none = c.if-progress-eq0.true in
     record {
       not_refused = asks.not_refused;
       few_carried = asks.few_carried;
@@ -14,8 +14,8 @@ ask-requires c =
       announces = asks.announces none;
     }
 
-pub returns-then-waiting-eq0 : goal.returns-then-waiting-eq0
-returns-then-waiting-eq0 c =
+pub returns-then-progress-eq0 : goal.returns-then-progress-eq0
+returns-then-progress-eq0 c =
     c.ask.ensures c.args.site_memory.now
 
 pub hand_to_coordinator-requires : goal.hand_to_coordinator-requires
@@ -24,7 +24,7 @@ hand_to_coordinator-requires c =
     record {
       not_refused = asks.not_refused;
       few_carried = asks.few_carried;
-      some = c.if-waiting-eq0.false;
+      some = c.if-progress-eq0.false;
       few = asks.few;
       way_is = sym c.to_coordinator.ensures ∙ c.if-to_coordinator.true;
     }
@@ -40,7 +40,7 @@ hand_to_site-requires c =
       record {
         not_refused = asks.not_refused;
         few_carried = asks.few_carried;
-        some = c.if-waiting-eq0.false;
+        some = c.if-progress-eq0.false;
         few = asks.few;
         way_is = sym c.to_coordinator.ensures ∙ c.if-to_coordinator.false;
       },

@@ -12,9 +12,8 @@ use Rattle.model.specs.Held.{held_by}
 use Rattle.model.specs.Settings.{settings_refusal}
 use Rattle.record_numbers.specs.Numbers.{settings_from, settings_numbers, sites_from, sites_numbers, coordinator_read, coordinator_numbers}
 use Rattle.library_rows.specs.Rows.{Row, Number, handed_out}
-use Rattle.snapshot_file.specs.declared.Saved.{Saved}
-use Rattle.snapshot_file.specs.declared.Loaded.{Loaded}
 use Rattle.snapshot_file.specs.Layout.{file_length}
+use Rattle.snapshot_file.specs.Answers.{SaveAnswer, LoadAnswer}
 use Rattle.snapshot_file.specs.Calls.{SaveSays, LoadSays}
 
 pub record FileLengthExported (settings : Row) (length : Number) (answer : ℕ) : Type 0 where
@@ -24,12 +23,12 @@ pub record FileLengthExported (settings : Row) (length : Number) (answer : ℕ) 
       (file_length (settings_from settings.before)) length.before
 
 -- The length where the file was written.
-pub record HandLengthSays (saved : Saved) (length : Number) : Type 0 where
+pub record HandLengthSays (saved : SaveAnswer) (length : Number) : Type 0 where
   pub length_is : length.after ≡ handed_out saved.refusal saved.length length.before
 
 pub record SaveExported (settings decks desk deck_memory desk_memory bytes : Row) (length : Number)
     (answer : ℕ) : Type 0 where
-  pub saved : Saved
+  pub saved : SaveAnswer
   pub says : SaveSays (settings_from settings.before)
       (held_by (sites_from decks.before) (coordinator_read desk.before) deck_memory.before
       desk_memory.before)
@@ -38,7 +37,7 @@ pub record SaveExported (settings decks desk deck_memory desk_memory bytes : Row
   pub file_length_lem : HandLengthSays saved length
 
 -- Settings and both records.
-pub record HandBenchSays (loaded : Loaded) (settings decks desk : Row) : Type 0 where
+pub record HandBenchSays (loaded : LoadAnswer) (settings decks desk : Row) : Type 0 where
   pub settings_are : settings.after
       ≡ handed_out loaded.refusal (settings_numbers loaded.settings) settings.before
   pub decks_are : decks.after
@@ -48,7 +47,7 @@ pub record HandBenchSays (loaded : Loaded) (settings decks desk : Row) : Type 0 
 
 pub record LoadExported (file settings decks desk deck_memory desk_memory : Row) (answer : ℕ)
     : Type 0 where
-  pub loaded : Loaded
+  pub loaded : LoadAnswer
   pub says : LoadSays file.before deck_memory.before desk_memory.before
       deck_memory.after desk_memory.after loaded
   pub refusal : answer ≡ loaded.refusal

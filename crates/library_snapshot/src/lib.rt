@@ -6,13 +6,17 @@
 ghost use Rattle.std.specs.Prelude.{◌≡◌};
 ghost use Rattle.library_rows.specs.Rows.{lent};
 ghost use Rattle.record_numbers.specs.Numbers.{settings_numbers};
+ghost use Rattle.snapshot_file.specs.Calls.{save_answer, load_answer};
 ghost use Rattle.library_snapshot.specs.Snapshot.{FileLengthExported, HandLengthSays, SaveExported, HandBenchSays, LoadExported};
 
 use coordinator_numbers::{COORDINATOR_NUMBERS, coordinator_from, coordinator_row};
-use model::{NO_REFUSAL, Settings, Word};
+use model::{NO_REFUSAL, Refusal, Settings, Word};
 use record_numbers::{SETTINGS_NUMBERS, settings_from};
+use settings::test_settings;
 use site_numbers::{SITES_NUMBERS, sites_from, sites_row};
-use snapshot_file::{Loaded, Saved};
+use snapshot_file::{Loaded, file_length};
+use snapshot_loading::load_bench;
+use snapshot_saving::save_bench;
 
 // How many bytes a file has, by the settings alone.
 pub fn tracker_file_length(settings: &[u32; SETTINGS_NUMBERS], length: &mut usize) -> u32
@@ -20,19 +24,24 @@ pub fn tracker_file_length(settings: &[u32; SETTINGS_NUMBERS], length: &mut usiz
         result }
 {
     let rules = settings_from(settings);
-    let refusal = settings::test_settings(rules);
-    if refusal == NO_REFUSAL {
-        *length = snapshot_file::file_length(rules);
+    if let Err(refusal) = test_settings(rules) {
+        return refusal.number();
     }
-    refusal
+    *length = file_length(rules);
+    NO_REFUSAL
 }
 
-// How many bytes the file has, where it was written.
-fn hand_length(saved: Saved, length: &mut usize)
-    ensures { HandLengthSays saved (lent length.old length.new) }
+// How many bytes the file has, where it was written; and the number of the refusal, or 0.
+fn hand_length(saved: Result<usize, Refusal>, length: &mut usize) -> u32
+    ensures length { HandLengthSays (save_answer saved) (lent length.old length.new) }
+    ensures refusal { result ≡ (save_answer saved).refusal }
 {
-    if saved.refusal == NO_REFUSAL {
-        *length = saved.length;
+    match saved {
+        Ok(written) => {
+            *length = written;
+            NO_REFUSAL
+        }
+        Err(refusal) => refusal.number(),
     }
 }
 
@@ -51,7 +60,7 @@ pub fn tracker_save(
         (lent deck_memory.now deck_memory.now) (lent desk_memory.now desk_memory.now)
         (lent bytes.old bytes.new) (lent length.old length.new) result }
 {
-    let saved = snapshot_saving::save_bench(
+    let saved = save_bench(
         settings_from(settings),
         sites_from(decks),
         coordinator_from(desk),
@@ -59,8 +68,7 @@ pub fn tracker_save(
         desk_memory,
         bytes,
     );
-    hand_length(saved, length);
-    saved.refusal
+    hand_length(saved, length)
 }
 
 // Settings as a row of numbers.
@@ -77,23 +85,25 @@ fn settings_row(settings: Settings) -> [u32; SETTINGS_NUMBERS]
     ]
 }
 
-// What a file holds, where it is accepted.
+// What a file holds, where it is accepted; and the number of the refusal, or 0.
 fn hand_bench(
-    loaded: Loaded,
+    loaded: Result<Loaded, Refusal>,
     settings: &mut [u32; SETTINGS_NUMBERS],
     decks: &mut [u64; SITES_NUMBERS],
     desk: &mut [u64; COORDINATOR_NUMBERS],
-)
-    ensures { HandBenchSays loaded (lent settings.old settings.new) (lent decks.old decks.new)
-        (lent desk.old desk.new) }
+) -> u32
+    ensures rows { HandBenchSays (load_answer loaded) (lent settings.old settings.new)
+        (lent decks.old decks.new) (lent desk.old desk.new) }
+    ensures refusal { result ≡ (load_answer loaded).refusal }
 {
-    if loaded.refusal == NO_REFUSAL {
-        let rules = loaded.settings;
-        let sites = loaded.sites;
-        let coordinator = loaded.coordinator;
-        *settings = settings_row(rules);
-        *decks = sites_row(sites);
-        *desk = coordinator_row(coordinator);
+    match loaded {
+        Ok(bench) => {
+            *settings = settings_row(bench.settings);
+            *decks = sites_row(bench.sites);
+            *desk = coordinator_row(bench.coordinator);
+            NO_REFUSAL
+        }
+        Err(reason) => reason.number(),
     }
 }
 
@@ -110,7 +120,10 @@ pub fn tracker_load(
         (lent decks.old decks.new) (lent desk.old desk.new)
         (lent deck_memory.old deck_memory.new) (lent desk_memory.old desk_memory.new) result }
 {
-    let loaded = snapshot_loading::load_bench(file, deck_memory, desk_memory);
-    hand_bench(loaded, settings, decks, desk);
-    loaded.refusal
+    hand_bench(
+        load_bench(file, deck_memory, desk_memory),
+        settings,
+        decks,
+        desk,
+    )
 }

@@ -1,11 +1,11 @@
 -- `save_bench` on what the rows stand for, and the length that it answers.
-use mathlib.Core.Path.{refl}
+use Rattle.snapshot_file.specs.Calls.{save_answer}
 use Rattle.library_snapshot.proofs.tracker_save.Goals as goal
 
 pub returns : goal.returns
 returns c =
     record {
-      saved = c.save_bench-saved.result;
+      saved = save_answer c.save_bench-saved.result;
       says =
           rw (
             c.settings_from.ensures,
@@ -13,6 +13,6 @@ returns c =
             c.coordinator_from.ensures,
           )
           at c.save_bench-saved.ensures;
-      refusal = refl;
-      file_length_lem = c.hand_length.ensures;
+      refusal = c.hand_length.ensures.refusal;
+      file_length_lem = c.hand_length.ensures.length;
     }

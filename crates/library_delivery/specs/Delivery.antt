@@ -5,13 +5,12 @@
 --   DeliveryExported        the promise of the call
 use Rattle.std.specs.Prelude.{◌≡◌, [], ◌∷◌, ℕ}
 use Rattle.model.specs.Held.{held_by}
-use Rattle.single_outcome.specs.declared.DeliveryAnswer.{DeliveryAnswer}
-use Rattle.single_outcome.specs.Delivery.{DeliverySays}
+use Rattle.single_outcome.specs.Delivery.{DeliveryOutcome, DeliverySays}
 use Rattle.record_numbers.specs.Numbers.{settings_from, arrival_from, sites_from, sites_numbers, coordinator_read, coordinator_numbers}
 use Rattle.library_rows.specs.Rows.{Row, handed_out}
 
 -- Both records, how many messages went out, and what stopped the delivery.
-pub record HandDeliverySays (done : DeliveryAnswer) (decks desk delivery : Row) : Type 0 where
+pub record HandDeliverySays (done : DeliveryOutcome) (decks desk delivery : Row) : Type 0 where
   pub decks_are : decks.after
       ≡ handed_out done.refusal (sites_numbers done.sites) decks.before
   pub desk_is : desk.after
@@ -21,7 +20,7 @@ pub record HandDeliverySays (done : DeliveryAnswer) (decks desk delivery : Row) 
 
 pub record DeliveryExported (settings decks desk deck_memory desk_memory draw delivery : Row)
     (answer : ℕ) : Type 0 where
-  pub done : DeliveryAnswer
+  pub done : DeliveryOutcome
   pub says : DeliverySays (settings_from settings.before) (arrival_from draw.before)
       (held_by (sites_from decks.before) (coordinator_read desk.before) deck_memory.before
       desk_memory.before)

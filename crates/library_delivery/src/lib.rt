@@ -1,38 +1,19 @@
 // A draw with full delivery, as a call of the library (tracker.h): records are rows of numbers
 // behind pointers, which C sees as structs.
+// As it is: the call answers with the number of its refusal, or 0, since the C interface needs it.
 
 #![tactic(auto)]
 
 ghost use Rattle.library_rows.specs.Rows.{lent};
-ghost use Rattle.library_delivery.specs.Delivery.{DeliveryExported, HandDeliverySays};
+ghost use Rattle.library_delivery.specs.Delivery.{DeliveryExported};
 
 use coordinator_numbers::{COORDINATOR_NUMBERS, coordinator_from, coordinator_row};
 use model::{NO_REFUSAL, Word};
 use record_numbers::{ARRIVAL_NUMBERS, SETTINGS_NUMBERS, arrival_from, settings_from};
-use single_outcome::DeliveryAnswer;
 use site_numbers::{SITES_NUMBERS, sites_from, sites_row};
 
 // How many messages went out, and the number of a call that stopped the delivery, or 0.
 pub const DELIVERY_NUMBERS: usize = 2;
-
-// What a delivery hands back, where the draw is accepted.
-fn hand_delivery(
-    done: DeliveryAnswer,
-    decks: &mut [u64; SITES_NUMBERS],
-    desk: &mut [u64; COORDINATOR_NUMBERS],
-    delivery: &mut [u64; DELIVERY_NUMBERS],
-)
-    ensures { HandDeliverySays done (lent decks.old decks.new) (lent desk.old desk.new)
-        (lent delivery.old delivery.new) }
-{
-    if done.refusal == NO_REFUSAL {
-        let sites = done.sites;
-        let coordinator = done.coordinator;
-        *decks = sites_row(sites);
-        *desk = coordinator_row(coordinator);
-        *delivery = [done.carried, done.stopped as u64];
-    }
-}
 
 // `single_delivery::deliver_arrival`.
 pub fn tracker_deliver(
@@ -49,14 +30,23 @@ pub fn tracker_deliver(
         (lent deck_memory.old deck_memory.new) (lent desk_memory.old desk_memory.new)
         (lent draw.now draw.now) (lent delivery.old delivery.new) result }
 {
-    let done = single_delivery::deliver_arrival(
+    match single_delivery::deliver_arrival(
         settings_from(settings),
         sites_from(decks),
         coordinator_from(desk),
         arrival_from(draw),
         deck_memory,
         desk_memory,
-    );
-    hand_delivery(done, decks, desk, delivery);
-    done.refusal
+    ) {
+        Err(refusal) => refusal.number(),
+        Ok(done) => {
+            *decks = sites_row(done.sites);
+            *desk = coordinator_row(done.coordinator);
+            *delivery = [done.carried, 0];
+            if let Some(stopped) = done.stopped {
+                delivery[1] = stopped.number() as u64;
+            }
+            NO_REFUSAL
+        }
+    }
 }

@@ -51,7 +51,7 @@ pub fn deliver_arrival(
     let begun = begin(settings, sites, coordinator, arrival, site_memory)?;
     // A touch: its site has left all as it was.
     if !site_refusals::is_draw(arrival) {
-        return Ok(leave(sites, coordinator));
+        return leave(sites, coordinator);
     }
     // Every message handed over, answers included, and kind 7 asked for until all is at rest.
     let ended = deliver(settings, begun, site_memory, coordinator_memory);
@@ -64,14 +64,15 @@ pub fn deliver_arrival(
 }
 
 // A touch: nothing went out, and the records are as they were.
-fn leave(sites: Sites, coordinator: CoordinatorRecord) -> DeliveryAnswer
+fn leave(sites: Sites, coordinator: CoordinatorRecord) -> Result<DeliveryAnswer, Refusal>
     ensures { result
-        ≡ record { carried = 0; stopped = None; sites = sites; coordinator = coordinator } }
+        ≡ Ok (record { carried = 0; stopped = None; sites = sites; coordinator = coordinator }) }
 {
-    DeliveryAnswer {
+    let left = DeliveryAnswer {
         carried: 0,
         stopped: None,
         sites,
         coordinator,
-    }
+    };
+    Ok(left)
 }

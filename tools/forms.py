@@ -5,8 +5,8 @@
     python3 tools/forms.py -v       with every place
     python3 tools/forms.py ROOT     of another copy of the tree
 
-A place below a line '// As it is: REASON' (or in a function or type whose comment has one) is
-counted as kept.
+A place is counted as kept below a line '// As it is: REASON', in a function or type whose comment
+has one, and in a file that has one at its head.
 """
 import os
 import re
@@ -36,11 +36,11 @@ LINES = [
     ("1", "a kind of message by its constant", r"kind (==|!=) (%s)\b" % KINDS),
     ("1", "a kind or a phase by its number", r"\b(which|kind|count|refusal) (==|!=|<) [0-9]"),
     ("3", "a loop that is no `for`", r"^\s*(while|loop)\b|= loop\b"),
-    ("4", "a field copied by its name", r"^\s*(\w+): (?!self\b)\w+\.\1,$"),
     ("4", "a field from the variable of its name", r"^\s*(\w+): \1,$"),
     ("4", "a conversion by hand",
      r"\bfn (\w+_from|\w+_row|\w+_numbers|widened|wide|narrow|digit_byte|class_number)\("),
-    ("6", "a place or a length beside a slice", r"^\s*(pub )?fn .*\[[^\]]*\], (at|place|from|count|used|length|first|start): usize"),
+    ("6", "a place or a length beside a slice",
+     r"^\s*(pub )?fn .*\[[^\]]*\], (at|place|from|count|used|length|first|start): usize"),
     ("7", "a function as a value", r"\bfn\(|\bdyn Fn|: &?\[fn"),
 ]
 
@@ -59,7 +59,7 @@ def items(text):
     lines = text.split("\n")
     at = 0
     while at < len(lines):
-        begun = re.match(r"^(\s*)(pub )?(const )?(extern \"C\" )?fn (\w+)", lines[at].replace("unsafe ", ""))
+        begun = re.match(r"^(\s*)(pub )?(const )?(extern \"C\" )?fn (\w+)", lines[at])
         if not begun:
             at += 1
             continue
@@ -137,11 +137,22 @@ for crate, path in sources():
     for top, end, name, body in spans:
         if any("As it is:" in x for x in lines[top:end + 1]):
             first = next(k for k in range(top, end + 1) if "As it is:" in lines[k])
-            if re.match(r"^\s*//", lines[first]) and first < top + 40 and lines[first].startswith("//"):
+            if lines[first].startswith("//"):
                 for k in range(top, end + 1):
                     reason[k] = True
+    run = []
+    for number, line in enumerate(lines + [""]):
+        copied = re.match(r"^\s*(\w+): (\w+)\.\1,$", line)
+        if copied and (not run or run[-1][1] == copied.group(2)):
+            run.append((number, copied.group(2)))
+            continue
+        if len(run) > 2:
+            note("4", "three fields or more copied by their names",
+                 "%s/%s:%d %s" % (crate, os.path.basename(path), run[0][0] + 1, run[0][1]),
+                 whole or reason[run[0][0]])
+        run = [(number, copied.group(2))] if copied else []
     for number, line in enumerate(lines):
-        if line.lstrip().startswith("//") or line.startswith("ghost use") or line.startswith("use "):
+        if re.match(r"\s*//|ghost use |use ", line):
             continue
         if re.match(r"^\s+[A-Z_0-9, ]+,?( \w+,)*$", line) and "{" not in line and "(" not in line:
             continue

@@ -10,6 +10,8 @@
 
 ghost use Rattle.std.specs.Prelude.{◌≡◌};
 ghost use Rattle.model.specs.Held.{held_by};
+ghost use Rattle.model.specs.NetworkMemory.{network_refusal};
+ghost use Rattle.model.specs.Refusals.{refusal_told};
 ghost use Rattle.single_outcome.specs.Delivery.{delivery_outcome, DeliverySays};
 
 use model::{Arrival, CoordinatorRecord, Refusal, Settings, Sites, Word};
@@ -17,6 +19,27 @@ use single_begin::begin;
 use single_outcome::DeliveryAnswer;
 use single_steps::deliver;
 use tracker_memory::test_network;
+
+// What is tested before anything changes: 1, 2, 3; then 4 and 11 of the whole network.
+fn test_start(
+    settings: Settings,
+    sites: Sites,
+    coordinator: CoordinatorRecord,
+    site_memory: &[Word],
+    coordinator_memory: &[u64],
+) -> Result<(), Refusal>
+    ensures { refusal_told result
+        ≡ network_refusal settings sites coordinator
+        site_memory.now coordinator_memory.now }
+{
+    test_network(
+        settings,
+        sites,
+        coordinator,
+        site_memory,
+        coordinator_memory,
+    )
+}
 
 // One arrival with full delivery. Refused, it changes nothing: 1, 2, 3; then 4 and 11 of the whole
 // network, coordinator and all; then 5, 6, 7, 8. Nor does a touch, which is not tested for 8.
@@ -37,7 +60,7 @@ pub fn deliver_arrival(
         coordinator_memory.new) outcome }
 {
     // 1, 2, 3; then 4 and 11: what is short or inconsistent is met before anything changes.
-    test_network(
+    test_start(
         settings,
         sites,
         coordinator,

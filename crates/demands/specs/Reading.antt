@@ -39,8 +39,8 @@ FirmShare settings item arrivals =
     ≤ 6000 * count_of item arrivals + 5 * settings.epsilon * counted arrivals
 
 -- The list call, with a list of so many places before and after it.
-pub record ListRight (settings : Settings) (state : State) (before after : List ℕ) (answer : ListAnswer)
-    : Type 0 where
+pub record ListRight (settings : Settings) (state : State) (before after : List ℕ)
+    (answer : ListAnswer) : Type 0 where
   -- with places enough it is accepted, and otherwise refused by 12
   pub enough_places : length (heavy_hitters settings (rules_coordinator settings state))
       ≤ length before

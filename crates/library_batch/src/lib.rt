@@ -49,8 +49,8 @@ fn close_rows(
     coordinator: &mut [u64; COORDINATOR_NUMBERS],
     counts: &mut [u64; COUNTS_NUMBERS],
 ) -> u32
-    ensures { CloseRowsSays (batch_outcome done) (lent sites.old sites.new) (lent coordinator.old coordinator.new)
-        (lent counts.old counts.new) result }
+    ensures { CloseRowsSays (batch_outcome done) (lent sites.old sites.new)
+        (lent coordinator.old coordinator.new) (lent counts.old counts.new) result }
 {
     *counts = [done.accepted, done.written];
     if 0 < done.accepted {

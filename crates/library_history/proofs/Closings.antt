@@ -13,8 +13,7 @@ use Rattle.model.specs.Settings.{settings_refusal}
 use Rattle.model.specs.CoordinatorMemory.{coordinator_words}
 use Rattle.model.specs.NetworkMemory.{sites_words}
 use Rattle.record_numbers.specs.Numbers.{sites_from, coordinator_read}
-use Rattle.snapshot_file.specs.declared.Saved.{Saved}
-use Rattle.snapshot_file.specs.declared.Loaded.{Loaded}
+use Rattle.snapshot_file.specs.Answers.{LoadAnswer, SaveAnswer}
 use Rattle.snapshot_file.specs.Layout.{file_length}
 use Rattle.snapshot_file.specs.File.{file_of, save_refusal}
 use Rattle.snapshot_file.specs.Reading as Reading
@@ -54,7 +53,7 @@ module _ {settings : Settings} (bench : Bench) (state : State)
     abbrev lent : Held
     lent = lending (held_in bench) (fronts save.deck_lent save.desk_lent)
 
-    abbrev saved : Saved
+    abbrev saved : SaveAnswer
     saved = save.says.saved
 
     save_says : SaveSays settings lent save.bytes.before save.bytes.after saved
@@ -104,7 +103,7 @@ module _ {settings : Settings} (bench : Bench) (state : State)
       none = sym save_says.refusal ∙ save_accepted
 
       module _ {other : Bench} (load : LoadCall other) (same : load.file ≡ file_by save) where
-        abbrev loaded : Loaded
+        abbrev loaded : LoadAnswer
         loaded = load.says.loaded
 
         abbrev deck_room : List ℕ

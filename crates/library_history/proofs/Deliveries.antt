@@ -19,8 +19,7 @@ use Rattle.history.specs.Histories.{Reachable, Deliveries, no_step, delivered, r
 use Rattle.history.proofs.Answers.{left_choice}
 use Rattle.history.proofs.Refused.{refused_same}
 use Rattle.history.proofs.DeliveredState.{step_keeps}
-use Rattle.single_outcome.specs.declared.DeliveryAnswer.{DeliveryAnswer}
-use Rattle.single_outcome.specs.Delivery.{delivery_in, ArrivalDelivered, HistoryGoesOn}
+use Rattle.single_outcome.specs.Delivery.{DeliveryOutcome, delivery_in, ArrivalDelivered, HistoryGoesOn}
 use Rattle.library_history.specs.Bench.{Bench, held_in}
 use Rattle.library_history.specs.Calls.{DeliverCall, after_deliver}
 use Rattle.library_history.specs.Used.{delivering}
@@ -58,7 +57,7 @@ module _ {bench : Bench} (call : DeliverCall bench) where
   abbrev draw : Arrival
   draw = arrival_from call.draw.before
 
-  abbrev done : DeliveryAnswer
+  abbrev done : DeliveryOutcome
   done = call.says.done
 
   -- What the call hands back, before it is written to the rows.

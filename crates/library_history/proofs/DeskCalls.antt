@@ -23,7 +23,7 @@ use Rattle.history.specs.State.{State, coordinator_part, after_coordinator_call,
 use Rattle.history.specs.Steps.{received_out, to_coordinator_lem, next_announcement, coordinator_message_refused, announcement_refused, delivers, refuses}
 use Rattle.history.specs.Histories.{Reachable, stepped}
 use Rattle.history.proofs.Answers.{accepted_choice, refused_choice}
-use Rattle.coordinator.specs.declared.Received.{Received}
+use Rattle.coordinator.specs.Calls.{Reception}
 use Rattle.library_rows.specs.Rows.{Number, handed_out}
 use Rattle.library_history.specs.Bench.{Bench, held_in, with_front}
 use Rattle.library_history.specs.Calls.{out_of, DeskMessageCall, after_desk_message, AnnouncementCall, after_announcement}
@@ -35,7 +35,7 @@ use Rattle.library_history.proofs.RecordRows.{handed, stays_long, length_coordin
 -- ---- The desk's row
 
 -- After a call that hands back a coordinator's answer.
-module _ (desk deskThen : List ℕ) (answer : Received)
+module _ (desk deskThen : List ℕ) (answer : Reception)
     (are : deskThen
     ≡ handed_out answer.refusal (coordinator_numbers answer.coordinator) desk) where
   abbrev Reads : Type 0

@@ -9,7 +9,6 @@ use Rattle.model.specs.CoordinatorMemory.{coordinator_words}
 use Rattle.model.specs.NetworkMemory.{sites_words}
 use Rattle.model.specs.Instances.{settings_a, draw}
 use Rattle.model.specs.TouchInstances.{touch}
-use Rattle.record_numbers.specs.Numbers.{message_numbers, coordinator_numbers}
 use Rattle.tracker.specs.Batch as Batch
 use Rattle.history.specs.State.{State}
 use Rattle.history_examples.specs.Example as History

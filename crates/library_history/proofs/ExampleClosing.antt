@@ -19,8 +19,7 @@ use Rattle.model.specs.CoordinatorMemory.{coordinator_words}
 use Rattle.model.specs.NetworkMemory.{sites_words, fresh_sites}
 use Rattle.record_numbers.specs.Numbers.{settings_numbers, sites_numbers, coordinator_numbers}
 use Rattle.library_rows.specs.Rows.{handed_out}
-use Rattle.snapshot_file.specs.declared.Saved.{Saved}
-use Rattle.snapshot_file.specs.declared.Loaded.{Loaded}
+use Rattle.snapshot_file.specs.Answers.{LoadAnswer, SaveAnswer}
 use Rattle.snapshot_file.specs.Layout.{file_length}
 use Rattle.snapshot_file.specs.File.{file_of, save_refusal}
 use Rattle.snapshot_file.specs.Reading.{settings_in, load_refusal}
@@ -41,7 +40,7 @@ module _ (settings : Settings) (bench : Bench) where
   abbrev eights : List ℕ
   eights = replicate (file_length settings) 8
 
-  abbrev saved : Saved
+  abbrev saved : SaveAnswer
   saved = record {
     refusal = save_refusal settings lent (length eights);
     length = if is_zero (save_refusal settings lent (length eights)) then file_length settings else
@@ -75,7 +74,7 @@ module _ (other : Bench) (deck_count desk_count : ℕ) (file : List ℕ) where
   abbrev refusal : ℕ
   refusal = load_refusal file (length deck_room) (length desk_room)
 
-  abbrev loaded : Loaded
+  abbrev loaded : LoadAnswer
   loaded = record {
     refusal = refusal;
     settings = if is_zero refusal then settings_in file else zero_settings;

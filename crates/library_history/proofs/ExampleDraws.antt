@@ -14,8 +14,8 @@ use Rattle.model.specs.Limits.{value_count}
 use Rattle.model.specs.Draws.{is_taken}
 use Rattle.model.specs.Messages.{item_report, count_report}
 use Rattle.model.specs.NetworkMemory.{fresh_sites}
-use Rattle.model.specs.Instances.{settings_a, draw}
-use Rattle.record_numbers.specs.Numbers.{settings_numbers, message_numbers, coordinator_numbers}
+use Rattle.model.specs.Instances.{settings_a}
+use Rattle.record_numbers.specs.Numbers.{settings_numbers, message_numbers}
 use Rattle.history.specs.State.{State}
 use Rattle.history_examples.specs.Example as History
 use Rattle.history_examples.specs.Example.{site_after, site_numbers, coordinator_with, started_state, after_draw, after_item_report}

@@ -5,7 +5,7 @@ use lib.ListN.{take}
 use Rattle.model.specs.declared.Phase.TheVariants.{Idle, Collecting, Announcing}
 use Rattle.model.specs.Limits.{value_count}
 use Rattle.model.specs.Messages.{no_message, item_report, count_report, poll, poll_answer, announcement}
-use Rattle.record_numbers.specs.Numbers.{message_numbers, coordinator_numbers}
+use Rattle.record_numbers.specs.Numbers.{message_numbers}
 use Rattle.history_examples.specs.Example as History
 use Rattle.history_examples.specs.Example.{site_after, coordinator_with, after_draw, after_item_report, after_count_report, after_poll, after_poll_answer, after_announcement, at_rest_again}
 use Rattle.library_history.specs.Bench.{unchanged}

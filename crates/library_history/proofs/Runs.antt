@@ -12,7 +12,7 @@ use borrow.Author.Tests.{eq-eqb, ne_eqb}
 use Rattle.model.specs.declared.Settings.{Settings}
 use Rattle.model.specs.Draws.{draws_of}
 use Rattle.record_numbers.specs.Numbers.{sites_width, settings_from, sites_from, sites_numbers, coordinator_read, coordinator_numbers}
-use Rattle.tracker_steps.specs.declared.BatchAnswer.{BatchAnswer}
+use Rattle.tracker_steps.specs.Steps.{BatchOutcome}
 use Rattle.tracker.specs.Batch.{BatchHeld, batch_held, BatchSays, messages_in}
 use Rattle.history.specs.State.{Held, held_by, State, AtRest, fronts, lending, put_back, holding}
 use Rattle.history.specs.Steps.{batch_call, after_batch, batch, batch_takes_none, Refuses, arrives, refuses}
@@ -47,7 +47,7 @@ module _ {bench : Bench} (call : RunCall bench) where
   abbrev given : Settings
   given = settings_from call.settings.before
 
-  abbrev done : BatchAnswer
+  abbrev done : BatchOutcome
   done = call.says.done
 
   pub run_decks_long : length bench.decks ≡ sites_width → length call.decks ≡ sites_width

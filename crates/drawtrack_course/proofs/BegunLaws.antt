@@ -21,9 +21,9 @@ use Rattle.model.specs.Lines.{Fields, malformed, fields, line_feed, read_fields}
 use Rattle.model.specs.Transcript.{refused_line}
 use Rattle.model.proofs.Worklists.LineTaken.{fields_taken}
 use Rattle.worklist_reader.specs.Promises.{line_refusal, settings_in, bytes_after}
-use Rattle.site_start.specs.declared.StartedSites.{StartedSites}
+use Rattle.site_start.specs.Starts.{SitesStart}
 use Rattle.site_start.specs.Starts as SiteStarts
-use Rattle.coordinator.specs.declared.StartedCoordinator.{StartedCoordinator}
+use Rattle.coordinator.specs.Calls.{CoordinatorStart}
 use Rattle.coordinator.specs.Calls as CoordinatorCalls
 use Rattle.history.specs.State.{State}
 use Rattle.history.specs.Histories.{start_state}
@@ -62,10 +62,10 @@ rest_read input = by_fields (read_fields 6 input) refl
 
 module _ (settings : Settings) (at : ℕ) (site_memory memory : List ℕ)
     (fit : Served settings (length site_memory) (length memory)) where
-  abbrev sites : StartedSites
+  abbrev sites : SitesStart
   sites = record { refusal = SiteStarts.start_refusal settings site_memory; sites = fresh_sites }
 
-  abbrev coordinator : StartedCoordinator
+  abbrev coordinator : CoordinatorStart
   coordinator = record {
     refusal = CoordinatorCalls.start_refusal settings (length memory);
     coordinator = coordinator_record (fresh_coordinator settings);

@@ -1,6 +1,8 @@
 -- The answer of the run follows from the response.
 --
 --   run_says            what a response is worth as the answer of the run
+--   whole_of            an input was read whole where that is the answer
+--   says_read, hands_read   the response to what the answer of the reading says
 --   first_of            what was read is the first bytes of the input, as many as matter
 --   run_gives           what it makes of an input
 use Rattle.std.proofs.Common.{◌≡◌, ◌≢◌, refl, sym, ap, ◌∙◌, subst, Bool, true, false, List, [], ◌++◌, ℕ, ◌<◌, ◌≤◌, ltb, length, take, append-nil, take_all, take_at, length-take-le, arith, IfSome}
@@ -9,7 +11,9 @@ use Rattle.std.specs.declared.option.Option.{Option}
 use Rattle.std.specs.Prelude.{Some, None}
 use Rattle.std.specs.Io.KnownBytes.{Appends}
 use borrow.Author.Tests.{ltb-true, ltb-false}
-use Rattle.descriptors.specs.Descriptors.{Read, ReadAllGives}
+use Rattle.std.specs.Prelude.{Result, Ok, Err, is_ok}
+use Rattle.descriptors.specs.declared.ReadFailed.{ReadFailed}
+use Rattle.descriptors.specs.Descriptors.{Read, read_in, ReadAllGives}
 use Rattle.drawtrack_steps.specs.Outcome.{Buffers}
 use Rattle.drawtrack_course.specs.Rooms.{input_room}
 use Rattle.drawtrack_course.specs.Ending.{Ending, ending}
@@ -29,6 +33,29 @@ run_says read input given left before after answer few says = by_failed answer.f
     by_failed false fine = subst RunSays (sym (says.status ∙ rw fine)) (answered input few)
 
 -- ---- The bytes
+
+-- What the code has of a reading is what its answer says.
+pub whole_of : (read : Result ℕ ReadFailed) → is_ok read ≡ (read_in read).whole
+whole_of (Ok count) = refl
+whole_of (Err lost) = refl
+
+module _ (bytes : List ℕ) (read : Read) (whole : Bool) (count : ℕ) (whole_is : whole ≡ read.whole)
+    (count_is : count ≡ read.length) where
+  pub says_read : (given left : Buffers) (before after : List ℕ) (answer : Response)
+      → RespondSays whole (take count bytes) given left before after answer
+      → RespondSays read.whole (take read.length bytes) given left before after answer
+  says_read given left before after answer says =
+      subst (λ (n : ℕ). RespondSays read.whole (take n bytes) given left before after answer)
+      count_is
+      (subst (λ (all : Bool). RespondSays all (take count bytes) given left before after answer)
+      whole_is says)
+
+  pub hands_read : (held then : Option (List ℕ)) (answer : Response)
+      → RespondHands whole (take count bytes) held then answer
+      → RespondHands read.whole (take read.length bytes) held then answer
+  hands_read held then answer hands =
+      subst (λ (n : ℕ). RespondHands read.whole (take n bytes) held then answer) count_is
+      (subst (λ (all : Bool). RespondHands all (take count bytes) held then answer) whole_is hands)
 
 -- Either nothing is left, or as many were read as matter.
 pub first_of : (whole piece rest : List ℕ) (room : ℕ)

@@ -1,7 +1,10 @@
 -- The end of the worklist: the call that writes the results does what its definition says.
 --
 --   settings_pass                      the list call is accepted for settings that pass alone
+--   quantile_or_none                   the quantile that was read, none where it is refused
 --   finish_refused, finish_listed      the two answers
+use Rattle.std.specs.Prelude.{Result, Ok, Err, Option, None}
+use Rattle.std.specs.Result.{result_unwrap_or}
 use mathlib.Core.Path.{◌≡◌, refl, sym, ap, ◌∙◌}
 use mathlib.Core.List.{List, [], ◌∷◌, ◌++◌}
 use Prim.Native.Nat.{ℕ}
@@ -9,6 +12,7 @@ use lib.ListN.{length, take}
 use lib.Seq.{take_at}
 use borrow.Author.Tests.{eq-eqb, ne_eqb}
 use Rattle.model.specs.declared.Settings.{Settings}
+use Rattle.model.specs.declared.Refusal.{Refusal}
 use Rattle.model.specs.Refusals.{no_refusal}
 use Rattle.model.specs.Settings.{settings_refusal}
 use Rattle.model.specs.SiteMemory.{overwrite}
@@ -18,7 +22,7 @@ use Rattle.model.specs.Reading.{heavy_hitters, quantile_of}
 use Rattle.model.specs.Transcript.{end_line, class_word, messages_word, quantile_word}
 use Rattle.model.proofs.Thresholds.RefusalLaws.{both_accepted}
 use Rattle.output_lines.specs.Promises.{counted_line, listed_line, Written, written_to, at_start, line_after, lines_after, LineWritten}
-use Rattle.coordinator_reading.specs.Promises.{QuantileAnswer, QuantileSays}
+use Rattle.coordinator_reading.specs.Promises.{QuantileAnswer, quantile_answer, QuantileSays}
 use Rattle.coordinator_list.specs.Promises.{list_refusal, ListAnswer, ListSays}
 use Rattle.message_counts.specs.Totals.{total_held}
 use Rattle.drawtrack_steps.specs.declared.Session.{Session}
@@ -34,6 +38,11 @@ settings_pass session memory listBefore listAfter listed lists none =
     let tested = coordinator_memory_refusal session.settings session.coordinator memory in
     (both_accepted (settings_refusal session.settings) _
     (both_accepted tested _ (sym lists.refusal ∙ none)).first_accepted).first_accepted
+
+pub quantile_or_none : (read : Result (Option ℕ) Refusal)
+    → result_unwrap_or read None ≡ (quantile_answer read).quantile
+quantile_or_none (Ok found) = refl
+quantile_or_none (Err refusal) = refl
 
 module _ (session : Session) (memory listBefore listAfter : List ℕ) (listed : ListAnswer)
     (lists : ListSays session.settings session.coordinator memory listBefore listAfter listed)

@@ -12,9 +12,7 @@ ghost use Rattle.drawtrack_steps.specs.Output.{PutMessagesSays};
 ghost use Rattle.drawtrack_steps.specs.Outcome.{buffers, ended, RefuseSays};
 ghost use Rattle.drawtrack_steps.specs.Steps.{DrawSays, FinishSays};
 
-use model::{
-    CoordinatorRecord, MESSAGE_WIDTH, NO_REFUSAL, Refusal, Settings, Sites, Word,
-};
+use model::{CoordinatorRecord, MESSAGE_WIDTH, NO_REFUSAL, Refusal, Settings, Sites, Word};
 use worklist_reader::NextLine;
 
 // Where a session stands: whether it goes on, why it was refused or 0, the settings, the records of

@@ -1,18 +1,21 @@
 -- The three answers of a line.
 use mathlib.Core.Path.{refl}
+use borrow.Author.Rules.{rules}
+use Rattle.model.proofs.Thresholds.RefusalLaws.{some_number}
+use Rattle.worklist_reader.specs.Walk.{step_to}
 use Rattle.drawtrack_steps.specs.Outcome.{buffers}
 use Rattle.drawtrack_session.proofs.LineLaws.{line_draw, line_malformed, line_end}
-use borrow.Author.Rules.{rules}
 use Rattle.drawtrack_session.proofs.advance.Goals as goal
 
-pub returns-then-step : goal.returns-then-step
-returns-then-step c =
+pub returns-in-Ok-Some : goal.returns-in-Ok-Some
+returns-in-Ok-Some c =
     let start = c.args in
     let given = buffers start.site_memory.now start.coordinator_memory.now start.log.now
     start.list.now start.out.now in
     record {
-      line = line_draw start.session c.read_line-step.result _ c.read_line-step.ensures given
-          _ _ _ _ _ c.if-step.true c.take_draw.ensures;
+      line = line_draw start.session (step_to c.in-Ok-Some.next) _
+          (rw c.in-Ok-Some.field-0-is at c.in-Ok-Some.ensures) given
+          _ _ _ _ _ refl c.take_draw.ensures;
       lengths = record {
         site_memory = search rules;
         coordinator_memory = search rules;
@@ -22,14 +25,14 @@ returns-then-step c =
       };
     }
 
-pub returns-then-step-ne-NO_REFUSAL : goal.returns-then-step-ne-NO_REFUSAL
-returns-then-step-ne-NO_REFUSAL c =
+pub returns-in-Err : goal.returns-in-Err
+returns-in-Err c =
     let start = c.args in
     let given = buffers start.site_memory.now start.coordinator_memory.now start.log.now
     start.list.now start.out.now in
     record {
-      line = line_malformed start.session c.read_line-step.result _ c.read_line-step.ensures
-          given _ _ c.if-step.false c.if-step-ne-NO_REFUSAL.true
+      line = line_malformed start.session _ _ c.in-Err.ensures
+          given _ _ refl (some_number c.in-Err.refusal)
           c.refuse.ensures;
       lengths = record {
         site_memory = refl;
@@ -40,14 +43,15 @@ returns-then-step-ne-NO_REFUSAL c =
       };
     }
 
-pub returns : goal.returns
-returns c =
+pub returns-in-Ok-None : goal.returns-in-Ok-None
+returns-in-Ok-None c =
     let start = c.args in
     let given = buffers start.site_memory.now start.coordinator_memory.now start.log.now
     start.list.now start.out.now in
     record {
-      line = line_end start.session c.read_line-step.result _ c.read_line-step.ensures given
-          _ _ _ c.if-step.false c.if-step-ne-NO_REFUSAL.false
+      line = line_end start.session _ _
+          (rw c.in-Ok-None.field-0-is at c.in-Ok-None.ensures) given
+          _ _ _ refl refl
           c.finish.ensures;
       lengths = record {
         site_memory = refl;

@@ -6,9 +6,9 @@ pub returns-then-turns-eq0 : goal.returns-then-turns-eq0
 returns-then-turns-eq0 c =
     let args = c.args in
     line_first args.taken args.session _ _ c.if-turns-eq0.true
-    c.start_line.ensures
+    c.start_line-line.ensures
 
-pub returns : goal.returns
-returns c =
+pub returns-else-turns-eq0 : goal.returns-else-turns-eq0
+returns-else-turns-eq0 c =
     let args = c.args in
     line_later args.taken args.session args.turns c.if-turns-eq0.false

@@ -79,7 +79,7 @@ pub extern "C" fn drawtrack_run_in_memory(
     let mut rest = input;
     let mut pieces = Pieces {
         bytes: held,
-        ends: ends,
+        ends,
         length: 0,
         count: 0,
     };

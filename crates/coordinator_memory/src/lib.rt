@@ -116,7 +116,7 @@ fn numbers_consistent(settings: Settings, coordinator: CoordinatorRecord, memory
 }
 
 // Whether record and memory are consistent. Internal: `test_coordinator_memory` tests settings
-// and length first, and so does the batch call, `network_refusal`.
+// and length first, and so does the batch call, `test_network`.
 pub fn coordinator_consistent(
     settings: Settings,
     coordinator: CoordinatorRecord,

@@ -56,7 +56,8 @@ module _ (settings : Settings) (site_memory memory : List ℕ)
 
 -- ---- The two answers
 
-module _ (input : List ℕ) (given : Buffers) (read : SettingsReadOutcome) (says : SettingsSays input read)
+module _ (input : List ℕ) (given : Buffers) (read : SettingsReadOutcome)
+    (says : SettingsSays input read)
     (session : Session) (session-is : session ≡ fresh_session read.settings read.used)
     (refusal : ℕ)
     (refusal-says : refusal

@@ -28,7 +28,8 @@ use Rattle.single_steps.proofs.StepLaws.{moved_on, went, stopped}
 
 -- ---- The next kind 7
 
-module _ {settings : Settings} {memory : List ℕ} {progress : ProgressOutcome} (asks : AskAsks progress)
+module _ {settings : Settings} {memory : List ℕ} {progress : ProgressOutcome}
+    (asks : AskAsks progress)
     (answer : Reception)
     (says : CoordinatorCalls.AnnounceSays settings progress.coordinator memory answer) where
   pub ask_stops : (answer.refusal ≡ no_refusal → ⊥)

@@ -87,7 +87,8 @@ module _ (waiting : Queue) where
 -- ---- A message that goes out
 
 -- It waits last and is counted, if there is one; records, refusal and calls left stay.
-pub record Sends (count : ℕ) (moved : ProgressOutcome) (m : Message) (after : ProgressOutcome) : Type 0 where
+pub record Sends (count : ℕ) (moved : ProgressOutcome) (m : Message) (after : ProgressOutcome)
+    : Type 0 where
   pub same_sites : after.sites ≡ moved.sites
   pub same_coordinator : after.coordinator ≡ moved.coordinator
   pub same_refusal : after.refusal ≡ moved.refusal

@@ -79,7 +79,8 @@ fn hand_to_coordinator(
 // The message that waits first is handed to the site that it names, with that site's record and
 // the memory from the start of its part on.
 fn hand_to_site(settings: Settings, progress: Progress, site_memory: &[Word]) -> Progress
-    requires { SitesFit settings site_memory.now × HandByCallAsks false (progress_outcome progress) }
+    requires { SitesFit settings site_memory.now
+        × HandByCallAsks false (progress_outcome progress) }
     ensures { (coordinator_memory : List ℕ) → CallStepSays settings
         site_memory.now coordinator_memory coordinator_memory (progress_outcome progress)
         (progress_outcome result) }

@@ -33,8 +33,9 @@ abbrev pub observe_takes : Settings → SiteRecord → Arrival → List ℕ → 
 observe_takes settings numbers arrival memory =
     is_taken arrival (observe_refusal settings numbers arrival memory)
 
--- What an arrival comes to, as the table of refusals tells it: its refusal or none, the site's record
--- then, and the messages that go out, of which there are `count`; an absent one is all zeros.
+-- What an arrival comes to, as the table of refusals tells it: its refusal or none, the site's
+-- record then, and the messages that go out, of which there are `count`; an absent one is all
+-- zeros.
 pub record Observation : Type 0 where
   pub refusal : ℕ
   pub site : SiteRecord
@@ -97,8 +98,8 @@ pub record ObserveSays
 
 -- ---- A message at a site
 
--- What a message comes to, as the table of refusals tells it: its refusal or none, the site's record
--- then, and the reply, if `count` is 1.
+-- What a message comes to, as the table of refusals tells it: its refusal or none, the site's
+-- record then, and the reply, if `count` is 1.
 pub record SiteReply : Type 0 where
   pub refusal : ℕ
   pub site : SiteRecord

@@ -1,5 +1,5 @@
-// Starting sites, all of them or one. Refused as document 01's table "Refused" names, a start leaves
-// the memory as it was.
+// Starting sites, all of them or one. Refused as document 01's table "Refused" names, a start
+// leaves the memory as it was.
 
 #![tactic(auto)]
 

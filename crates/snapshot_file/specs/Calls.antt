@@ -34,7 +34,8 @@ save_answer (Err refusal) = record { refusal = number_of refusal; length = 0 }
 
 -- "Write the whole bench to a file": where it is refused nothing changes and the length is 0;
 -- "longer bytes are fine, the rest untouched".
-pub record SaveSays (settings : Settings) (held : Held) (before after : List ℕ) (answer : SaveAnswer)
+pub record SaveSays (settings : Settings) (held : Held) (before after : List ℕ)
+    (answer : SaveAnswer)
     : Type 0 where
   pub refusal : answer.refusal ≡ save_refusal settings held (length before)
   pub saved_length : answer.length

@@ -42,7 +42,7 @@ pub struct Change {
 }
 
 // The record of one site. Internal: the batch call looks at a site that
-// `site_refusals::address_refusal` (5, 6) has let pass, in a network whose settings passed 1 to 3,
+// `site_refusals::test_address` (5, 6) has let pass, in a network whose settings passed 1 to 3,
 // so that there is such a record.
 pub fn record_of(sites: Sites, which: usize) -> SiteRecord
     requires { which < most_sites }

@@ -1,5 +1,5 @@
--- What a test or a sum over the records of all sites says of the sites that records and memory hold,
--- whatever the memory.
+-- What a test or a sum over the records of all sites says of the sites that records and memory
+-- hold, whatever the memory.
 --
 --   records_within    numbers of all records add up within so many times their limit
 --   same_is           each site has a threshold

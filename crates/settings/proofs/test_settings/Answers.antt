@@ -16,7 +16,8 @@ abbrev answer : Else-not-all_within → ℕ
 answer c = settings_refusal c.args.settings
 
 abbrev past_ranges : (c : Else-not-all_within) → Still (answer c)
-past_ranges c = pass _ _ _ (begin _) refl (ap not (told c.all_within.ensures c.if-not-all_within.false))
+past_ranges c = pass _ _ _ (begin _) refl
+    (ap not (told c.all_within.ensures c.if-not-all_within.false))
 
 abbrev past_phi : (c : Else-settings) → Still (answer c.before.before)
 past_phi c = pass _ _ _ (past_ranges c.before.before) refl (le-ltb _ _ c.if-settings.false)

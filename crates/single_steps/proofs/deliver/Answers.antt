@@ -11,13 +11,15 @@ loop-settings-init c = going_start c.requires.few c.requires.not_refused
 pub overflow_sub-progress : goal.overflow_sub-progress
 overflow_sub-progress c =
     let due =
-    due_facts (progress_outcome c.loop-settings.progress) (sym c.call_due.ensures ∙ c.loop-settings-test.true) in
+    due_facts (progress_outcome c.loop-settings.progress)
+    (sym c.call_due.ensures ∙ c.loop-settings-test.true) in
     positive c.loop-settings.progress.left due.some_left
 
 pub take_step-progress-requires : goal.take_step-progress-requires
 take_step-progress-requires c =
     let due =
-    due_facts (progress_outcome c.loop-settings.progress) (sym c.call_due.ensures ∙ c.loop-settings-test.true) in (
+    due_facts (progress_outcome c.loop-settings.progress)
+    (sym c.call_due.ensures ∙ c.loop-settings-test.true) in (
       c.requires.fits,
       record {
         not_refused = due.not_refused;
@@ -36,7 +38,8 @@ take_step-progress-requires c =
 pub loop-settings-smaller : goal.loop-settings-smaller
 loop-settings-smaller c =
     let due =
-    due_facts (progress_outcome c.loop-settings.progress) (sym c.call_due.ensures ∙ c.loop-settings-test.true) in
+    due_facts (progress_outcome c.loop-settings.progress)
+    (sym c.call_due.ensures ∙ c.loop-settings-test.true) in
     omega (
       arith,
       positive c.loop-settings.progress.left due.some_left,
@@ -46,7 +49,8 @@ loop-settings-smaller c =
 pub loop-settings-preserved : goal.loop-settings-preserved
 loop-settings-preserved c =
     let due =
-    due_facts (progress_outcome c.loop-settings.progress) (sym c.call_due.ensures ∙ c.loop-settings-test.true) in
+    due_facts (progress_outcome c.loop-settings.progress)
+    (sym c.call_due.ensures ∙ c.loop-settings-test.true) in
     going_on due c.loop-settings.invariant c.take_step-progress.auto.coordinator_memory
     c.take_step-progress.ensures
 

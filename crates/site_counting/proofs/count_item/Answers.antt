@@ -100,4 +100,5 @@ returns c =
     old.ensures c.if-found-used.false
     c.if-used-capacity.false
     refl refl refl
-    (ap (λ (gone : ℕ). Some (left_with old.result.item gone)) c.unreported_of-gone.ensures) put.ensures
+    (ap (λ (gone : ℕ). Some (left_with old.result.item gone)) c.unreported_of-gone.ensures)
+        put.ensures

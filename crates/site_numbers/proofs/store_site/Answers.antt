@@ -17,5 +17,6 @@ returns c =
     let all : length row ≡ 192 = search rules in
     let width : at + 5 - at ≡ 5 = omega arith in
     let copied = c.copy_from_slice.ensures.after ∙ c.site_row.ensures in
-    part_stored at (at + 5 - at) _ row (omega (arith, ap length copied, width)) (omega (arith, all, width))
+    part_stored at (at + 5 - at) _ row (omega (arith, ap length copied, width))
+        (omega (arith, all, width))
     ∙ ap (λ (l : List ℕ). sets row at l) copied

@@ -67,7 +67,8 @@ settings_are c =
     let found = c.settings_in-settings.ensures in
     found
     ∙ settings_same (settings_in a.file.now)
-    (ap settings_refusal (sym found) ∙ accepted_by c.test_settings.ensures c.in_ok-test_settings.was)
+    (ap settings_refusal (sym found) ∙ accepted_by c.test_settings.ensures
+        c.in_ok-test_settings.was)
 
 -- ---- 15 again
 layout_told : (c : After-layout_wrong)
@@ -79,7 +80,8 @@ layout_told c =
     let found = c.settings_in-settings.ensures in
     found
     ∙ settings_same (settings_in a.file.now)
-    (ap settings_refusal (sym found) ∙ accepted_by c.test_settings.ensures c.in_ok-test_settings.was))))
+    (ap settings_refusal (sym found) ∙ accepted_by c.test_settings.ensures
+        c.in_ok-test_settings.was))))
     ∙ sym c.layout_wrong.ensures
 
 abbrev past_layout : (c : Else-layout_wrong)
@@ -98,7 +100,8 @@ past_layout c =
     let found = c.settings_in-settings.ensures in
     found
     ∙ settings_same (settings_in a.file.now)
-    (ap settings_refusal (sym found) ∙ accepted_by c.test_settings.ensures c.in_ok-test_settings.was))))
+    (ap settings_refusal (sym found) ∙ accepted_by c.test_settings.ensures
+        c.in_ok-test_settings.was))))
     ∙ sym c.layout_wrong.ensures) ∙ c.if-layout_wrong.false)
 
 -- ---- 4
@@ -118,7 +121,8 @@ short_told c =
     let found = c.settings_in-settings.ensures in
     found
     ∙ settings_same (settings_in a.file.now)
-    (ap settings_refusal (sym found) ∙ accepted_by c.test_settings.ensures c.in_ok-test_settings.was)) in
+    (ap settings_refusal (sym found) ∙ accepted_by c.test_settings.ensures
+        c.in_ok-test_settings.was)) in
     sym (c.memory_short.ensures.too_short sites coordinator long long-2
     ∙ (λ i. ltb (long i) (sites_words (are i)) || ltb (long-2 i) (coordinator_words (are i))))
 
@@ -138,7 +142,8 @@ past_short c =
     let found = c.settings_in-settings.ensures in
     found
     ∙ settings_same (settings_in a.file.now)
-    (ap settings_refusal (sym found) ∙ accepted_by c.test_settings.ensures c.in_ok-test_settings.was))))
+    (ap settings_refusal (sym found) ∙ accepted_by c.test_settings.ensures
+        c.in_ok-test_settings.was))))
     ∙ sym c.layout_wrong.ensures) ∙ c.if-layout_wrong.false))) refl ((let a = c.args in
     let zero : ℕ = 0 in
     let sites = replicate a.site_count zero in
@@ -149,7 +154,8 @@ past_short c =
     let found = c.settings_in-settings.ensures in
     found
     ∙ settings_same (settings_in a.file.now)
-    (ap settings_refusal (sym found) ∙ accepted_by c.test_settings.ensures c.in_ok-test_settings.was)) in
+    (ap settings_refusal (sym found) ∙ accepted_by c.test_settings.ensures
+        c.in_ok-test_settings.was)) in
     sym (c.memory_short.ensures.too_short sites coordinator long long-2
     ∙ (λ i. ltb (long i) (sites_words (are i)) || ltb (long-2 i) (coordinator_words (are i))))) ∙
     c.if-memory_short.false)
@@ -166,7 +172,8 @@ bench_told c =
     let found = c.settings_in-settings.ensures in
     found
     ∙ settings_same (settings_in a.file.now)
-    (ap settings_refusal (sym found) ∙ accepted_by c.test_settings.ensures c.in_ok-test_settings.was))))
+    (ap settings_refusal (sym found) ∙ accepted_by c.test_settings.ensures
+        c.in_ok-test_settings.was))))
     ∙ sym c.bench_consistent.ensures
 
 pub returns-then-shape_wrong : goal.returns-then-shape_wrong

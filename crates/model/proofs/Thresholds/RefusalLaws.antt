@@ -92,8 +92,8 @@ told is Known-is = sym is ∙ Known-is
 zero≢suc : {n : ℕ} → zero ≡ suc n → ⊥
 zero≢suc impossible = omega arith
 
-module _ {A : Type 0} {answer : Result A Refusal} {known : ℕ} (is : refusal_told answer ≡ known)
-    where
+module _ {A : Type 0} {answer : Result A Refusal} {known : ℕ}
+    (is : refusal_told answer ≡ known) where
   pub accepted_by : {value : A} → answer ≡ Ok value → known ≡ no_refusal
   accepted_by was = sym is ∙ ap refusal_told was
 

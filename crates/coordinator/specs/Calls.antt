@@ -1,6 +1,6 @@
 -- What the calls on the coordinator promise: the refusal, and what is handed back and written where
 -- they accept and where they refuse. A refused call leaves record and memory as they were, hands
--- back no message, and 0 for their number; a refused start answers a fresh record all the same.
+-- back no message, and 0 for their number; what a refused start comes to has a fresh record.
 --
 --   start_refusal, receive_refusal, announce_refusal  the chains of tests
 --   CoordinatorStart, coordinator_start               what a start comes to, from its answer

@@ -79,8 +79,9 @@ pub record WriteAllGives (old new : Option (List ℕ)) (bytes : List ℕ) (taken
   pub front : Appends old new (take count bytes)
   pub whole : taken ≡ true → Appends old new bytes
 
--- The first bytes of each piece follow what the writer held, piece after piece: what failed, a
--- colon and a space, some words and a line feed.
+-- What the writer held stays, and the first bytes of each piece follow it, piece after piece: what
+-- failed, a colon and a space, some words and a line feed. A write may stop anywhere, and the words
+-- are the system's: so how much of the line follows is left open, and the tests look at it.
 pub record FailGives (old new : Option (List ℕ)) (what : List ℕ) : Type 0 where
   pub words : List ℕ
   pub named : ℕ

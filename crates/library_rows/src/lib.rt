@@ -1,6 +1,6 @@
 // The messages that a call of the library hands out, as rows of numbers: where it accepts, and a
-// refused call never gets here. Both functions serve the crates `library_deck`, `library_decks` and
-// `library_desk`.
+// refused call never gets here. The functions serve the crates `library_deck` and `library_decks`,
+// and `hand_message` serves `library_desk` too.
 
 #![tactic(auto)]
 

@@ -3,7 +3,7 @@
 --
 --   save_answer, load_answer                what the calls come to, as numbers and records
 --   SaveSays                                the call that saves
---   zero_settings, fresh_record, refused_by  what a refused reading answers
+--   zero_settings, fresh_record, refused_by  what a refused reading comes to
 --   bench_in file                           the bench that a file holds
 --   LoadSays                                the call that reads
 use Rattle.std.specs.Prelude.{◌≡◌, List, ℕ, length, if◌then◌else◌, Result, Ok, Err}

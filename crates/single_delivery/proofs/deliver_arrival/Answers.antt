@@ -92,7 +92,7 @@ begin-requires c =
 pub returns-in_err-begun : goal.returns-in_err-begun
 returns-in_err-begun c =
     let p = err_from_is_err_and c.from_residual-in_err-begun.result
-        c.from_residual-in_err-begun.ensures.1 in
+    c.from_residual-in_err-begun.ensures.1 in
     let start = (goal.at.returns-in_err-begun c).Start in
     rw (p.1, p.2)
     (left_says (given start) _ _

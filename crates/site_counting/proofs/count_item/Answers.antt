@@ -101,4 +101,4 @@ returns c =
     c.if-used-capacity.false
     refl refl refl
     (ap (λ (gone : ℕ). Some (left_with old.result.item gone)) c.unreported_of-gone.ensures)
-        put.ensures
+    put.ensures

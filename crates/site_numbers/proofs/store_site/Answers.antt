@@ -18,5 +18,5 @@ returns c =
     let width : at + 5 - at ≡ 5 = omega arith in
     let copied = c.copy_from_slice.ensures.after ∙ c.site_row.ensures in
     part_stored at (at + 5 - at) _ row (omega (arith, ap length copied, width))
-        (omega (arith, all, width))
+    (omega (arith, all, width))
     ∙ ap (λ (l : List ℕ). sets row at l) copied

@@ -68,7 +68,7 @@ settings_are c =
     found
     ∙ settings_same (settings_in a.file.now)
     (ap settings_refusal (sym found) ∙ accepted_by c.test_settings.ensures
-        c.in_ok-test_settings.was)
+    c.in_ok-test_settings.was)
 
 -- ---- 15 again
 layout_told : (c : After-layout_wrong)
@@ -81,7 +81,7 @@ layout_told c =
     found
     ∙ settings_same (settings_in a.file.now)
     (ap settings_refusal (sym found) ∙ accepted_by c.test_settings.ensures
-        c.in_ok-test_settings.was))))
+    c.in_ok-test_settings.was))))
     ∙ sym c.layout_wrong.ensures
 
 abbrev past_layout : (c : Else-layout_wrong)
@@ -101,7 +101,7 @@ past_layout c =
     found
     ∙ settings_same (settings_in a.file.now)
     (ap settings_refusal (sym found) ∙ accepted_by c.test_settings.ensures
-        c.in_ok-test_settings.was))))
+    c.in_ok-test_settings.was))))
     ∙ sym c.layout_wrong.ensures) ∙ c.if-layout_wrong.false)
 
 -- ---- 4
@@ -122,7 +122,7 @@ short_told c =
     found
     ∙ settings_same (settings_in a.file.now)
     (ap settings_refusal (sym found) ∙ accepted_by c.test_settings.ensures
-        c.in_ok-test_settings.was)) in
+    c.in_ok-test_settings.was)) in
     sym (c.memory_short.ensures.too_short sites coordinator long long-2
     ∙ (λ i. ltb (long i) (sites_words (are i)) || ltb (long-2 i) (coordinator_words (are i))))
 
@@ -143,7 +143,7 @@ past_short c =
     found
     ∙ settings_same (settings_in a.file.now)
     (ap settings_refusal (sym found) ∙ accepted_by c.test_settings.ensures
-        c.in_ok-test_settings.was))))
+    c.in_ok-test_settings.was))))
     ∙ sym c.layout_wrong.ensures) ∙ c.if-layout_wrong.false))) refl ((let a = c.args in
     let zero : ℕ = 0 in
     let sites = replicate a.site_count zero in
@@ -155,7 +155,7 @@ past_short c =
     found
     ∙ settings_same (settings_in a.file.now)
     (ap settings_refusal (sym found) ∙ accepted_by c.test_settings.ensures
-        c.in_ok-test_settings.was)) in
+    c.in_ok-test_settings.was)) in
     sym (c.memory_short.ensures.too_short sites coordinator long long-2
     ∙ (λ i. ltb (long i) (sites_words (are i)) || ltb (long-2 i) (coordinator_words (are i))))) ∙
     c.if-memory_short.false)
@@ -173,7 +173,7 @@ bench_told c =
     found
     ∙ settings_same (settings_in a.file.now)
     (ap settings_refusal (sym found) ∙ accepted_by c.test_settings.ensures
-        c.in_ok-test_settings.was))))
+    c.in_ok-test_settings.was))))
     ∙ sym c.bench_consistent.ensures
 
 pub returns-then-shape_wrong : goal.returns-then-shape_wrong

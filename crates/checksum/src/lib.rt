@@ -41,14 +41,16 @@ fn sum_block(bytes: &[u8], first: usize, rounds: usize) -> Part
 {
     let mut lower: u64 = 0;
     let mut upper: u64 = 0;
+    let mut taken: usize = 0;
     for round in 0..rounds {
         let word = read_fixed::<WORD_BYTES>(bytes, first + WORD_BYTES * round);
         lower = lower + lower_bytes(word);
         upper = upper + upper_bytes(word);
+        taken += 1;
     }
     Part {
         sum: lane_sum(lower) + lane_sum(upper),
-        turns: rounds,
+        turns: taken,
     }
 }
 
@@ -77,15 +79,13 @@ fn sum_rest(bytes: &[u8], first: usize) -> Part
     requires { RestAsks bytes.now first }
     ensures { RestSays bytes.now first result }
 {
-    let rest = &bytes[first..];
     let mut sum: u64 = 0;
-    for byte in rest {
+    let mut turns: usize = 0;
+    for byte in &bytes[first..] {
         sum = sum + u64::from(*byte);
+        turns += 1;
     }
-    Part {
-        sum,
-        turns: rest.len(),
-    }
+    Part { sum, turns }
 }
 
 // The sum of all bytes: length / 8 rounds, and at most seven bytes singly.

@@ -1,5 +1,6 @@
--- The lanes so far have the sum of the bytes passed, 255 at most in each for each word.
-use mathlib.Core.Path.{◌≡◌, refl}
+-- The lanes so far have the sum of the bytes passed, 255 at most in each for each word; each
+-- round is counted.
+use mathlib.Core.Path.{◌≡◌, refl, ◌∙◌}
 use Prim.Native.Nat.{◌+◌, ◌*◌, ◌/◌, ◌<◌}
 use native.Mathlib.Omega.{arith}
 use lib.ListN.{take, drop}
@@ -35,12 +36,12 @@ lanes_after c =
     let now = c.loop-round in
     let bytes = c.args.bytes.now in
     let place = start.first + word_bytes * now.round in
-    one_word_more bytes start.first now.round (room c) now.invariant
+    one_word_more bytes start.first now.round (room c) now.invariant.0
     (rw (c.lower_bytes-lower.ensures, c.read_fixed-word.ensures.0)
     (lanes_at bytes place (omega (arith, asked.inside)) (λ i inside. omega (arith, lent i))))
 
 pub loop-round-init : goal.loop-round-init
-loop-round-init c = no_lanes 4
+loop-round-init c = (no_lanes 4, refl)
 
 pub overflow_add-lower : goal.overflow_add-lower
 overflow_add-lower c = record { fits = fields_fit _ _ (room c) (lanes_after c).lower_within }
@@ -55,9 +56,11 @@ overflow_add-upper c =
     }
 
 pub loop-round-preserved : goal.loop-round-preserved
-loop-round-preserved c =
-    rw c.upper_bytes-upper.ensures
-    (lanes_after (goal.at.loop-round-preserved c).After-lower_bytes-lower)
+loop-round-preserved c = (
+  rw c.upper_bytes-upper.ensures
+      (lanes_after (goal.at.loop-round-preserved c).After-lower_bytes-lower),
+  omega (arith, c.loop-round.invariant.1),
+)
 
 -- Each of eight lanes is below 65,536.
 pub overflow_add-result : goal.overflow_add-result
@@ -71,6 +74,6 @@ returns c =
     record {
       sum =
           rw (c.lane_sum.ensures, c.lane_sum-2.ensures, ← all)
-          now.invariant.total_is;
-      turns = refl;
+          now.invariant.0.total_is;
+      turns = now.invariant.1 ∙ all;
     }

@@ -1,4 +1,6 @@
--- The lanes so far have the sum of the bytes passed, 255 at most in each for each word.
+-- The lanes so far have the sum of the bytes passed, 255 at most in each for each word; each
+-- round is counted.
+use mathlib.Core.Path.{◌≡◌}
 use Prim.Native.Nat.{◌*◌}
 use lib.ListN.{take, drop}
 use Rattle.checksum.specs.Sums.{sum_of}
@@ -10,3 +12,4 @@ abbrev pub invariant-loop-round : goal.invariant-loop-round
 invariant-loop-round l =
     Lanes 4 l.lower l.upper (most_added * l.round)
     (sum_of (take (word_bytes * l.round) (drop l.first l.bytes)))
+    × (l.taken ≡ l.round)

@@ -6,6 +6,7 @@
 --   number_step        the same at a turn of the reading loop
 --   room_for_byte      a number of fewer than eight bytes has room for one more
 --   number_four, number_eight     the number by its bytes, and by its halves
+--   eight_halves       the bytes of eight by those of its halves
 --   take_little_endian, std_bytes, part_written     a number of a fixed width, as std writes it
 --   held_number                                     the same as std reads it
 use Rattle.std.specs.Int.{w64, to_le_bytes, from_le_bytes}
@@ -83,7 +84,7 @@ module _ (place width i n byte : ℕ) (bytes : List ℕ)
   number_step_below below = rw (more_is, pow-suc) (omega arith)
 
 -- Byte by byte, and by halves.
-number_four : (place : ℕ) (bytes : List ℕ)
+pub number_four : (place : ℕ) (bytes : List ℕ)
     → place + 4 ≤ length bytes
     → number_at 4 place bytes
     ≡ get_or bytes place 0 + get_or bytes (place + 1) 0 * 256 + get_or bytes (place + 2) 0 * 65536
@@ -101,7 +102,7 @@ number_four place bytes fits =
     )
     (omega arith)
 
-number_eight : (place : ℕ) (bytes : List ℕ)
+pub number_eight : (place : ℕ) (bytes : List ℕ)
     → place + 8 ≤ length bytes
     → number_at 8 place bytes
     ≡ number_at 4 place bytes + number_at 4 (place + 4) bytes * 4294967296
@@ -124,6 +125,12 @@ number_eight place bytes fits =
 -- ---- Numbers of a fixed width, by std's eight bytes
 
 -- The lowest bytes of a number are the first of all its bytes.
+pub eight_halves : (n : ℕ)
+    → little_endian 4 n ++ little_endian 4 (n / 4294967296) ≡ little_endian 8 n
+eight_halves n =
+    let high : n / 4294967296 ≡ n / 256 / 256 / 256 / 256 = omega arith in
+    ap (λ (h : ℕ). little_endian 4 n ++ little_endian 4 h) high
+
 pub take_little_endian : (width all n : ℕ)
     → width ≤ all
     → take width (little_endian all n) ≡ little_endian width n

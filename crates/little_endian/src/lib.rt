@@ -38,7 +38,9 @@ pub fn read_fixed<const WIDTH: usize>(bytes: &[u8], place: usize) -> u64
     ensures { (result ≡ number_at WIDTH place bytes.now) × (result < byte_range ^ WIDTH) }
 {
     let mut held = [0u8; 8];
-    held[..WIDTH].copy_from_slice(&bytes[place..place + WIDTH]);
+    for i in 0..WIDTH {
+        held[i] = bytes[place + i];
+    }
     u64::from_le_bytes(held)
 }
 

@@ -24,7 +24,7 @@ use Rattle.worklist.specs.Reading.{Reading}
 
 -- ---- Bytes from a place on
 
-drop_at : (bytes : List ℕ) (next : ℕ)
+pub drop_at : (bytes : List ℕ) (next : ℕ)
     → next < length bytes
     → drop next bytes ≡ get_or bytes next 0 ∷ drop (next + 1) bytes
 drop_at bytes next inside = rw (add-one next) (drop-cons bytes next 0 inside)
@@ -33,7 +33,7 @@ drop_at bytes next inside = rw (add-one next) (drop-cons bytes next 0 inside)
 
 module _ {bytes : List ℕ} {begun : Number} {next value : ℕ} where
   -- value < 10 ^ (7 - more) ≤ 10 ^ 7, and less while a digit may come
-  reading_small : (more : ℕ) → Reading bytes begun next value more → value < number_limit
+  pub reading_small : (more : ℕ) → Reading bytes begun next value more → value < number_limit
   reading_small more reading =
       omega (arith, pow-le-pow_right {n = 10} (omega arith) {i = 7 - more} {j = 7} (omega arith))
 

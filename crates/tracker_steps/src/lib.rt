@@ -127,6 +127,7 @@ fn touch_turn(taken: u64, own: SiteRecord) -> Turn
 // `own` is that record, `written` the messages written so far, and `numbers` the log's length.
 // Internal: `tracker_arrivals::take_arrival` and `tracker::run_batch` alone call it, after
 // `open_batch` has accepted.
+#[tactic(auto, using(crate::proofs::TurnLaws::turn_touched))]
 pub fn take_turn(
     settings: Settings,
     own: SiteRecord,

@@ -1,10 +1,9 @@
 -- `tracker_steps::take_turn` meets its contract: the arrival is refused, or its site takes it, or
 -- it is a touch.
-use mathlib.Core.Path.{refl, sym, ap}
+use mathlib.Core.Path.{refl, sym}
 use Rattle.std.proofs.lemmas.Result.{err_from_is_err_and}
 use Rattle.model.proofs.Thresholds.RefusalLaws.{told, accepted_by, refused_by, some_number}
-use Rattle.tracker_steps.specs.Turns.{taken_outcome}
-use Rattle.tracker_steps.proofs.TurnLaws.{turn_refused, turn_observes, turn_touched, turn_taken}
+use Rattle.tracker_steps.proofs.TurnLaws.{turn_refused, turn_observes, turn_taken}
 use Rattle.tracker_steps.proofs.take_turn.Goals as goal
 
 pub returns-in_err-test_one : goal.returns-in_err-test_one
@@ -13,13 +12,6 @@ returns-in_err-test_one c =
     rw (p.1, p.2)
     (turn_refused c.args.arrival _ (sym (refused_by c.test_one.ensures c.in_err-test_one.was))
     (some_number _) _ refl)
-
-pub returns-then-not-is_draw : goal.returns-then-not-is_draw
-returns-then-not-is_draw c =
-    turn_touched c.args.arrival _ refl
-    (accepted_by c.test_one.ensures c.in_ok-test_one.was)
-    (told c.is_draw.ensures c.if-not-is_draw.true)
-    _ (ap taken_outcome c.touch_turn.ensures)
 
 pub observe-observed-requires : goal.observe-observed-requires
 observe-observed-requires c =

@@ -10,8 +10,6 @@
 
 ghost use Rattle.std.specs.Prelude.{◌≡◌};
 ghost use Rattle.model.specs.Held.{held_by};
-ghost use Rattle.model.specs.NetworkMemory.{network_refusal};
-ghost use Rattle.model.specs.Refusals.{refusal_told};
 ghost use Rattle.single_outcome.specs.Delivery.{delivery_outcome, DeliverySays};
 
 use model::{Arrival, CoordinatorRecord, Refusal, Settings, Sites, Word};
@@ -19,27 +17,6 @@ use single_begin::begin;
 use single_outcome::DeliveryAnswer;
 use single_steps::deliver;
 use tracker_memory::test_network;
-
-// What is tested before anything changes: 1, 2, 3; then 4 and 11 of the whole network.
-fn test_start(
-    settings: Settings,
-    sites: Sites,
-    coordinator: CoordinatorRecord,
-    site_memory: &[Word],
-    coordinator_memory: &[u64],
-) -> Result<(), Refusal>
-    ensures { refusal_told result
-        ≡ network_refusal settings sites coordinator
-        site_memory.now coordinator_memory.now }
-{
-    test_network(
-        settings,
-        sites,
-        coordinator,
-        site_memory,
-        coordinator_memory,
-    )
-}
 
 // One arrival with full delivery. Refused, it changes nothing: 1, 2, 3; then 4 and 11 of the whole
 // network, coordinator and all; then 5, 6, 7, 8. Nor does a touch, which is not tested for 8.
@@ -60,7 +37,7 @@ pub fn deliver_arrival(
         coordinator_memory.new) outcome }
 {
     // 1, 2, 3; then 4 and 11: what is short or inconsistent is met before anything changes.
-    test_start(
+    test_network(
         settings,
         sites,
         coordinator,
@@ -74,7 +51,8 @@ pub fn deliver_arrival(
     let begun = begin(settings, sites, coordinator, arrival, site_memory)?;
     // A touch: its site has left all as it was.
     if !site_refusals::is_draw(arrival) {
-        return leave(sites, coordinator);
+        let left = leave(sites, coordinator);
+        return Ok(left);
     }
     // Every message handed over, answers included, and kind 7 asked for until all is at rest.
     let ended = deliver(settings, begun, site_memory, coordinator_memory);
@@ -87,15 +65,14 @@ pub fn deliver_arrival(
 }
 
 // A touch: nothing went out, and the records are as they were.
-fn leave(sites: Sites, coordinator: CoordinatorRecord) -> Result<DeliveryAnswer, Refusal>
+fn leave(sites: Sites, coordinator: CoordinatorRecord) -> DeliveryAnswer
     ensures { result
-        ≡ Ok (record { carried = 0; stopped = None; sites = sites; coordinator = coordinator }) }
+        ≡ record { carried = 0; stopped = None; sites = sites; coordinator = coordinator } }
 {
-    let left = DeliveryAnswer {
+    DeliveryAnswer {
         carried: 0,
         stopped: None,
         sites,
         coordinator,
-    };
-    Ok(left)
+    }
 }

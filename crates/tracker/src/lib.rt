@@ -105,7 +105,7 @@ pub fn run_batch(
             }
         };
         answer.sites.records[which] = turn.site;
-        answer.accepted += 1;
+        answer.accepted += turn.taken;
         if turn.out.count != 0 {
             let after = deliver_turn(
                 settings,

@@ -24,7 +24,7 @@ fn count_turn(answer: BatchAnswer, which: usize, turn: Turn) -> BatchAnswer
 {
     BatchAnswer {
         refusal: None,
-        accepted: answer.accepted + 1,
+        accepted: answer.accepted + turn.taken,
         sites: with_record(answer.sites, which, turn.site),
         ..answer
     }

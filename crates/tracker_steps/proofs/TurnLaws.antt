@@ -1,8 +1,9 @@
 -- The turn of an arrival, as the code takes it.
 --
---   turn_refused, turn_observes, turn_taken   the ways that it goes
+--   turn_observes                            what the site's observation asks
+--   turn_refused, turn_touched, turn_taken   the three ways that it goes
 use mathlib.Core.Path.{◌≡◌, refl, sym, ap, ◌∙◌}
-use mathlib.Core.Bool.{true}
+use mathlib.Core.Bool.{true, false}
 use mathlib.Core.List.{List}
 use Prim.Native.Nat.{ℕ}
 use lib.ListN.{length}
@@ -18,7 +19,7 @@ use Rattle.tracker_delivery.specs.Holding.{underway_in}
 use Rattle.tracker_delivery.specs.Arriving.{ArrivalAsks, SiteAsks, SiteSays, out_of}
 use Rattle.tracker_delivery.proofs.SiteLaws.{site_few}
 use Rattle.tracker_steps.specs.Steps.{BatchHeld, places_refusal, one_refusal, resting_in, OneAsks}
-use Rattle.tracker_steps.specs.Turns.{TurnOutcome, place_of, own_of, left_turn, with_site_memory, TurnAsks, refused, taken, TurnSays}
+use Rattle.tracker_steps.specs.Turns.{TurnOutcome, place_of, own_of, left_turn, with_site_memory, TurnAsks, refused, touched, taken, TurnSays}
 use Rattle.tracker_steps.proofs.RefusalLaws.{place_known}
 use Rattle.tracker_steps.proofs.BatchLaws.{refusal_is, one_asks}
 
@@ -73,6 +74,20 @@ module _ {settings : Settings} {own : SiteRecord} {written : ℕ} (arrival : Arr
           → one_refusal settings (log_room u.given.log) u.batch arrival ≡ no_refusal
       none_due now own_is written_is numbers_are u =
           sym (found_is now own_is written_is numbers_are u) ∙ none
+
+      pub turn_touched : is_draw arrival ≡ false
+          → (turn : TurnOutcome)
+          → turn ≡ left_turn no_refusal 1 own
+          → TurnSays settings own written arrival numbers memory turn memory
+      turn_touched no_draw turn turn_is = record {
+        told = λ now own_is written_is numbers_are u.
+            touched (record {
+              no_draw = no_draw;
+              none_due = none_due now own_is written_is numbers_are u;
+              turn_is = turn_is ∙ ap (left_turn no_refusal 1) own_is;
+              memory_kept = refl;
+            });
+      }
 
     module _ (none : refusal ≡ no_refusal) (is_draw_lem : is_draw arrival ≡ true) where
       module _ (now : BatchHeld) (own_is : own ≡ own_of now.held.sites arrival)

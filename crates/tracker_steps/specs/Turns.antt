@@ -49,7 +49,7 @@ pub record TurnOutcome : Type 0 where
 abbrev pub taken_outcome : Turn → TurnOutcome
 taken_outcome turn = record {
   refusal = no_refusal;
-  taken = 1;
+  taken = turn.taken;
   site = turn.site;
   out = turn.out;
 }

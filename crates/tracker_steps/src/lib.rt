@@ -30,10 +30,11 @@ pub struct BatchAnswer {
     pub coordinator: CoordinatorRecord,
 }
 
-// The turn of an arrival that is accepted: the record of the site that took it, and the messages
-// that are to go out. A touch has the record as it was, and no messages.
+// The turn of an arrival that is accepted: `taken` is 1, which counts it; the record of the site that
+// took it, and the messages that are to go out. A touch has the record as it was, and no messages.
 #[derive(Clone, Copy)]
 pub struct Turn {
+    pub taken: u64,
     pub site: SiteRecord,
     pub out: Queue,
 }
@@ -110,11 +111,12 @@ fn test_one(
     Ok(())
 }
 
-// The turn of a touch, which leaves its site as it was.
-fn touch_turn(own: SiteRecord) -> Turn
-    ensures { result ≡ record { site = own; out = nothing_waits } }
+// The turn of a touch, which leaves its site as it was, and counts for so many.
+fn touch_turn(taken: u64, own: SiteRecord) -> Turn
+    ensures { result ≡ record { taken = taken; site = own; out = nothing_waits } }
 {
     Turn {
+        taken,
         site: own,
         out: tracker_queue::empty_queue(),
     }
@@ -125,6 +127,7 @@ fn touch_turn(own: SiteRecord) -> Turn
 // `own` is that record, `written` the messages written so far, and `numbers` the log's length.
 // Internal: `tracker_arrivals::take_arrival` and `tracker::run_batch` alone call it, after
 // `open_batch` has accepted.
+#[tactic(auto, using(crate::proofs::TurnLaws::turn_touched))]
 pub fn take_turn(
     settings: Settings,
     own: SiteRecord,
@@ -139,7 +142,7 @@ pub fn take_turn(
 {
     test_one(settings, own, arrival, numbers, written)?;
     if !site_refusals::is_draw(arrival) {
-        return Ok(touch_turn(own));
+        return Ok(touch_turn(1, own));
     }
     let observed = tracker_delivery::observe(settings, own, arrival, site_memory);
     let out = Queue {
@@ -148,6 +151,7 @@ pub fn take_turn(
         second: observed.second,
     };
     Ok(Turn {
+        taken: 1,
         site: observed.site,
         out,
     })

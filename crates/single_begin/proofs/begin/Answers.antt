@@ -21,7 +21,7 @@ overflow_mul-start c = omega (arith, (starts c).small)
 
 pub record_of-numbers-requires : goal.record_of-numbers-requires
 record_of-numbers-requires c =
-    site_few c.requires.fits c.args.arrival.site c.requires.known
+    omega (arith, site_few c.requires.fits c.args.arrival.site c.requires.known)
 
 pub offset_bounds-site_memory-start : goal.offset_bounds-site_memory-start
 offset_bounds-site_memory-start c = omega (

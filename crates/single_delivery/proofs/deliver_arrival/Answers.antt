@@ -63,14 +63,14 @@ site_number start none known is =
     ∙ refused_arrival start.args.settings (given start) start.args.arrival none
     (passed_start start none) known
 
-pub returns-in_err-test_start : goal.returns-in_err-test_start
-returns-in_err-test_start c =
+pub returns-in_err-test_network : goal.returns-in_err-test_network
+returns-in_err-test_network c =
     let p = err_from_is_err_and c.from_residual.result c.from_residual.ensures.1 in
-    let start = (goal.at.returns-in_err-test_start c).Start in
+    let start = (goal.at.returns-in_err-test_network c).Start in
     rw (p.1, p.2)
     (left_says (given start) (given start) _
     (refused_start c.args.settings (given start) c.args.arrival _
-    (sym (refused_by c.test_start.ensures c.in_err-test_start.was)) (some_number _))
+    (sym (refused_by c.test_network.ensures c.in_err-test_network.was)) (some_number _))
     (λ none. absurd (some_number _ none)) refl refl refl)
 
 pub returns-then-settings-arrival : goal.returns-then-settings-arrival
@@ -78,12 +78,12 @@ returns-then-settings-arrival c =
     let start = (goal.at.returns-then-settings-arrival c).Start in
     left_says (given start) (given start) _
     (refused_unknown c.args.settings (given start) c.args.arrival
-    (accepted_by c.test_start.ensures c.in_ok-test_start.was) c.if-settings-arrival.true)
+    (accepted_by c.test_network.ensures c.in_ok-test_network.was) c.if-settings-arrival.true)
     (λ accepts. absurd (five accepts)) refl refl refl
 
 pub begin-requires : goal.begin-requires
 begin-requires c =
-    let none = accepted_by c.test_start.ensures c.in_ok-test_start.was in
+    let none = accepted_by c.test_network.ensures c.in_ok-test_network.was in
     record {
       fits = (passed_start (goal.at.begin-requires c).Start none).fits;
       known = omega (arith, c.if-settings-arrival.false);
@@ -96,7 +96,7 @@ returns-in_err-begun c =
     let start = (goal.at.returns-in_err-begun c).Start in
     rw (p.1, p.2)
     (left_says (given start) _ _
-    (site_number start (accepted_by c.test_start.ensures c.in_ok-test_start.was)
+    (site_number start (accepted_by c.test_network.ensures c.in_ok-test_network.was)
     (omega (arith, c.if-settings-arrival.false)) c.in_err-begun.ensures.says.refusal)
     (λ none. absurd (some_number _ none)) refl refl
     (ap (λ (m : List ℕ). held_by start.args.sites start.args.coordinator m
@@ -107,10 +107,10 @@ pub returns-then-not-is_draw : goal.returns-then-not-is_draw
 returns-then-not-is_draw c =
     let start = (goal.at.returns-then-not-is_draw c).Start in
     let no_draw = told c.is_draw.ensures c.if-not-is_draw.true in
-    rw c.leave.ensures
+    rw c.leave-left.ensures
     (left_says (given start) _ _
     (sym c.in_ok-begun.ensures.goes_on
-    ∙ site_number start (accepted_by c.test_start.ensures c.in_ok-test_start.was)
+    ∙ site_number start (accepted_by c.test_network.ensures c.in_ok-test_network.was)
     (omega (arith, c.if-settings-arrival.false)) c.in_ok-begun.ensures.says.refusal)
     (λ _. no_draw) refl refl
     (ap (λ (m : List ℕ). held_by start.args.sites start.args.coordinator m
@@ -120,7 +120,7 @@ returns-then-not-is_draw c =
 pub deliver-ended-requires : goal.deliver-ended-requires
 deliver-ended-requires c =
     let start = (goal.at.deliver-ended-requires c).Start in
-    let ok = passed_start start (accepted_by c.test_start.ensures c.in_ok-test_start.was) in
+    let ok = passed_start start (accepted_by c.test_network.ensures c.in_ok-test_network.was) in
     let says = c.in_ok-begun.ensures.says in
     record {
       fits = fits_kept start _ ok.fits c.begin.auto.site_memory;
@@ -138,7 +138,7 @@ deliver-ended-requires c =
 pub returns : goal.returns
 returns c =
     let start = (goal.at.returns c).Start in
-    let none = accepted_by c.test_start.ensures c.in_ok-test_start.was in
+    let none = accepted_by c.test_network.ensures c.in_ok-test_network.was in
     let goes_on = c.in_ok-begun.ensures.goes_on in
     taken_says
     (passed_start start none)

@@ -9,7 +9,7 @@ use Rattle.tracker_delivery.proofs.StopLaws.{stopped, goes_on}
 use Rattle.tracker_steps.specs.declared.BatchAnswer.{BatchAnswer}
 use Rattle.tracker_steps.specs.Steps.{batch_outcome}
 use Rattle.tracker_arrivals.proofs.ArrivalLaws.{stopped_is}
-use Rattle.tracker.proofs.Turning.{standing_at, going_outcome, standing_open, turn_taken, messages_due, standing_quiet, standing_sent, standing_done, standing_stopped}
+use Rattle.tracker.proofs.Turning.{standing_at, going_outcome, standing_open, turn_taken, accepted_fits, messages_due, standing_quiet, standing_sent, standing_done, standing_stopped}
 use Rattle.tracker.proofs.run_batch.Goals as goal
 use Rattle.tracker.proofs.run_batch.Goals.{then-turn-ne0, else-turn-ne0, else-loop-arrival-test, then-loop-arrival-test+in-Err}
 
@@ -28,6 +28,15 @@ pub take_turn-tried-requires : goal.take_turn-tried-requires
 take_turn-tried-requires c =
     turn_taken c.loop-arrival.invariant.standing (omega arith) c.loop-arrival-test.true
     (ap stop_number c.loop-arrival.invariant.goes_on) c.place_of-which.ensures
+
+pub overflow_add-answer : goal.overflow_add-answer
+overflow_add-answer c =
+    record {
+      fits =
+          accepted_fits c.loop-arrival.invariant.standing (omega arith) c.loop-arrival-test.true
+          (ap stop_number c.loop-arrival.invariant.goes_on) c.place_of-which.ensures
+          c.in-Ok.ensures;
+    }
 
 pub deliver_turn-after-requires : goal.deliver_turn-after-requires
 deliver_turn-after-requires c =

@@ -37,8 +37,10 @@ slice_bounds-receive-start c =
 
 pub record_of-numbers-requires : goal.record_of-numbers-requires
 record_of-numbers-requires c =
-    site_few c.requires.0 c.args.progress.waiting.first.site
-    c.if-settings-message.false
+    omega (
+      arith,
+      site_few c.requires.0 c.args.progress.waiting.first.site c.if-settings-message.false,
+    )
 
 pub returns-in-Err : goal.returns-in-Err
 returns-in-Err c =

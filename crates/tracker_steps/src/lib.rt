@@ -30,8 +30,9 @@ pub struct BatchAnswer {
     pub coordinator: CoordinatorRecord,
 }
 
-// The turn of an arrival that is accepted: `taken` is 1, which counts it; the record of the site that
-// took it, and the messages that are to go out. A touch has the record as it was, and no messages.
+// The turn of an arrival that is accepted: `taken` is 1, by which it counts; the record of the site
+// that took it, and the messages that are to go out. A touch has the record as it was, and no
+// messages.
 #[derive(Clone, Copy)]
 pub struct Turn {
     pub taken: u64,

@@ -5,6 +5,7 @@ use mathlib.Core.List.{List}
 use Prim.Native.Nat.{ℕ, ◌<◌}
 use native.Mathlib.Omega.{arith}
 use lib.ListN.{length}
+use Rattle.std.specs.Prelude.{Ok}
 use Rattle.model.specs.Refusals.{no_refusal, unknown_site}
 use Rattle.model.proofs.Thresholds.SettingsLaws.{settled}
 use Rattle.model.proofs.Thresholds.RefusalLaws.{told, accepted_by, refused_by, some_number}
@@ -13,7 +14,8 @@ use Rattle.std.proofs.lemmas.Result.{err_from_is_err_and}
 use Rattle.site.specs.Calls.{observe_refusal}
 use Rattle.history.specs.State.{held_refusal, Held, held_by, record_in}
 use Rattle.single_begin.specs.Arriving.{rest_from}
-use Rattle.single_outcome.specs.Delivery.{delivery_refusal}
+use Rattle.single_outcome.specs.declared.DeliveryAnswer.{DeliveryAnswer}
+use Rattle.single_outcome.specs.Delivery.{delivery_outcome, delivery_refusal}
 use Rattle.single_outcome.proofs.PassedLaws.{Passed, passed_of, refused_start, refused_unknown, refused_arrival}
 use Rattle.single_outcome.proofs.ArrivalLaws.{left_says, taken_says}
 use Rattle.single_delivery.proofs.deliver_arrival.Goals as goal
@@ -107,15 +109,16 @@ pub returns-then-not-is_draw : goal.returns-then-not-is_draw
 returns-then-not-is_draw c =
     let start = (goal.at.returns-then-not-is_draw c).Start in
     let no_draw = told c.is_draw.ensures c.if-not-is_draw.true in
-    rw c.leave-left.ensures
-    (left_says (given start) _ _
+    let left = c.leave-left.ensures in
+    let kept = c.in_ok-begun.ensures.says.left (λ _. no_draw) in
+    left_says (given start) _ _
     (sym c.in_ok-begun.ensures.goes_on
     ∙ site_number start (accepted_by c.test_network.ensures c.in_ok-test_network.was)
     (omega (arith, c.if-settings-arrival.false)) c.in_ok-begun.ensures.says.refusal)
-    (λ _. no_draw) refl refl
-    (ap (λ (m : List ℕ). held_by start.args.sites start.args.coordinator m
-    start.args.coordinator_memory.now)
-    (c.in_ok-begun.ensures.says.left (λ _. no_draw))))
+    (λ _. no_draw) (ap (λ (a : DeliveryAnswer). a.carried) left)
+    (ap (λ (a : DeliveryAnswer). (delivery_outcome c.args.sites c.args.coordinator (Ok a)).stopped)
+    left)
+    (λ j. held_by (left j).sites (left j).coordinator (kept j) start.args.coordinator_memory.now)
 
 pub deliver-ended-requires : goal.deliver-ended-requires
 deliver-ended-requires c =

@@ -93,7 +93,7 @@ module _ {settings : Settings} (passes : settings_refusal settings ≡ no_refusa
 
   -- ---- The claim
 
-  -- SaveAnswer from fronts of both memories, and read into others.
+  -- Saved from fronts of both memories, and read into others.
   module _ (site_count coordinator_count : ℕ) (bytes written : List ℕ) (saved : SaveAnswer)
       (site_memory coordinator_memory site_after coordinator_after : List ℕ) (loaded : LoadAnswer)
       (save_says : SaveSays settings

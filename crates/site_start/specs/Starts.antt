@@ -1,5 +1,5 @@
 -- What starting sites answers, refused or not, and what it leaves in memory. A refused start leaves
--- the memory as it was, and hands back fresh records all the same.
+-- the memory as it was, and hands out nothing; in its outcome the records are fresh all the same.
 --
 --   StartSitesSays       starting all sites
 --   StartSiteSays        starting one

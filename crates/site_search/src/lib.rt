@@ -14,12 +14,12 @@ use model::Word;
 
 // The lowest place of the item's counter, or the number of counters in use if it has none.
 // Internal: `test_site_memory` decides that the counters in use lie within the memory.
-// As it is: document 01 names the form, "as a loop that yields the found slot by break".
 pub fn find_counter(memory: &[Word], used: usize, item: Word) -> usize
     requires { 4 * used ≤ length memory.now }
     ensures { result ≡ find item (counters_in used memory.now) }
 {
     let mut i = 0;
+    // As it is: document 01 names the form, "as a loop that yields the found slot by break".
     let found = loop {
         if used <= i {
             break used;

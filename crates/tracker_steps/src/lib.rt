@@ -33,6 +33,7 @@ pub struct BatchAnswer {
 // The turn of an arrival that is accepted: `taken` is 1, by which it counts; the record of the site
 // that took it, and the messages that are to go out. A touch has the record as it was, and no
 // messages.
+// As it is: `TouchTurn` and `TakenTurn` hold the count, and two edits of the code plant it wrong.
 #[derive(Clone, Copy)]
 pub struct Turn {
     pub taken: u64,

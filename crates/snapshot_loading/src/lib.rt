@@ -3,10 +3,9 @@
 
 #![tactic(auto)]
 
-ghost use Rattle.std.specs.Prelude.{◌≡◌, length};
+ghost use Rattle.std.specs.Prelude.{◌≡◌};
 ghost use Rattle.model.specs.SiteMemory.{overwrite};
-ghost use Rattle.model.specs.Refusals.{refusal_told};
-ghost use Rattle.snapshot_file.specs.Reading.{held_in, load_refusal};
+ghost use Rattle.snapshot_file.specs.Reading.{held_in};
 ghost use Rattle.snapshot_header.specs.Header.{WholeFile};
 ghost use Rattle.snapshot_file.specs.Calls.{LoadSays, load_answer};
 ghost use Rattle.snapshot_loading.specs.Loading.{StoreAsks, DeskAsks};
@@ -75,14 +74,6 @@ fn store_desk(settings: Settings, file: &[u8], memory: &mut [u64])
     read_numbers(file, DESK_PLACE, &mut memory[..words]);
 }
 
-// Why a file is refused for these memories, told by its bytes alone: 15, 16; 1, 2, 3; 15; 4; 11.
-fn test_load(file: &[u8], site_memory: &[Word], coordinator_memory: &[u64]) -> Result<(), Refusal>
-    ensures { refusal_told result ≡ load_refusal file.now (length site_memory.now)
-        (length coordinator_memory.now) }
-{
-    test_file(file, site_memory.len(), coordinator_memory.len())
-}
-
 // Reads a bench from a file into lent memory, and hands back the file's settings and both records.
 // What lies behind is left as it was. Refused, it changes nothing: 15, 16; 1, 2, 3; 15; 4; 11.
 pub fn load_bench(
@@ -94,7 +85,8 @@ pub fn load_bench(
         site_memory.old coordinator_memory.old
         site_memory.new coordinator_memory.new (load_answer result) }
 {
-    test_load(file, site_memory, coordinator_memory)?;
+    let tested = test_file(file, site_memory.len(), coordinator_memory.len());
+    tested?;
     let settings = settings_in(file);
     store_decks(settings, file, site_memory);
     store_desk(settings, file, coordinator_memory);

@@ -10,14 +10,14 @@ use Rattle.snapshot_file.proofs.ReadLaws.{accepted_of}
 use Rattle.snapshot_header.specs.Header.{WholeFile}
 use Rattle.snapshot_loading.proofs.AnswerLaws.{refused_says, whole_of, sites_enough, coordinator_enough, accepted_says}
 use Rattle.snapshot_loading.proofs.load_bench.Goals as goal
-use Rattle.snapshot_loading.proofs.load_bench.Goals.{After-settings_in-settings, In_ok-test_load}
+use Rattle.snapshot_loading.proofs.load_bench.Goals.{After-settings_in-settings, In_ok-tested}
 
 -- The file is accepted.
-accepts : (c : In_ok-test_load)
+accepts : (c : In_ok-tested)
     → let a = c.args in
     load_refusal a.file.now (length a.site_memory.now) (length a.coordinator_memory.now)
     ≡ no_refusal
-accepts c = accepted_by c.test_load.ensures c.in_ok-test_load.was
+accepts c = search (rules, accepted_by)
 
 whole : (c : After-settings_in-settings)
     → WholeFile c.settings_in-settings.result
@@ -25,17 +25,17 @@ whole : (c : After-settings_in-settings)
 whole c =
     let a = c.args in
     whole_of a.file.now a.site_memory.now a.coordinator_memory.now
-    ((accepted_by c.test_load.ensures c.in_ok-test_load.was))
+    (search (rules, accepted_by))
     c.settings_in-settings.result c.settings_in-settings.ensures
 
-pub returns-in_err-test_load : goal.returns-in_err-test_load
-returns-in_err-test_load c =
+pub returns-in_err-tested : goal.returns-in_err-tested
+returns-in_err-tested c =
     let a = c.args in
-    let refusal = c.in_err-test_load.field-0.0 in
+    let refusal = c.in_err-tested.field-0.0 in
     let is : c.from_residual.result ≡ Err refusal = search rules in
     rw is
     (refused_says a.file.now a.site_memory.now a.coordinator_memory.now (number_of refusal)
-    (sym (refused_by c.test_load.ensures c.in_err-test_load.was)) (some_number refusal))
+    (sym (search (rules, refused_by))) (some_number refusal))
 
 pub settings_in-settings-requires : goal.settings_in-settings-requires
 settings_in-settings-requires c =
@@ -51,7 +51,7 @@ store_decks-requires c =
     record {
       whole = whole (goal.at.store_decks-requires c).After-settings_in-settings;
       memory_long = sites_enough a.file.now a.site_memory.now a.coordinator_memory.now
-          (accepts (goal.at.store_decks-requires c).In_ok-test_load)
+          (accepts (goal.at.store_decks-requires c).In_ok-tested)
           c.settings_in-settings.result c.settings_in-settings.ensures;
     }
 
@@ -62,7 +62,7 @@ store_desk-requires c =
       whole = whole (goal.at.store_desk-requires c).After-settings_in-settings;
       memory_long = coordinator_enough a.file.now a.site_memory.now
           a.coordinator_memory.now (accepts (goal.at.store_desk-requires
-          c).In_ok-test_load) c.settings_in-settings.result
+          c).In_ok-tested) c.settings_in-settings.result
           c.settings_in-settings.ensures;
     }
 
@@ -78,7 +78,7 @@ pub returns : goal.returns
 returns c =
     let a = c.args in
     accepted_says a.file.now a.site_memory.now a.coordinator_memory.now
-    (accepts (goal.at.returns c).In_ok-test_load) c.settings_in-settings.result
+    (accepts (goal.at.returns c).In_ok-tested) c.settings_in-settings.result
     c.settings_in-settings.ensures
     c.store_decks.new.memory c.store_desk.new.memory
     c.desk_row.result c.sites_in.result c.coordinator_from.result

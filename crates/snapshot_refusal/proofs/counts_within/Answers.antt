@@ -54,4 +54,4 @@ pub returns : goal.returns
 returns c =
     let a = c.args in
     counts_end a.settings.sites (held_in a.settings a.file.now).sites.messages
-    c.loop-j.j c.loop-j.invariant c.loop-j-test.false
+    c.loop-j.j c.loop-j.invariant (omega (arith, c.loop-j-test.false))

@@ -122,14 +122,14 @@ number_eight place bytes fits =
     )
     (omega arith)
 
--- ---- Numbers of a fixed width, by std's eight bytes
-
--- The bytes of eight by those of its halves.
+-- The eight bytes of a number are those of its two halves.
 pub eight_halves : (n : ℕ)
     → little_endian 4 n ++ little_endian 4 (n / 4294967296) ≡ little_endian 8 n
 eight_halves n =
     let high : n / 4294967296 ≡ n / 256 / 256 / 256 / 256 = omega arith in
     ap (λ (h : ℕ). little_endian 4 n ++ little_endian 4 h) high
+
+-- ---- Numbers of a fixed width, by std's eight bytes
 
 -- The lowest bytes of a number are the first of all its bytes.
 pub take_little_endian : (width all n : ℕ)

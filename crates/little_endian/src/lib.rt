@@ -33,7 +33,8 @@ pub fn read_number(bytes: &[u8], place: usize, width: usize) -> u64
 }
 
 // The number of a fixed width that stands from a place on: the compiler makes one load of it. Byte
-// by byte, since for `copy_from_slice` it may test at each number whether source and copy overlap.
+// by byte, since for `copy_from_slice` the compiler may test each time whether source and copy
+// overlap.
 pub fn read_fixed<const WIDTH: usize>(bytes: &[u8], place: usize) -> u64
     requires { (place + WIDTH ≤ length bytes.now) × (WIDTH ≤ 8) }
     ensures { (result ≡ number_at WIDTH place bytes.now) × (result < byte_range ^ WIDTH) }

@@ -30,7 +30,8 @@ fn counter_consistent(settings: Settings, site: SiteRecord, memory: &[Word], pla
     ensures { result ≡ counter_passes settings site memory.now place }
 {
     let counter = site_counters::counter_at(memory, place);
-    // As it is: with these two joined to the last by `&&`, the loop takes twice its time.
+    // As it is: with these two joined to the last by `&&`, a branch of the loop lies, in the
+    // library, across 32 bytes, and the loop takes almost twice its time.
     if counter.item >= settings.universe || (counter.count as u64) > site.arrivals {
         return false;
     }
@@ -44,8 +45,8 @@ fn counter_consistent(settings: Settings, site: SiteRecord, memory: &[Word], pla
 }
 
 // Whether every counter in use is consistent. A call at a deck with many slots spends most of its
-// time in this loop, so it is not built into its callers: alone it begins at the same place of a
-// line whatever code stands before it (library/build.sh tells why that counts).
+// time in this loop, so it is not built into its callers: alone it begins, in the library, at a
+// multiple of 64 bytes, and its branches lie where its own text puts them (docs/DECISIONS.md 131).
 #[inline(never)]
 fn counters_consistent(settings: Settings, site: SiteRecord, memory: &[Word], used: usize) -> bool
     requires { 4 * used ≤ length memory.now }
